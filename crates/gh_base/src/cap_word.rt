@@ -1,0 +1,177 @@
+//! The capability word: what one atomic load of a slot shows.
+
+ghost use Rattle.std.specs.Prelude.{◌≡◌, ◌<◌, ◌≤◌, ◌^◌, Some, true, false, bit_and};
+ghost use Rattle.gh_base.specs.CapWord.{numbered_fields, fields_of, empty_fields, state_of, kind_of, master_of, object_of, rights_of, set_at_of};
+
+use crate::ids::{ObjIndex, Rights};
+use crate::kind::Kind;
+
+/// The state of a slot.
+#[derive(Clone, Copy, Debug, PartialEq, Eq)]
+pub enum CapState {
+    Empty,
+    Valid,
+    /// It grants nothing, and still fills its slot.
+    Revoked,
+}
+
+/// A slot's content in 64 bits. The layout is this project's own.
+#[derive(Clone, Copy, Debug, Default, PartialEq, Eq)]
+pub struct CapWord(pub u64);
+
+const VALID: u64 = 1;
+
+const REVOKED: u64 = 2;
+
+// What each field counts in units of the one below it.
+const SET_AT: u64 = 1 << 32;
+
+const RIGHTS: u64 = 1 << 16;
+
+const OBJECT: u64 = 1 << 10;
+
+const MASTER: u64 = 1 << 1;
+
+const KIND: u64 = 1 << 3;
+
+/// The word of these six numbers, each in its place.
+const fn pack(state: u64, kind: u64, master: u64, object: u64, rights: u64, set_at: u64) -> u64
+    requires state_fits { state < 4 }
+    requires kind_fits { kind < 8 }
+    requires master_fits { master < 2 }
+    requires object_fits { object < 1024 }
+    requires rights_fits { rights < 65536 }
+    requires set_at_fits { set_at < 4294967296 }
+    ensures { fields_of result ≡ numbered_fields state kind master object rights set_at }
+{
+    ((((state * KIND + kind) * MASTER + master) * OBJECT + object) * RIGHTS + rights) * SET_AT
+        + set_at
+}
+
+impl CapWord {
+    /// An empty slot that this entry of the history emptied; 0 where none did.
+    pub const fn empty(set_at: u32) -> CapWord
+        ensures { fields_of result.0 ≡ empty_fields set_at }
+    {
+        CapWord(set_at as u64)
+    }
+
+    /// A valid capability.
+    pub fn valid(kind: Kind, master: bool, object: ObjIndex, rights: Rights, set_at: u32) -> CapWord
+        requires { object.0 < 1024 }
+        ensures { fields_of result.0 ≡ record { state = CapState.Valid; kind = Some kind; master = master; object = object.0; rights = rights.0; set_at = set_at } }
+    {
+        CapWord(pack(
+            VALID,
+            kind.number(),
+            master as u64,
+            object.0 as u64,
+            rights.0 as u64,
+            set_at as u64,
+        ))
+    }
+
+    pub fn state(self) -> CapState
+        ensures { result ≡ state_of self.0 }
+    {
+        match self.0 / SET_AT / RIGHTS / OBJECT / MASTER / KIND {
+            0 => CapState::Empty,
+            1 => CapState::Valid,
+            _ => CapState::Revoked,
+        }
+    }
+
+    /// The kind of the object; none in an empty slot.
+    pub fn kind(self) -> Option<Kind>
+        ensures { result ≡ kind_of self.0 }
+    {
+        Kind::of_number(self.0 / SET_AT / RIGHTS / OBJECT / MASTER % KIND)
+    }
+
+    /// Whether it is the object's master capability.
+    pub fn master(self) -> bool
+        ensures { result ≡ master_of self.0 }
+    {
+        self.0 / SET_AT / RIGHTS / OBJECT % MASTER == 1
+    }
+
+    pub fn object(self) -> ObjIndex
+        ensures { result.0 ≡ object_of self.0 }
+    {
+        ObjIndex((self.0 / SET_AT / RIGHTS % OBJECT) as u16)
+    }
+
+    pub fn rights(self) -> Rights
+        ensures { result.0 ≡ rights_of self.0 }
+    {
+        Rights((self.0 / SET_AT % RIGHTS) as u16)
+    }
+
+    /// The number of the entry that set the slot; 0 where none did.
+    pub fn set_at(self) -> u32
+        ensures { result ≡ set_at_of self.0 }
+    {
+        (self.0 % SET_AT) as u32
+    }
+
+    /// The same capability, revoked by this entry.
+    pub fn revoked(self, set_at: u32) -> CapWord
+        ensures { fields_of result.0 ≡ record (fields_of self.0) { state = CapState.Revoked; set_at = set_at } }
+    {
+        let kind = self.0 / SET_AT / RIGHTS / OBJECT / MASTER % KIND;
+        let master = self.0 / SET_AT / RIGHTS / OBJECT % MASTER;
+        let object = self.object().0 as u64;
+        CapWord(pack(
+            REVOKED,
+            kind,
+            master,
+            object,
+            self.rights().0 as u64,
+            set_at as u64,
+        ))
+    }
+
+    /// The same capability with fewer rights and without the master mark, set by this entry.
+    pub fn masked(self, mask: u16, set_at: u32) -> CapWord
+        ensures { fields_of result.0 ≡ record (fields_of self.0) { master = false; rights = bit_and (rights_of self.0) mask; set_at = set_at } }
+    {
+        let top = self.0 / SET_AT / RIGHTS / OBJECT / MASTER;
+        let object = self.object().0 as u64;
+        let rights = self.rights().0 & mask;
+        CapWord(pack(
+            top / KIND,
+            top % KIND,
+            0,
+            object,
+            rights as u64,
+            set_at as u64,
+        ))
+    }
+}
+
+/// What a call needs of a capability that it looks up.
+#[derive(Clone, Copy, Debug, PartialEq, Eq)]
+pub struct Need {
+    /// The kind of the object; none where any will do.
+    pub kind: Option<Kind>,
+    pub rights: Rights,
+    /// Whether it must be the object's master capability.
+    pub master: bool,
+}
+
+/// A capability that a look granted.
+#[derive(Clone, Copy, Debug, PartialEq, Eq)]
+pub struct Grant {
+    pub object: ObjIndex,
+    pub word: CapWord,
+}
+
+/// What a call saw when it looked a capability up.
+#[derive(Clone, Copy, Debug, Default, PartialEq, Eq)]
+pub struct Look {
+    /// The capability number, as the call gives it.
+    pub slot: u64,
+    /// How many entries of the history the look has seen.
+    pub place: u32,
+    pub word: CapWord,
+}
