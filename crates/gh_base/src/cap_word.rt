@@ -150,7 +150,7 @@ impl CapWord {
 }
 
 /// What a call needs of a capability that it looks up.
-#[derive(Clone, Copy, Debug, PartialEq, Eq)]
+#[derive(Clone, Copy, Debug, Default, PartialEq, Eq)]
 pub struct Need {
     /// The kind of the object; none where any will do.
     pub kind: Option<Kind>,

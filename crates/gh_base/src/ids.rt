@@ -27,7 +27,7 @@ pub struct Serial(pub u32);
 pub struct ObjIndex(pub u16);
 
 /// What a capability allows on its object, a bit for each right.
-#[derive(Clone, Copy, Debug, PartialEq, Eq)]
+#[derive(Clone, Copy, Debug, Default, PartialEq, Eq)]
 pub struct Rights(pub u16);
 
 impl Rights {
