@@ -1,7 +1,7 @@
 //! The capability word: what one atomic load of a slot shows.
 
 ghost use Rattle.std.specs.Prelude.{◌≡◌, ◌<◌, ◌≤◌, ◌^◌, Some, true, false, bit_and};
-ghost use Rattle.gh_base.specs.CapWord.{numbered_fields, fields_of, empty_fields, state_of, kind_of, master_of, object_of, rights_of, set_at_of};
+ghost use Rattle.gh_base.specs.CapWord.{packed, numbered_fields, filled_bits, filled_fields, fields_of, empty_fields, state_of, kind_of, master_of, object_of, rights_of, set_at_of};
 
 use crate::ids::{ObjIndex, Rights};
 use crate::kind::Kind;
@@ -42,7 +42,8 @@ const fn pack(state: u64, kind: u64, master: u64, object: u64, rights: u64, set_
     requires object_fits { object < 1024 }
     requires rights_fits { rights < 65536 }
     requires set_at_fits { set_at < 4294967296 }
-    ensures { fields_of result ≡ numbered_fields state kind master object rights set_at }
+    ensures bits { result ≡ packed state kind master object rights set_at }
+    ensures fields { fields_of result ≡ numbered_fields state kind master object rights set_at }
 {
     ((((state * KIND + kind) * MASTER + master) * OBJECT + object) * RIGHTS + rights) * SET_AT
         + set_at
@@ -51,24 +52,36 @@ const fn pack(state: u64, kind: u64, master: u64, object: u64, rights: u64, set_
 impl CapWord {
     /// An empty slot that this entry of the history emptied; 0 where none did.
     pub const fn empty(set_at: u32) -> CapWord
-        ensures { fields_of result.0 ≡ empty_fields set_at }
+        ensures bits { result.0 ≡ set_at }
+        ensures fields { fields_of result.0 ≡ empty_fields set_at }
     {
         CapWord(set_at as u64)
+    }
+
+    /// A filled slot: a capability that is valid, or else revoked.
+    pub fn filled(
+        valid: bool,
+        kind: Kind,
+        master: bool,
+        object: ObjIndex,
+        rights: Rights,
+        set_at: u32,
+    ) -> CapWord
+        requires { object.0 < 1024 }
+        ensures bits { result.0 ≡ filled_bits valid kind master object.0 rights.0 set_at }
+        ensures fields { fields_of result.0 ≡ filled_fields valid kind master object.0 rights.0 set_at }
+    {
+        let state = if valid { VALID } else { REVOKED };
+        let object = object.0 as u64;
+        CapWord(pack(state, kind.number(), master as u64, object, rights.0 as u64, set_at as u64))
     }
 
     /// A valid capability.
     pub fn valid(kind: Kind, master: bool, object: ObjIndex, rights: Rights, set_at: u32) -> CapWord
         requires { object.0 < 1024 }
-        ensures { fields_of result.0 ≡ record { state = CapState.Valid; kind = Some kind; master = master; object = object.0; rights = rights.0; set_at = set_at } }
+        ensures { fields_of result.0 ≡ filled_fields true kind master object.0 rights.0 set_at }
     {
-        CapWord(pack(
-            VALID,
-            kind.number(),
-            master as u64,
-            object.0 as u64,
-            rights.0 as u64,
-            set_at as u64,
-        ))
+        CapWord::filled(true, kind, master, object, rights, set_at)
     }
 
     pub fn state(self) -> CapState

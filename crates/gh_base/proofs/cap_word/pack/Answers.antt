@@ -2,8 +2,8 @@
 use Rattle.std.proofs.lemmas.Nat.{div-mul-add, mod-mul-add}
 use Rattle.gh_base.proofs.cap_word.pack.Goals as goal
 
-pub returns : goal.returns
-returns c =
+pub returns-clause-fields : goal.returns-clause-fields
+returns-clause-fields c =
     rw (
       div-mul-add _ 4294967296 _ c.requires.set_at_fits,
       mod-mul-add _ 4294967296 _ c.requires.set_at_fits,
