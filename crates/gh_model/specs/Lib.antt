@@ -1,0 +1,16 @@
+pub mod Access
+pub mod Act
+pub mod Boot
+pub mod Calls
+pub mod Graced
+pub mod History
+pub mod Legal
+pub mod Marks
+pub mod Program
+pub mod References
+pub mod Registers
+pub mod Rows
+pub mod Run
+pub mod Text
+pub mod Units
+pub mod Word

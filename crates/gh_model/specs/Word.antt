@@ -1,0 +1,77 @@
+-- What a slot holds, and what a look at it answers.
+use Rattle.std.specs.Prelude.{◌≡◌, ◌==◌, ◌&&◌, ◌||◌, ◌+◌, ◌-◌, ℕ, Bool, true, false, not, List, Option, Some, None, Result, Ok, Err, find, bit_and, nat_le, if◌then◌else◌}
+use Rattle.std.specs.Option.{option_map_or}
+use Rattle.gh_base.specs.CapWord.{CapFields, fields_of, empty_fields, state_of, kind_of, master_of, rights_of, set_at_of, filled_bits, filled_fields}
+use Rattle.gh_base.specs.Kind.{kind_number}
+use Rattle.gh_base.specs.declared.cap_word.CapWord.{CapWord}
+use Rattle.gh_base.specs.declared.cap_word.CapState.{CapState}
+use Rattle.gh_base.specs.declared.cap_word.CapState.TheVariants.{Empty, Valid, Revoked}
+use Rattle.gh_base.specs.declared.cap_word.Need.{Need}
+use Rattle.gh_base.specs.declared.kind.Kind.{Kind}
+use Rattle.gh_base.specs.declared.ids.Serial.{Serial}
+use Rattle.gh_base.specs.declared.errno.Errno.{Errno}
+use Rattle.gh_base.specs.declared.errno.Errno.TheVariants.{CapNull, CapRevoked, WrongType, InsufRights}
+use Rattle.gh_model.specs.declared.rows.CapabilityRow.{CapabilityRow}
+use Rattle.gh_model.specs.declared.rows.SetAtRow.{SetAtRow}
+use Rattle.gh_model.specs.declared.state.State.{State}
+use Rattle.gh_model.specs.declared.word.Word.{Word}
+use Rattle.gh_model.specs.Rows.{fills, tells_setting}
+
+-- the number of the entry that set the slot, 0 where none did
+abbrev pub setting_number : Option SetAtRow → ℕ
+setting_number None = 0
+setting_number (Some row) = row.number
+
+abbrev pub setting : State → ℕ → ℕ → ℕ
+setting s cspace slot = setting_number (find (tells_setting cspace slot) s.set_at)
+
+-- whether a capability number names a slot
+abbrev pub is_slot : ℕ → Bool
+is_slot slot = nat_le 1 slot && nat_le slot 127
+
+-- the slot's capability and the entry that set it; a number that names no slot is an empty word that none set
+abbrev pub word_at : State → ℕ → ℕ → Word
+word_at s cspace slot =
+    if is_slot slot then record { row = find (fills cspace slot) s.caps; set_at = setting s cspace slot }
+    else record { row = None; set_at = 0 }
+
+-- the object is of the kind that is needed, or any will do
+abbrev pub kind_fits : Option Kind → Kind → Bool
+kind_fits None kind = true
+kind_fits (Some needed) kind = kind_number needed == kind_number kind
+
+-- every right that is needed is there
+abbrev pub rights_fit : ℕ → ℕ → Bool
+rights_fit needed rights = bit_and needed rights == needed
+
+-- what a filled slot answers: it is revoked, of another kind, lacks a right or the master mark, or grants its object
+abbrev pub grant_reply : CapabilityRow → Need → Result Serial Errno
+grant_reply row need =
+    if not row.valid then Err CapRevoked
+    else (if not (kind_fits need.kind row.kind) then Err WrongType
+    else (if not (rights_fit need.rights.0 row.rights.0) || (need.master && not row.master) then Err InsufRights
+    else Ok row.serial))
+
+-- what a slot answers; an empty one grants nothing
+abbrev pub look_reply : Word → Need → Result Serial Errno
+look_reply word need = slot_reply word.row need
+  where
+    slot_reply : Option CapabilityRow → Need → Result Serial Errno
+    slot_reply None need = Err CapNull
+    slot_reply (Some row) need = grant_reply row need
+
+-- the 64 bits say what the slot holds, but for the object's index, which rows don't have
+abbrev pub Shows : CapWord → Word → Type 0
+Shows bits word = shows bits.0 word.row word.set_at
+  where
+    shows : ℕ → Option CapabilityRow → ℕ → Type 0
+    shows bits None set_at = fields_of bits ≡ empty_fields set_at
+    shows bits (Some row) set_at = (object : ℕ) × (fields_of bits ≡ filled_fields row.valid row.kind row.master object row.rights.0 set_at)
+
+-- the 64 bits of a word, with object index 0, since rows have serials in place of indices
+abbrev pub row_bits : ℕ → Option CapabilityRow → ℕ
+row_bits set_at None = set_at
+row_bits set_at (Some row) = filled_bits row.valid row.kind row.master 0 row.rights.0 set_at
+
+abbrev pub bits_of : Word → CapWord
+bits_of word = record { 0 = row_bits word.set_at word.row }

@@ -1,0 +1,30 @@
+//! The definitions of the machine, and the slow machine that is them.
+#![tactic(auto)]
+
+mod access;
+mod act;
+mod boot;
+mod boot_line;
+mod entry;
+mod lookup;
+mod plain;
+mod program;
+mod references;
+mod rows;
+mod running;
+mod state;
+mod units;
+mod word;
+
+pub use boot::Boot;
+pub use boot_line::BootLine;
+pub use entry::Entry;
+pub use plain::{Judged, Plain};
+pub use program::{Line, Step};
+pub use rows::{
+    BellRow, Borrower, CapabilityRow, CpuRow, ExtentRow, LinkRow, MappingRow, ObjectRow, Parcel,
+    ParcelKind, PartitionRow, QueueRow, SetAtRow, TakenSlot,
+};
+pub use running::{CpuRun, Running};
+pub use state::State;
+pub use word::Word;

@@ -1,0 +1,146 @@
+//! The slow machine: its state is the definition's, and each of its calls is a definition.
+
+ghost use Rattle.std.specs.Prelude.{◌≡◌, ◌<◌, IfOk, OnErr};
+ghost use Rattle.gh_model.specs.Act.{Judges, act as act_of};
+ghost use Rattle.gh_model.specs.Access.{access_at};
+ghost use Rattle.gh_model.specs.Boot.{boot_state};
+ghost use Rattle.gh_model.specs.Units.{used_units, free_units, given_units};
+ghost use Rattle.gh_model.specs.Word.{word_at, setting_number};
+
+use crate::access::access;
+use crate::act::act;
+use crate::boot::{Boot, booted};
+use crate::lookup::{capability_row, setting_row};
+use crate::rows::SetAtRow;
+use crate::state::State;
+use crate::units::{free, given, used};
+use crate::word::Word;
+use gh_base::{Call, CpuNo, NoMemory, Reply, Serial};
+use std::alloc::Global;
+use std::marker::Model;
+
+/// What an act came to.
+#[derive(Debug, Drop)]
+pub enum Judged {
+    /// It was made, and is an entry of the history.
+    Done(Reply),
+    /// It was refused, and nothing has changed.
+    Refused(Reply),
+}
+
+/// The state as lists of rows. A call searches them from end to end.
+#[derive(Drop)]
+pub struct Plain {
+    state: State,
+}
+
+impl Model for Plain {
+    ghost use Rattle.std.specs.Prelude.{◌≤◌};
+    ghost use Rattle.gh_model.specs.declared.state.State.{State};
+
+    ghost Value = { State };
+
+    ghost view = { λ plain. plain.state };
+
+    ghost invariant = { λ plain. plain.state.rings ≤ plain.state.entries };
+}
+
+fn setting_of(row: Option<SetAtRow>) -> u32
+    ensures { result ≡ setting_number row }
+{
+    match row {
+        None => 0,
+        Some(row) => row.number,
+    }
+}
+
+impl Plain {
+    /// The state that the boot file makes.
+    pub fn boot(alloc: Global, boot: &Boot) -> Result<Plain, NoMemory>
+        ensures { IfOk result (λ plain. plain ≡ boot_state boot.now) }
+    {
+        let state = booted(alloc, boot)?;
+        Ok(Plain { state })
+    }
+
+    /// The act of a call with these grants: a refusal, or its effect and one entry of the history.
+    pub fn act(
+        &mut self,
+        alloc: Global,
+        cpu: CpuNo,
+        call: &Call,
+        grants: &[Serial],
+    ) -> Result<Judged, NoMemory>
+        requires { self.old.entries < 4294963200 }
+        ensures judged { IfOk result (λ judged. Judges self.old self.new judged (act_of self.old cpu.0 call.now grants.now)) }
+        ensures no_memory { OnErr result (self.new ≡ self.old) }
+    {
+        Ok(act(alloc, &mut self.state, cpu, call, grants))
+    }
+
+    /// What a slot holds. A number outside 1 to 127 is an empty slot that no entry set.
+    pub fn word(&self, cspace: Serial, slot: u64) -> Word
+        ensures { result ≡ word_at self.now cspace.0 slot }
+    {
+        if slot < 1 || slot > 127 {
+            Word {
+                row: None,
+                set_at: 0,
+            }
+        } else {
+            Word {
+                row: capability_row(self.state.caps.as_slice(), cspace, slot),
+                set_at: setting_of(setting_row(self.state.set_at.as_slice(), cspace, slot)),
+            }
+        }
+    }
+
+    /// Entries of the history so far.
+    pub fn entries(&self) -> u32
+        ensures { result ≡ self.now.entries }
+    {
+        self.state.entries
+    }
+
+    /// The state as rows.
+    pub fn state(&self) -> &State
+        ensures { result.now ≡ self.now }
+    {
+        &self.state
+    }
+}
+
+impl State {
+    /// The costs in units of the objects that live in a partition, added up.
+    pub fn used_units(&self, partition: Serial) -> u128
+        ensures { result ≡ used_units self.now partition.0 }
+    {
+        used(self.objects.as_slice(), partition)
+    }
+
+    /// The units that a partition has left.
+    pub fn free_units(&self, partition: Serial) -> u128
+        ensures { result ≡ free_units self.now partition.0 }
+    {
+        free(
+            self.objects.as_slice(),
+            self.partitions.as_slice(),
+            partition,
+        )
+    }
+
+    /// The units that a partition gave to those that calls made from it.
+    pub fn given_units(&self, partition: Serial) -> u128
+        ensures { result ≡ given_units self.now partition.0 }
+    {
+        given(self.partitions.as_slice(), partition)
+    }
+
+    /// The machine page and the access number at a page of an address space; none where no mapping
+    /// row covers it, or the row's extent doesn't hold the page now.
+    pub fn access(&self, space: Serial, page: u16) -> Option<(u128, u8)>
+        ensures { result ≡ access_at self.now space.0 page }
+    {
+        access(self, space, page)
+    }
+}

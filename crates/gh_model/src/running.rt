@@ -1,0 +1,36 @@
+//! How far a run by whole calls has come.
+
+use crate::entry::Entry;
+use crate::plain::Plain;
+use gh_base::{CpuNo, Mark, Sequence, Serial};
+
+/// A CPU of a run, between two calls.
+#[derive(Clone, Copy, Debug)]
+pub struct CpuRun {
+    pub cpu: CpuNo,
+    /// The capability space that it looks capabilities up in.
+    pub cspace: Serial,
+    /// The line of its VM's call file that comes next; past the last one it is the exit call.
+    pub at: usize,
+    /// How often that line was made already.
+    pub tries: u32,
+    /// Whether it has made its exit call.
+    pub ended: bool,
+    /// Its calls so far.
+    pub number: u32,
+    /// Its calls so far that opened a read section.
+    pub sections: u32,
+    /// Its last place: the entries of the history that it has surely seen.
+    pub place: u32,
+}
+
+/// A run between two calls.
+#[derive(Drop)]
+pub struct Running {
+    pub plain: Plain,
+    /// The history.
+    pub entries: Sequence<Entry>,
+    /// The finished calls, in the order in which they ended.
+    pub marks: Sequence<Mark>,
+    pub cpus: Sequence<CpuRun>,
+}
