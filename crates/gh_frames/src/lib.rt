@@ -1,8 +1,8 @@
 //! Hypercalls from register frames, and the capabilities that a hypercall looks up.
 #![tactic(auto)]
 
-mod needs;
+mod capabilities;
 mod read;
 
-pub use needs::needs;
+pub use capabilities::needs;
 pub use read::{BUILT, read_call};

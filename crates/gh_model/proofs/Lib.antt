@@ -1,2 +1,5 @@
+pub mod ActLemmas
 pub mod BootLemmas
+pub mod CallsLemmas
+pub mod LooksLaw
 pub mod Tests

@@ -103,12 +103,12 @@ act s cpu call grants =
     else (if not (all_active s grants) then Refused (refusal ObjState) else effect s cpu call grants)
 
 -- the object that a word grants
+abbrev pub row_serial : Option CapabilityRow → Serial
+row_serial None = record { 0 = 0 }
+row_serial (Some row) = row.serial
+
 abbrev pub granted : Word → Serial
 granted word = row_serial word.row
-  where
-    row_serial : Option CapabilityRow → Serial
-    row_serial None = record { 0 = 0 }
-    row_serial (Some row) = row.serial
 
 -- the act of a call whose looks found these words
 abbrev pub judge : State → ℕ → Frame → Call → List Word → Verdict

@@ -140,7 +140,7 @@ is_of_kind k (Some row) = kind_number row.kind == kind_number k
 abbrev pub is_kind : State → ℕ → Kind → Bool
 is_kind s serial k = is_of_kind k (object_row s serial)
 
--- the partition has the units. Each object costs one, so there are never more than 1,024, which is said here again
+-- the partition has the units
 abbrev pub has_units : State → ℕ → ℕ → Bool
 has_units s partition cost = is_kind s partition kind.Partition && nat_le cost (free_units s partition) && nat_le s.next_serial 1024
 
@@ -215,7 +215,8 @@ link_fits s vm extent request reply =
     && list_any (is_small_queue request) s.queues
     && is_free_slot s (manager_cspace s) (2 * vm) && is_free_slot s (manager_cspace s) (2 * vm + 1)
 
--- the line may come in this state, behind the line of pages, of which there are at most 1,024
+-- the line may come in this state, behind the line of pages. That there are at most 1,024 pages and 1,024 objects, and at
+-- most eight CPUs before another comes, follows from the rest and is said again where it is used
 abbrev pub line_fits : State → BootLine → Bool
 line_fits s (Pages count) = false
 line_fits s (Partition quota) =
@@ -234,9 +235,10 @@ line_fits s (Map space extent base offset count access) =
 line_fits s (Cap cspace slot object rights master) =
     is_kind s cspace.0 kind.Cspace && is_free_slot s cspace.0 slot && rights_fit_kind rights.0 (object_row s object.0)
     && not (master && list_any (is_master_of object.0) s.caps)
-line_fits s (Vm cspace space) = may_attach s cspace.0 space.0 && nat_lt (vm_count s) 8
+line_fits s (Vm cspace space) = may_attach s cspace.0 space.0 && nat_lt (vm_count s) 8 && nat_le (length s.cpus) 8
 line_fits s (Rm cspace space partition) =
     not (is_some (cpu_row s 0)) && may_attach s cspace.0 space.0 && is_free_slot s cspace.0 1 && is_kind s partition.0 kind.Partition
+    && nat_le (length s.cpus) 8
 line_fits s (Link vm extent request reply) = link_fits s vm.0 extent.0 request.0 reply.0
 
 -- each line fits behind those before it

@@ -98,13 +98,13 @@ is_act_of cpu number (Part other call space slot) = false
 is_act_of cpu number (Retired serial seen) = false
 is_act_of cpu number (Reclaimed serial seen) = false
 
+abbrev pub is_revoke : Call → Bool
+is_revoke (CapsRevoke cap) = true
+is_revoke _ = false
+
 abbrev pub revokes_all : Result Call Errno → Bool
 revokes_all (Err errno) = false
 revokes_all (Ok call) = is_revoke call
-  where
-    is_revoke : Call → Bool
-    is_revoke (CapsRevoke cap) = true
-    is_revoke _ = false
 
 abbrev pub row_names : ℕ → Option CapabilityRow → Bool
 row_names serial None = false

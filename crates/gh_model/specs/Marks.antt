@@ -1,5 +1,5 @@
 -- Finished calls: whose they are, their places and their sections.
-use Rattle.std.specs.Prelude.{◌≡◌, ◌==◌, ◌&&◌, ◌+◌, ◌*◌, ◌%◌, not, ℕ, Bool, true, false, List, [], ◌∷◌, length, take, Option, Some, None, fold, filter, map, count_by, slice_get, if◌then◌else◌}
+use Rattle.std.specs.Prelude.{◌≡◌, ◌==◌, ◌&&◌, ◌+◌, ◌*◌, ◌-◌, ◌%◌, not, ℕ, Bool, true, false, List, [], ◌∷◌, length, take, Option, Some, None, fold, filter, map, count_by, slice_get, if◌then◌else◌}
 use Rattle.std.specs.Option.{option_map_or}
 use Rattle.gh_base.specs.declared.mark.Mark.{Mark}
 use Rattle.gh_base.specs.declared.mark.End.{End}
@@ -33,8 +33,12 @@ abbrev pub InTurn : {X : Type 0} → (List X → X → Type 0) → List X → Ty
 InTurn {X} P items = (i : ℕ) (item : X) → slice_get items i ≡ Some item → P (take i items) item
 
 -- a CPU's last place after a call: the place of its last look, of its refused act, or its entry
+abbrev pub look_place : ℕ → Option Look → ℕ
+look_place place None = place
+look_place place (Some look) = look.place
+
 abbrev pub place_after_looks : ℕ → List Look → ℕ
-place_after_looks place looks = fold (λ _ (look : Look). look.place) place looks
+place_after_looks place looks = look_place place (slice_get looks (length looks - 1))
 
 abbrev pub place_after_end : ℕ → End → ℕ
 place_after_end place ends.Frame = place

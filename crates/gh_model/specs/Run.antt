@@ -19,9 +19,9 @@ abbrev pub lines_or_none : Option (List Line) → List Line
 lines_or_none None = []
 lines_or_none (Some lines) = lines
 
--- the lines of the call file of the VM on a CPU
+-- the lines of the call file of the VM on a CPU: file v is that of VM v, and the resource manager has none
 abbrev pub file_of : List (List Line) → ℕ → List Line
-file_of files cpu = lines_or_none (slice_get files (cpu - 1))
+file_of files cpu = lines_or_none (slice_get ([] ∷ files) cpu)
 
 -- each CPU's calls are, in order, those that its program makes for the replies in them
 abbrev pub FollowsPrograms : List (List Line) → List Made → Type 0

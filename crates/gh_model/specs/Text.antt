@@ -1,6 +1,6 @@
 -- The history text: the entries, the calls and the state, line by line.
-use Rattle.std.specs.Prelude.{◌≡◌, ◌==◌, ◌&&◌, ◌||◌, ◌+◌, ◌/◌, ◌%◌, not, ℕ, Bool, true, false, List, [], ◌∷◌, ◌++◌, length, Option, Some, None, codes, filter, map, if◌then◌else◌}
-use Rattle.std.specs.List.{flat_map, enumerate_from, range_with_len}
+use Rattle.std.specs.Prelude.{◌≡◌, ◌==◌, ◌&&◌, ◌||◌, ◌+◌, ◌/◌, ◌%◌, not, ℕ, zero, suc, Bool, true, false, List, [], ◌∷◌, ◌++◌, length, Option, Some, None, codes, filter, map, if◌then◌else◌}
+use Rattle.std.specs.List.{flat_map, enumerate_from}
 use Rattle.std.specs.Fmt.{decimal, digits, digit_glyph}
 use Rattle.gh_base.specs.Kind.{kind_number}
 use Rattle.gh_base.specs.declared.cap_word.Look.{Look}
@@ -15,6 +15,7 @@ use Rattle.gh_model.specs.declared.entry.Entry.{Entry}
 use Rattle.gh_model.specs.declared.entry.Entry.TheVariants.{Acted, Part, Retired, Reclaimed}
 use Rattle.gh_model.specs.declared.rows.ObjectRow.{ObjectRow}
 use Rattle.gh_model.specs.declared.rows.CpuRow.{CpuRow}
+use Rattle.gh_model.specs.declared.access.PageRun.{PageRun}
 use Rattle.gh_model.specs.declared.state.State.{State}
 use Rattle.gh_model.specs.Units.{used_units, free_units, given_units}
 use Rattle.gh_model.specs.Access.{access_at}
@@ -87,13 +88,7 @@ is_space_row row = kind_number row.kind == 3
 abbrev pub units_line : State → ObjectRow → List ℕ
 units_line s row = codes "units" ++ (spaced row.serial.0 ++ (spaced (used_units s row.serial.0) ++ (spaced (free_units s row.serial.0) ++ (spaced (given_units s row.serial.0) ++ codes "\n"))))
 
--- a run of pages of an address space: it begins at a page, has so many, and begins at a machine page, with one access
-pub record PageRun : Type 0 where
-  pub page : ℕ
-  pub count : ℕ
-  pub machine : ℕ
-  pub access : ℕ
-
+-- a run of pages of an address space
 abbrev pub run_line : ℕ → PageRun → List ℕ
 run_line space run = codes "access" ++ (spaced space ++ (spaced run.page ++ (spaced run.count ++ (spaced run.machine ++ (spaced run.access ++ codes "\n")))))
 
@@ -130,12 +125,14 @@ runs_from s space run [] = ended_run space run false
 runs_from s space run (page ∷ pages) =
     ended_run space run (goes_on_with run (access_at s space page)) ++ runs_from s space (open_run run page (access_at s space page)) pages
 
--- the pages of an address space
-unfoldable pub space_pages : List ℕ
-space_pages = range_with_len 0 4096
+-- so many pages from one on
+unfoldable pub pages_from : ℕ → ℕ → List ℕ
+pages_from page zero = []
+pages_from page (suc more) = page ∷ pages_from (page + 1) more
 
+-- the pages of an address space
 abbrev pub space_lines : State → ObjectRow → List ℕ
-space_lines s row = runs_from s row.serial.0 no_run space_pages
+space_lines s row = runs_from s row.serial.0 no_run (pages_from 0 4096)
 
 abbrev pub entries_part : List Entry → List ℕ
 entries_part entries = codes "history" ++ (spaced (length entries) ++ (codes "\n" ++ flat_map entry_line (enumerate_from 1 entries)))

@@ -1,7 +1,7 @@
 -- What a slot holds, and what a look at it answers.
 use Rattle.std.specs.Prelude.{◌≡◌, ◌==◌, ◌&&◌, ◌||◌, ◌+◌, ◌-◌, ℕ, Bool, true, false, not, List, Option, Some, None, Result, Ok, Err, find, bit_and, nat_le, if◌then◌else◌}
 use Rattle.std.specs.Option.{option_map_or}
-use Rattle.gh_base.specs.CapWord.{CapFields, fields_of, empty_fields, state_of, kind_of, master_of, rights_of, set_at_of, filled_bits, filled_fields}
+use Rattle.gh_base.specs.CapWord.{filled_bits}
 use Rattle.gh_base.specs.Kind.{kind_number}
 use Rattle.gh_base.specs.declared.cap_word.CapWord.{CapWord}
 use Rattle.gh_base.specs.declared.cap_word.CapState.{CapState}
@@ -53,20 +53,20 @@ grant_reply row need =
     else Ok row.serial))
 
 -- what a slot answers; an empty one grants nothing
+abbrev pub slot_reply : Option CapabilityRow → Need → Result Serial Errno
+slot_reply None need = Err CapNull
+slot_reply (Some row) need = grant_reply row need
+
 abbrev pub look_reply : Word → Need → Result Serial Errno
 look_reply word need = slot_reply word.row need
-  where
-    slot_reply : Option CapabilityRow → Need → Result Serial Errno
-    slot_reply None need = Err CapNull
-    slot_reply (Some row) need = grant_reply row need
 
--- the 64 bits say what the slot holds, but for the object's index, which rows don't have
+-- the 64 bits are those of the word, but for the object's index, which rows don't have
+abbrev pub ShowsRow : ℕ → Option CapabilityRow → ℕ → Type 0
+ShowsRow bits None set_at = bits ≡ set_at
+ShowsRow bits (Some row) set_at = (object : ℕ) × (bits ≡ filled_bits row.valid row.kind row.master object row.rights.0 set_at)
+
 abbrev pub Shows : CapWord → Word → Type 0
-Shows bits word = shows bits.0 word.row word.set_at
-  where
-    shows : ℕ → Option CapabilityRow → ℕ → Type 0
-    shows bits None set_at = fields_of bits ≡ empty_fields set_at
-    shows bits (Some row) set_at = (object : ℕ) × (fields_of bits ≡ filled_fields row.valid row.kind row.master object row.rights.0 set_at)
+Shows bits word = ShowsRow bits.0 word.row word.set_at
 
 -- the 64 bits of a word, with object index 0, since rows have serials in place of indices
 abbrev pub row_bits : ℕ → Option CapabilityRow → ℕ

@@ -8,6 +8,27 @@ use crate::rows::{ExtentRow, MappingRow};
 use crate::state::State;
 use gh_base::Serial;
 
+/// Pages of an address space whose machine pages are consecutive and whose access is the same.
+#[derive(Clone, Copy, Debug)]
+pub struct PageRun {
+    pub page: u16,
+    /// 0 where there is no run yet.
+    pub count: u16,
+    /// The machine page at `page`.
+    pub machine: u128,
+    pub access: u8,
+}
+
+impl PageRun {
+    /// No page yet.
+    pub const NONE: PageRun = PageRun {
+        page: 0,
+        count: 0,
+        machine: 0,
+        access: 0,
+    };
+}
+
 /// Whether a run of pages from a base on has this page.
 fn maps(base: u64, count: u64, page: u16) -> bool
     ensures { result ≡ (nat_le base page && nat_lt page (base + count)) }

@@ -16,6 +16,7 @@ mod state;
 mod units;
 mod word;
 
+pub use access::PageRun;
 pub use boot::Boot;
 pub use boot_line::BootLine;
 pub use entry::Entry;
@@ -25,6 +26,6 @@ pub use rows::{
     BellRow, Borrower, CapabilityRow, CpuRow, ExtentRow, LinkRow, MappingRow, ObjectRow, Parcel,
     ParcelKind, PartitionRow, QueueRow, SetAtRow, TakenSlot,
 };
-pub use running::{CpuRun, Running};
+pub use running::{CpuRun, Looked, Running};
 pub use state::State;
 pub use word::Word;

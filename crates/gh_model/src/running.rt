@@ -2,7 +2,8 @@
 
 use crate::entry::Entry;
 use crate::plain::Plain;
-use gh_base::{CpuNo, Mark, Sequence, Serial};
+use crate::word::Word;
+use gh_base::{BoundedSequence, CpuNo, Errno, Look, Mark, Sequence, Serial};
 
 /// A CPU of a run, between two calls.
 #[derive(Clone, Copy, Debug)]
@@ -22,6 +23,18 @@ pub struct CpuRun {
     pub sections: u32,
     /// Its last place: the entries of the history that it has surely seen.
     pub place: u32,
+}
+
+/// What a call's looks came to.
+#[derive(Drop)]
+pub struct Looked {
+    pub looks: BoundedSequence<Look, 2>,
+    /// The words that they found.
+    pub words: BoundedSequence<Word, 2>,
+    /// The place of the last look.
+    pub place: u32,
+    /// Why the last look was refused.
+    pub refused: Option<Errno>,
 }
 
 /// A run between two calls.

@@ -7,7 +7,7 @@ use crate::rows::CapabilityRow;
 use gh_base::{CapWord, Errno, Kind, Need, ObjIndex, Serial};
 
 /// A slot's capability, if it has one, and the number of the entry that set the slot; 0 where none did.
-#[derive(Clone, Copy, Debug)]
+#[derive(Clone, Copy, Debug, Default)]
 pub struct Word {
     pub row: Option<CapabilityRow>,
     pub set_at: u32,

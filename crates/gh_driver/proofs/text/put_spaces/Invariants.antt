@@ -1,0 +1,8 @@
+-- What is written so far and what the rest writes make the whole.
+use Rattle.std.proofs.Common.{◌≡◌, ◌++◌, drop, string_bytes, filter}
+use Rattle.std.specs.List.{flat_map}
+use Rattle.gh_model.specs.Text.{space_lines, is_space_row}
+use Rattle.gh_driver.proofs.text.put_spaces.Given as goal
+
+abbrev pub invariant-loop-row : goal.invariant-loop-row
+invariant-loop-row l = string_bytes l.out ++ flat_map (space_lines l.state) (filter is_space_row (drop l.row-index l.rows)) ≡ string_bytes l.fn.out ++ flat_map (space_lines l.state) (filter is_space_row l.rows)

@@ -1,0 +1,82 @@
+-- What an act keeps, and what a refused act answers.
+use Rattle.std.proofs.Common.{◌≡◌, ◌≢◌, ◌==◌, ◌+◌, ℕ, Bool, true, false, List, [], ◌∷◌, refl, subst, sym, slice_index, not, if◌then◌else◌}
+use Rattle.gh_base.specs.Reply.{refusal, register_reply}
+use Rattle.gh_base.specs.declared.call.Call.{Call}
+use Rattle.gh_base.specs.declared.call.Call.TheVariants.{Identify, Exit, BellSend, Create, ConfigurePartition, ConfigureQueue}
+use Rattle.gh_base.specs.declared.errno.Errno.{Errno}
+use Rattle.gh_base.specs.declared.errno.Errno.TheVariants.{Unimplemented, CapRevoked, ObjState}
+use Rattle.gh_base.specs.declared.frame.Reply.{Reply}
+use Rattle.gh_base.specs.declared.ids.Serial.{Serial}
+use Rattle.gh_model.specs.declared.state.State.{State}
+use Rattle.gh_model.specs.Act.{Verdict, Done, Refused, act, effect, counted, any_doomed, all_active, identified, with_bell_flags, with_exit, first_grant}
+use Rattle.gh_model.specs.Legal.{is_short}
+
+-- one entry more, and no slot set
+pub record Keeps (s new : State) : Type 0 where
+  pub entries : new.entries ≡ s.entries + 1
+  pub taken : new.taken ≡ []
+  pub caps : new.caps ≡ s.caps
+  pub set_at : new.set_at ≡ s.set_at
+
+pub effect_keeps : (s : State) (cpu : ℕ) (call : Call) (grants : List Serial) (new : State) (reply : Reply) → effect s cpu call grants ≡ Done new reply → Keeps s new
+effect_keeps s cpu Identify grants new reply is =
+    let same : counted s ≡ new = cc in
+    subst (λ (t : State). Keeps s t) same (record { entries = refl; taken = refl; caps = refl; set_at = refl })
+effect_keeps s cpu (BellSend cap flags) grants new reply is =
+    let same : counted (with_bell_flags s (first_grant grants) flags) ≡ new = cc in
+    subst (λ (t : State). Keeps s t) same (record { entries = refl; taken = refl; caps = refl; set_at = refl })
+effect_keeps s cpu Exit grants new reply is =
+    let same : counted (with_exit s cpu) ≡ new = cc in
+    subst (λ (t : State). Keeps s t) same (record { entries = refl; taken = refl; caps = refl; set_at = refl })
+effect_keeps s cpu _ grants new reply is = absurd (let never : ⊥ = cc in never)
+
+-- the effect comes to what two refusals before it don't forestall
+pub unless_two : (a b : Bool) (first second : Reply) (others : Verdict) (new : State) (reply : Reply) → (if a then Refused first else (if not b then Refused second else others)) ≡ Done new reply → others ≡ Done new reply
+unless_two true b first second others new reply is = absurd (let never : ⊥ = cc in never)
+unless_two false true first second others new reply is = is
+unless_two false false first second others new reply is = absurd (let never : ⊥ = cc in never)
+
+-- an act that is done makes one entry and sets no slot
+pub act_keeps : (s : State) (cpu : ℕ) (call : Call) (grants : List Serial) (new : State) (reply : Reply) → act s cpu call grants ≡ Done new reply → Keeps s new
+act_keeps s cpu call grants new reply is =
+    effect_keeps s cpu call grants new reply (unless_two (any_doomed s grants) (all_active s grants) (refusal CapRevoked) (refusal ObjState) (effect s cpu call grants) new reply is)
+
+-- a refusal: x0 isn't 0, and no want of units
+pub record IsRefusal (call : Call) (reply : Reply) : Type 0 where
+  pub number : slice_index reply.x 0 ≢ 0
+  pub not_short : is_short call reply ≡ false
+
+pub short_by_number : (call : Call) (reply : Reply) → (slice_index reply.x 0 == 10) ≡ false → is_short call reply ≡ false
+short_by_number (Create partition cspace kind) reply is = is
+short_by_number (ConfigurePartition cap quota) reply is = is
+short_by_number (ConfigureQueue cap depth size) reply is = is
+short_by_number _ reply is = refl
+
+pub revoked_refuses : (call : Call) → IsRefusal call (refusal CapRevoked)
+revoked_refuses call = record { number = λ (e : 51 ≡ 0). cc; not_short = short_by_number call (refusal CapRevoked) refl }
+
+pub stage_refuses : (call : Call) → IsRefusal call (refusal ObjState)
+stage_refuses call = record { number = λ (e : 33 ≡ 0). cc; not_short = short_by_number call (refusal ObjState) refl }
+
+pub unbuilt_refuses : (call : Call) → IsRefusal call (refusal Unimplemented)
+unbuilt_refuses call = record { number = λ (e : 0xffff_ffff_ffff_ffff ≡ 0). cc; not_short = short_by_number call (refusal Unimplemented) refl }
+
+pub effect_refuses : (s : State) (cpu : ℕ) (call : Call) (grants : List Serial) (reply : Reply) → effect s cpu call grants ≡ Refused reply → IsRefusal call reply
+effect_refuses s cpu Identify grants reply is = absurd (let never : ⊥ = cc in never)
+effect_refuses s cpu (BellSend cap flags) grants reply is = absurd (let never : ⊥ = cc in never)
+effect_refuses s cpu Exit grants reply is = absurd (let never : ⊥ = cc in never)
+effect_refuses s cpu call grants reply is =
+    let same : refusal Unimplemented ≡ reply = cc in
+    subst (λ (r : Reply). IsRefusal call r) same (unbuilt_refuses call)
+
+pub refused_by : (call : Call) (a b : Bool) (others : Verdict) (reply : Reply) → (others ≡ Refused reply → IsRefusal call reply) → (if a then Refused (refusal CapRevoked) else (if not b then Refused (refusal ObjState) else others)) ≡ Refused reply → IsRefusal call reply
+refused_by call true b others reply other is =
+    let same : refusal CapRevoked ≡ reply = cc in subst (λ (r : Reply). IsRefusal call r) same (revoked_refuses call)
+refused_by call false true others reply other is = other is
+refused_by call false false others reply other is =
+    let same : refusal ObjState ≡ reply = cc in subst (λ (r : Reply). IsRefusal call r) same (stage_refuses call)
+
+-- an act that is refused answers a refusal
+pub act_refuses : (s : State) (cpu : ℕ) (call : Call) (grants : List Serial) (reply : Reply) → act s cpu call grants ≡ Refused reply → IsRefusal call reply
+act_refuses s cpu call grants reply is =
+    refused_by call (any_doomed s grants) (all_active s grants) (effect s cpu call grants) reply (effect_refuses s cpu call grants reply) is
