@@ -45,8 +45,8 @@ fn read_front<R: fs::Files>(rt: &R, alloc: Global, path: &str, max: usize) -> io
     ensures { IfOk result (λ bytes. vec_len bytes ≤ max) }
 {
     let file = File::open(rt, path)?;
-    // A byte more than the file has, so that the read that finds its end needs no more room.
-    let room = file.metadata()?.len().saturating_add(1).min(max as u64);
+    // A byte more than will come, so that the read that finds the end needs no more room.
+    let room = file.metadata()?.len().min(max as u64).saturating_add(1);
     let mut bytes = Vec::with_capacity(alloc, room as usize)?;
     file.take(max as u64).read_to_end(&mut bytes)?;
     bytes.truncate(max);
@@ -63,16 +63,15 @@ impl<'a, R: fs::Files> Files for HostFiles<'a, R> {
     ghost is_sure = { λ _. false };
 
     fn load(&mut self, alloc: Global, name: &str, max: usize) -> Result<Vec<u8>, LoadErr> {
-        let read = read_front(self.rt, alloc, name, max);
+        let read = match read_front(self.rt, alloc, name, max) {
+            Err(error) if error.kind() == ErrorKind::OutOfMemory => return Err(LoadErr::NoMemory),
+            read => read.ok(),
+        };
         note_name(alloc, &mut self.asked, name)?;
-        match read {
-            Ok(bytes) => Ok(bytes),
-            Err(error) if error.kind() == ErrorKind::OutOfMemory => Err(LoadErr::NoMemory),
-            Err(_) => {
-                self.faults = self.faults.saturating_add(1);
-                Err(LoadErr::Failed)
-            }
+        if read.is_none() {
+            self.faults = self.faults.saturating_add(1);
         }
+        read.ok_or(LoadErr::Failed)
     }
 }
 

@@ -1,6 +1,6 @@
 //! Files over memory, which tell their contents.
 
-ghost use Rattle.std.specs.Prelude.{◌≡◌, ◌≤◌, [], take, IfOk, IsErrOf, Some, true, false};
+ghost use Rattle.std.specs.Prelude.{◌≡◌, ◌≤◌, [], ◌∷◌, ◌++◌, take, IfOk, IfErr, OnOk, OnErr, IsErrOf, Some, true, false};
 ghost use Rattle.std.specs.Option.{option_copied, option_map};
 ghost use Rattle.gh_io.specs.Memory.{bytes_under, contents_of};
 
@@ -142,7 +142,14 @@ impl Files for SureFiles {
 
     ghost is_sure = { λ _. true };
 
-    fn load(&mut self, alloc: Global, name: &str, max: usize) -> Result<Vec<u8>, LoadErr> {
+    fn load(&mut self, alloc: Global, name: &str, max: usize) -> Result<Vec<u8>, LoadErr>
+        ensures bytes { IfOk result
+            (λ bytes. bytes.items ≡ take max (contents_of self.old.entries name.now)) }
+        ensures memory { IfErr result (λ e. e ≡ LoadErr.NoMemory) }
+        ensures ok { OnOk result
+            (self.new ≡ record self.old { asked = self.old.asked ++ name.now ∷ [] }) }
+        ensures err { OnErr result (self.new ≡ self.old) }
+    {
         let bytes = bytes_under(self.entries.as_slice(), name).unwrap_or(&[]);
         let front = copy_front(alloc, bytes, max)?;
         note_name(alloc, &mut self.asked, name)?;
