@@ -1,0 +1,22 @@
+-- What a call of files or of a sink does to their meanings.
+use Rattle.std.specs.Prelude.{◌≡◌, ◌⊎◌, ℕ, ◌+◌, ◌-◌, ◌^◌, ◌≤◌, min, List, [], ◌∷◌, ◌++◌, take, Option, Result, Ok, Err, IfSome}
+use Rattle.gh_io.specs.declared.files.LoadErr.{LoadErr}
+use Rattle.gh_io.specs.declared.files.LoadErr.TheVariants.{Failed, NoMemory}
+
+-- one more than a count of 64 bits, which stands still at its end
+abbrev pub one_more : ℕ → ℕ
+one_more count = min (count + 1) (2 ^ 64 - 1)
+
+-- a count of faults rose, or stands at its end, where it can't
+abbrev pub Rose : ℕ → ℕ → Type 0
+Rose before now = one_more before ≤ now
+
+-- the bytes are the first of the file of this name: so many, or all of them where there are fewer
+abbrev pub IsFront : Option (List ℕ → List ℕ) → List ℕ → ℕ → List ℕ → Type 0
+IsFront contents name most bytes = IfSome contents (λ file. bytes ≡ take most (file name))
+
+-- a load adds its name to the names asked; where memory ran out it may be left out
+abbrev pub Asks : {T : Type 0} → Result T LoadErr → List (List ℕ) → List (List ℕ) → List ℕ → Type 0
+Asks (Ok _) old new name = new ≡ old ++ name ∷ []
+Asks (Err Failed) old new name = new ≡ old ++ name ∷ []
+Asks (Err NoMemory) old new name = (new ≡ old) ⊎ (new ≡ old ++ name ∷ [])
