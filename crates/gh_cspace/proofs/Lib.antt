@@ -1,0 +1,2 @@
+pub mod CspaceLemmas
+pub mod FilledLemmas

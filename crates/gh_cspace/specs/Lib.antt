@@ -1,0 +1,2 @@
+pub mod Cspace
+pub mod Filled

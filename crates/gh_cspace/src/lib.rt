@@ -1,0 +1,11 @@
+//! A capability space: a finite map from capability numbers to capability words.
+#![tactic(auto)]
+
+mod cspace;
+mod filled;
+mod words;
+
+pub use cspace::Cspace;
+
+#[cfg(test)]
+mod tests;
