@@ -1,0 +1,11 @@
+//! Grace periods: whether every CPU that was in a read section has left it since.
+#![tactic(auto)]
+
+mod grace;
+mod law;
+
+pub use grace::{CPUS, Counters, Grace};
+pub use law::grace_law;
+
+#[cfg(test)]
+mod tests;
