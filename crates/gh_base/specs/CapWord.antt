@@ -1,6 +1,6 @@
 -- A capability word as its fields, from the top bit down: state 2 bits, kind 3, master mark 1,
 -- object index 10, rights 16, number of the entry that set the word 32.
-use Rattle.std.specs.Prelude.{◌≡◌, ◌==◌, ℕ, ◌+◌, ◌*◌, ◌/◌, ◌%◌, ◌<◌, Bool, true, false, Option, Some, if◌then◌else◌}
+use Rattle.std.specs.Prelude.{◌==◌, ℕ, ◌+◌, ◌*◌, ◌/◌, ◌%◌, Bool, false, Option, Some, if◌then◌else◌}
 use Rattle.gh_base.specs.Kind.{kind_number, kind_numbered}
 use Rattle.gh_base.specs.declared.kind.Kind.{Kind}
 use Rattle.gh_base.specs.declared.cap_word.CapState.{CapState}

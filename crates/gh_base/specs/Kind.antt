@@ -3,7 +3,7 @@ use Rattle.std.specs.Prelude.{ℕ, ◌==◌, Option, Some, None, if◌then◌els
 use Rattle.gh_base.specs.declared.kind.Kind.{Kind}
 use Rattle.gh_base.specs.declared.kind.Kind.TheVariants.{Partition, Cspace, Space, Extent, Bell, Queue}
 use Rattle.gh_base.specs.declared.kind.Stage.{Stage}
-use Rattle.gh_base.specs.declared.kind.Stage.TheVariants.{Init, Ready, Active}
+use Rattle.gh_base.specs.declared.kind.Stage.TheVariants.{Init, Ready}
 
 -- the number of a kind in a call and in a capability word
 abbrev pub kind_number : Kind → ℕ

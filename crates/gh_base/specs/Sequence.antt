@@ -1,5 +1,5 @@
 -- How the items of a sequence are lent.
-use Rattle.std.specs.Prelude.{ℕ, List, length}
+use Rattle.std.specs.Prelude.{List, length}
 use Rattle.std.specs.List.{refill}
 use Rattle.std.specs.Borrow.{Lends, Fml, RattleType, MutBor, Array}
 use Rattle.gh_base.specs.contracts.sequence.Sequence.{the_row}

@@ -73,7 +73,14 @@ impl CapWord {
     {
         let state = if valid { VALID } else { REVOKED };
         let object = object.0 as u64;
-        CapWord(pack(state, kind.number(), master as u64, object, rights.0 as u64, set_at as u64))
+        CapWord(pack(
+            state,
+            kind.number(),
+            master as u64,
+            object,
+            rights.0 as u64,
+            set_at as u64,
+        ))
     }
 
     /// A valid capability.
