@@ -1,5 +1,7 @@
 -- The looks of a whole call are legal: each finds the word of its slot at its place.
 use Rattle.std.proofs.Common.{◌≡◌, ◌==◌, ◌+◌, ◌<◌, ◌≤◌, ◌∙◌, ℕ, Bool, true, false, List, [], ◌∷◌, ◌++◌, length, refl, subst, sym, ap, arith, Option, Some, None, Result, Ok, Err, max, not, if◌then◌else◌, append_assoc}
+use Rattle.std.proofs.Common.{◌-◌, suc, get_or, slice_get}
+use Rattle.std.proofs.lemmas.Option.{slice_get-get_or}
 use Rattle.std.proofs.lemmas.List.{append-nil}
 use Rattle.std.specs.List.{last_or}
 use Rattle.std.specs.Prelude.{◌&&◌, ◌||◌, map}
@@ -129,3 +131,92 @@ module _ (boot : State) (history : List Event) where
     looks_are_cons place need needs mark (Ok serial) sees within is ended others =
         (look_is place need sees within, subst (λ (r : Result Serial Errno). LookAnswers boot history r mark (max (word_at s cspace need.0).set_at place) (fresh s cspace (max (word_at s cspace need.0).set_at place) needs).looks (LooksAre boot history cspace (max (word_at s cspace need.0).set_at place) needs (fresh s cspace (max (word_at s cspace need.0).set_at place) needs).looks mark)) (sym (ap (λ (w : Word). look_reply w need.1) (found place need sees within) ∙ is))
           (goes_on_after mark.end mark (max (word_at s cspace need.0).set_at place) serial (fresh s cspace (max (word_at s cspace need.0).set_at place) needs).looks (LooksAre boot history cspace (max (word_at s cspace need.0).set_at place) needs (fresh s cspace (max (word_at s cspace need.0).set_at place) needs).looks mark) (ends_not_dead mark (fresh s cspace (max (word_at s cspace need.0).set_at place) needs).refused ended) (others ended)))
+
+    -- the looks of a whole call are legal
+    pub looks_are : (place : ℕ) (needs : List (ℕ × Need)) (mark : Mark) → Sees → place ≤ last → EndsAs mark (fresh s cspace place needs).refused → LooksAre boot history cspace place needs (fresh s cspace place needs).looks mark
+    looks_are place [] mark sees within ended = ended
+    looks_are place (need ∷ needs) mark sees within ended =
+        looks_are_cons place need needs mark (look_reply (word_at s cspace need.0) need.1) sees within refl ended
+        (λ goes. looks_are (max (word_at s cspace need.0).set_at place) needs mark sees (place_within place need sees within) goes)
+
+    pub words_are_cons : (place : ℕ) (need : ℕ × Need) (needs : List (ℕ × Need)) (refused : Option Errno) → Sees → place ≤ last → found_words boot history cspace (fresh s cspace (max (word_at s cspace need.0).set_at place) needs).looks ≡ (fresh s cspace (max (word_at s cspace need.0).set_at place) needs).words → found_words boot history cspace (unless_refused refused (first_look s cspace place need) (joined (first_look s cspace place need) (fresh s cspace (max (word_at s cspace need.0).set_at place) needs))).looks ≡ (unless_refused refused (first_look s cspace place need) (joined (first_look s cspace place need) (fresh s cspace (max (word_at s cspace need.0).set_at place) needs))).words
+    words_are_cons place need needs None sees within others =
+        ap (λ (w : Word). w ∷ found_words boot history cspace (fresh s cspace (max (word_at s cspace need.0).set_at place) needs).looks) (found place need sees within)
+        ∙ ap (λ (ws : List Word). word_at s cspace need.0 ∷ ws) others
+    words_are_cons place need needs (Some errno) sees within others =
+        ap (λ (w : Word). w ∷ []) (found place need sees within)
+
+    -- they found the words that the call rests on
+    pub words_are : (place : ℕ) (needs : List (ℕ × Need)) → Sees → place ≤ last → found_words boot history cspace (fresh s cspace place needs).looks ≡ (fresh s cspace place needs).words
+    words_are place [] sees within = refl
+    words_are place (need ∷ needs) sees within =
+        words_are_cons place need needs (refusal_of (look_reply (word_at s cspace need.0) need.1)) sees within
+        (words_are (max (word_at s cspace need.0).set_at place) needs sees (place_within place need sees within))
+
+    pub place_stays_cons : (place : ℕ) (need : ℕ × Need) (needs : List (ℕ × Need)) (refused : Option Errno) → max (word_at s cspace need.0).set_at place ≤ last → (fresh s cspace (max (word_at s cspace need.0).set_at place) needs).place ≤ last → (unless_refused refused (first_look s cspace place need) (joined (first_look s cspace place need) (fresh s cspace (max (word_at s cspace need.0).set_at place) needs))).place ≤ last
+    place_stays_cons place need needs None here there = there
+    place_stays_cons place need needs (Some errno) here there = here
+
+    -- no look is ahead of the history
+    pub place_stays : (place : ℕ) (needs : List (ℕ × Need)) → Sees → place ≤ last → (fresh s cspace place needs).place ≤ last
+    place_stays place [] sees within = within
+    place_stays place (need ∷ needs) sees within =
+        place_stays_cons place need needs (refusal_of (look_reply (word_at s cspace need.0) need.1)) (place_within place need sees within)
+        (place_stays (max (word_at s cspace need.0).set_at place) needs sees (place_within place need sees within))
+
+-- a CPU's place goes along its looks
+abbrev pub along : ℕ → List Look → ℕ
+along place [] = place
+along place (look ∷ looks) = along look.place looks
+
+pub last_cons : (first second : Look) (looks : List Look) → slice_get (first ∷ second ∷ looks) (length (first ∷ second ∷ looks) - 1) ≡ slice_get (second ∷ looks) (length (second ∷ looks) - 1)
+last_cons first second looks =
+    let here : length (first ∷ second ∷ looks) - 1 ≡ suc (length (second ∷ looks) - 1) = omega arith in rw here refl
+
+pub any_place : (p q : ℕ) (first : Look) (looks : List Look) → look_place p (slice_get (first ∷ looks) (length (first ∷ looks) - 1)) ≡ look_place q (slice_get (first ∷ looks) (length (first ∷ looks) - 1))
+any_place p q first looks =
+    let is : slice_get (first ∷ looks) (length (first ∷ looks) - 1) ≡ Some (get_or (first ∷ looks) (length (first ∷ looks) - 1) first) = slice_get-get_or (first ∷ looks) (length (first ∷ looks) - 1) first (omega arith) in
+    rw is refl
+
+pub place_is_along : (place : ℕ) (looks : List Look) → place_after_looks place looks ≡ along place looks
+place_is_along place [] = refl
+place_is_along place (look ∷ []) = refl
+place_is_along place (look ∷ second ∷ looks) =
+    ap (look_place place) (last_cons look second looks) ∙ any_place place look.place second looks ∙ place_is_along look.place (second ∷ looks)
+
+module _ (s : State) (cspace : ℕ) where
+    pub along_cons : (place : ℕ) (need : ℕ × Need) (needs : List (ℕ × Need)) (refused : Option Errno) → along (max (word_at s cspace need.0).set_at place) (fresh s cspace (max (word_at s cspace need.0).set_at place) needs).looks ≡ (fresh s cspace (max (word_at s cspace need.0).set_at place) needs).place → along place (unless_refused refused (first_look s cspace place need) (joined (first_look s cspace place need) (fresh s cspace (max (word_at s cspace need.0).set_at place) needs))).looks ≡ (unless_refused refused (first_look s cspace place need) (joined (first_look s cspace place need) (fresh s cspace (max (word_at s cspace need.0).set_at place) needs))).place
+    along_cons place need needs None others = others
+    along_cons place need needs (Some errno) others = refl
+
+    pub along_fresh : (place : ℕ) (needs : List (ℕ × Need)) → along place (fresh s cspace place needs).looks ≡ (fresh s cspace place needs).place
+    along_fresh place [] = refl
+    along_fresh place (need ∷ needs) =
+        along_cons place need needs (refusal_of (look_reply (word_at s cspace need.0) need.1)) (along_fresh (max (word_at s cspace need.0).set_at place) needs)
+
+    -- the last look's place is the call's
+    pub place_after_fresh : (place : ℕ) (needs : List (ℕ × Need)) → place_after_looks place (fresh s cspace place needs).looks ≡ (fresh s cspace place needs).place
+    place_after_fresh place needs = place_is_along place (fresh s cspace place needs).looks ∙ along_fresh place needs
+
+    pub fits_by : (valid fits lacks : Bool) (object serial : Serial) → (if not valid then Err CapRevoked else (if not fits then Err WrongType else (if lacks then Err InsufRights else Ok object))) ≡ Ok serial → fits ≡ true
+    fits_by false fits lacks object serial is = absurd (let never : ⊥ = cc in never)
+    fits_by true false lacks object serial is = absurd (let never : ⊥ = cc in never)
+    fits_by true true lacks object serial is = refl
+
+    -- a grant is of the kind that is needed
+    pub reply_fits : (row : Option CapabilityRow) (need : Need) (serial : Serial) → slot_reply row need ≡ Ok serial → row_fits row need ≡ true
+    reply_fits None need serial is = absurd (let never : ⊥ = cc in never)
+    reply_fits (Some row) need serial is =
+        fits_by row.valid (kind_fits need.kind row.kind) (not (rights_fit need.rights.0 row.rights.0) || (need.master && not row.master)) row.serial serial is
+
+    pub grants_cons : (place : ℕ) (need : ℕ × Need) (needs : List (ℕ × Need)) (reply : Result Serial Errno) → look_reply (word_at s cspace need.0) need.1 ≡ reply → (unless_refused (refusal_of reply) (first_look s cspace place need) (joined (first_look s cspace place need) (fresh s cspace (max (word_at s cspace need.0).set_at place) needs))).refused ≡ None → ((fresh s cspace (max (word_at s cspace need.0).set_at place) needs).refused ≡ None → grants_fit needs (fresh s cspace (max (word_at s cspace need.0).set_at place) needs).words ≡ true) → grants_fit (need ∷ needs) (unless_refused (refusal_of reply) (first_look s cspace place need) (joined (first_look s cspace place need) (fresh s cspace (max (word_at s cspace need.0).set_at place) needs))).words ≡ true
+    grants_cons place need needs (Err errno) is open_ others =
+        let never : Some errno ≡ None = subst (λ (r : Result Serial Errno). refusal_of r ≡ None) is open_ in absurd (let no_more : ⊥ = cc in no_more)
+    grants_cons place need needs (Ok serial) is open_ others =
+        rw (reply_fits (word_at s cspace need.0).row need.1 serial is) (others open_)
+
+    -- looks that all granted have a grant for each need
+    pub grants_are : (place : ℕ) (needs : List (ℕ × Need)) → (fresh s cspace place needs).refused ≡ None → grants_fit needs (fresh s cspace place needs).words ≡ true
+    grants_are place [] open_ = refl
+    grants_are place (need ∷ needs) open_ =
+        grants_cons place need needs (look_reply (word_at s cspace need.0) need.1) refl open_ (λ all. grants_are (max (word_at s cspace need.0).set_at place) needs all)
