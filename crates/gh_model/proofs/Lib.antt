@@ -4,4 +4,6 @@ pub mod CallsLemmas
 pub mod LooksLaw
 pub mod RunLaw
 pub mod RunLists
+pub mod RunSteps
+pub mod RunWhole
 pub mod Tests

@@ -121,16 +121,18 @@ module _ (boot : State) (history : List Event) where
       slot_asked = refl;
       place_seen = rw (found place need sees within) refl;
       within = let here : max (word_at s cspace need.0).set_at place ≤ last = place_within place need sees within in let there : last ≤ length history = sees.bounded in omega arith;
-      word_found = subst (λ (w : Word). Shows (bits_of (word_at s cspace need.0)) w) (sym (found place need sees within)) (bits_show_row (word_at s cspace need.0).row (word_at s cspace need.0).set_at)
+      word_found = subst (λ (w : Word). Shows (bits_of (word_at s cspace need.0)) w) (sym (found place need sees within)) (bits_show_row (word_at s cspace need.0).row (word_at s cspace need.0).set_at);
     }
 
     -- one look, and what follows it where it granted
     pub looks_are_cons : (place : ℕ) (need : ℕ × Need) (needs : List (ℕ × Need)) (mark : Mark) (reply : Result Serial Errno) → Sees → place ≤ last → look_reply (word_at s cspace need.0) need.1 ≡ reply → EndsAs mark (unless_refused (refusal_of reply) (first_look s cspace place need) (joined (first_look s cspace place need) (fresh s cspace (max (word_at s cspace need.0).set_at place) needs))).refused → (EndsAs mark (fresh s cspace (max (word_at s cspace need.0).set_at place) needs).refused → LooksAre boot history cspace (max (word_at s cspace need.0).set_at place) needs (fresh s cspace (max (word_at s cspace need.0).set_at place) needs).looks mark) → LooksAre boot history cspace place (need ∷ needs) (unless_refused (refusal_of reply) (first_look s cspace place need) (joined (first_look s cspace place need) (fresh s cspace (max (word_at s cspace need.0).set_at place) needs))).looks mark
     looks_are_cons place need needs mark (Err errno) sees within is ended others =
         (look_is place need sees within, subst (λ (r : Result Serial Errno). LookAnswers boot history r mark (max (word_at s cspace need.0).set_at place) [] (LooksAre boot history cspace (max (word_at s cspace need.0).set_at place) needs [] mark)) (sym (ap (λ (w : Word). look_reply w need.1) (found place need sees within) ∙ is)) (refl, (subst (λ (r : Result Serial Errno). EndsAs mark (refusal_of r)) is ended).0, (subst (λ (r : Result Serial Errno). EndsAs mark (refusal_of r)) is ended).1))
-    looks_are_cons place need needs mark (Ok serial) sees within is ended others =
-        (look_is place need sees within, subst (λ (r : Result Serial Errno). LookAnswers boot history r mark (max (word_at s cspace need.0).set_at place) (fresh s cspace (max (word_at s cspace need.0).set_at place) needs).looks (LooksAre boot history cspace (max (word_at s cspace need.0).set_at place) needs (fresh s cspace (max (word_at s cspace need.0).set_at place) needs).looks mark)) (sym (ap (λ (w : Word). look_reply w need.1) (found place need sees within) ∙ is))
-          (goes_on_after mark.end mark (max (word_at s cspace need.0).set_at place) serial (fresh s cspace (max (word_at s cspace need.0).set_at place) needs).looks (LooksAre boot history cspace (max (word_at s cspace need.0).set_at place) needs (fresh s cspace (max (word_at s cspace need.0).set_at place) needs).looks mark) (ends_not_dead mark (fresh s cspace (max (word_at s cspace need.0).set_at place) needs).refused ended) (others ended)))
+    looks_are_cons place need needs mark (Ok serial) sees within is ended others = (
+      look_is place need sees within,
+      subst (λ (r : Result Serial Errno). LookAnswers boot history r mark (max (word_at s cspace need.0).set_at place) (fresh s cspace (max (word_at s cspace need.0).set_at place) needs).looks (LooksAre boot history cspace (max (word_at s cspace need.0).set_at place) needs (fresh s cspace (max (word_at s cspace need.0).set_at place) needs).looks mark)) (sym (ap (λ (w : Word). look_reply w need.1) (found place need sees within) ∙ is))
+          (goes_on_after mark.end mark (max (word_at s cspace need.0).set_at place) serial (fresh s cspace (max (word_at s cspace need.0).set_at place) needs).looks (LooksAre boot history cspace (max (word_at s cspace need.0).set_at place) needs (fresh s cspace (max (word_at s cspace need.0).set_at place) needs).looks mark) (ends_not_dead mark (fresh s cspace (max (word_at s cspace need.0).set_at place) needs).refused ended) (others ended)),
+    )
 
     -- the looks of a whole call are legal
     pub looks_are : (place : ℕ) (needs : List (ℕ × Need)) (mark : Mark) → Sees → place ≤ last → EndsAs mark (fresh s cspace place needs).refused → LooksAre boot history cspace place needs (fresh s cspace place needs).looks mark
@@ -185,38 +187,38 @@ place_is_along place (look ∷ second ∷ looks) =
     ap (look_place place) (last_cons look second looks) ∙ any_place place look.place second looks ∙ place_is_along look.place (second ∷ looks)
 
 module _ (s : State) (cspace : ℕ) where
-    pub along_cons : (place : ℕ) (need : ℕ × Need) (needs : List (ℕ × Need)) (refused : Option Errno) → along (max (word_at s cspace need.0).set_at place) (fresh s cspace (max (word_at s cspace need.0).set_at place) needs).looks ≡ (fresh s cspace (max (word_at s cspace need.0).set_at place) needs).place → along place (unless_refused refused (first_look s cspace place need) (joined (first_look s cspace place need) (fresh s cspace (max (word_at s cspace need.0).set_at place) needs))).looks ≡ (unless_refused refused (first_look s cspace place need) (joined (first_look s cspace place need) (fresh s cspace (max (word_at s cspace need.0).set_at place) needs))).place
-    along_cons place need needs None others = others
-    along_cons place need needs (Some errno) others = refl
+  pub along_cons : (place : ℕ) (need : ℕ × Need) (needs : List (ℕ × Need)) (refused : Option Errno) → along (max (word_at s cspace need.0).set_at place) (fresh s cspace (max (word_at s cspace need.0).set_at place) needs).looks ≡ (fresh s cspace (max (word_at s cspace need.0).set_at place) needs).place → along place (unless_refused refused (first_look s cspace place need) (joined (first_look s cspace place need) (fresh s cspace (max (word_at s cspace need.0).set_at place) needs))).looks ≡ (unless_refused refused (first_look s cspace place need) (joined (first_look s cspace place need) (fresh s cspace (max (word_at s cspace need.0).set_at place) needs))).place
+  along_cons place need needs None others = others
+  along_cons place need needs (Some errno) others = refl
 
-    pub along_fresh : (place : ℕ) (needs : List (ℕ × Need)) → along place (fresh s cspace place needs).looks ≡ (fresh s cspace place needs).place
-    along_fresh place [] = refl
-    along_fresh place (need ∷ needs) =
-        along_cons place need needs (refusal_of (look_reply (word_at s cspace need.0) need.1)) (along_fresh (max (word_at s cspace need.0).set_at place) needs)
+  pub along_fresh : (place : ℕ) (needs : List (ℕ × Need)) → along place (fresh s cspace place needs).looks ≡ (fresh s cspace place needs).place
+  along_fresh place [] = refl
+  along_fresh place (need ∷ needs) =
+      along_cons place need needs (refusal_of (look_reply (word_at s cspace need.0) need.1)) (along_fresh (max (word_at s cspace need.0).set_at place) needs)
 
-    -- the last look's place is the call's
-    pub place_after_fresh : (place : ℕ) (needs : List (ℕ × Need)) → place_after_looks place (fresh s cspace place needs).looks ≡ (fresh s cspace place needs).place
-    place_after_fresh place needs = place_is_along place (fresh s cspace place needs).looks ∙ along_fresh place needs
+  -- the last look's place is the call's
+  pub place_after_fresh : (place : ℕ) (needs : List (ℕ × Need)) → place_after_looks place (fresh s cspace place needs).looks ≡ (fresh s cspace place needs).place
+  place_after_fresh place needs = place_is_along place (fresh s cspace place needs).looks ∙ along_fresh place needs
 
-    pub fits_by : (valid fits lacks : Bool) (object serial : Serial) → (if not valid then Err CapRevoked else (if not fits then Err WrongType else (if lacks then Err InsufRights else Ok object))) ≡ Ok serial → fits ≡ true
-    fits_by false fits lacks object serial is = absurd (let never : ⊥ = cc in never)
-    fits_by true false lacks object serial is = absurd (let never : ⊥ = cc in never)
-    fits_by true true lacks object serial is = refl
+  pub fits_by : (valid fits lacks : Bool) (object serial : Serial) → (if not valid then Err CapRevoked else (if not fits then Err WrongType else (if lacks then Err InsufRights else Ok object))) ≡ Ok serial → fits ≡ true
+  fits_by false fits lacks object serial is = absurd (let never : ⊥ = cc in never)
+  fits_by true false lacks object serial is = absurd (let never : ⊥ = cc in never)
+  fits_by true true lacks object serial is = refl
 
-    -- a grant is of the kind that is needed
-    pub reply_fits : (row : Option CapabilityRow) (need : Need) (serial : Serial) → slot_reply row need ≡ Ok serial → row_fits row need ≡ true
-    reply_fits None need serial is = absurd (let never : ⊥ = cc in never)
-    reply_fits (Some row) need serial is =
-        fits_by row.valid (kind_fits need.kind row.kind) (not (rights_fit need.rights.0 row.rights.0) || (need.master && not row.master)) row.serial serial is
+  -- a grant is of the kind that is needed
+  pub reply_fits : (row : Option CapabilityRow) (need : Need) (serial : Serial) → slot_reply row need ≡ Ok serial → row_fits row need ≡ true
+  reply_fits None need serial is = absurd (let never : ⊥ = cc in never)
+  reply_fits (Some row) need serial is =
+      fits_by row.valid (kind_fits need.kind row.kind) (not (rights_fit need.rights.0 row.rights.0) || (need.master && not row.master)) row.serial serial is
 
-    pub grants_cons : (place : ℕ) (need : ℕ × Need) (needs : List (ℕ × Need)) (reply : Result Serial Errno) → look_reply (word_at s cspace need.0) need.1 ≡ reply → (unless_refused (refusal_of reply) (first_look s cspace place need) (joined (first_look s cspace place need) (fresh s cspace (max (word_at s cspace need.0).set_at place) needs))).refused ≡ None → ((fresh s cspace (max (word_at s cspace need.0).set_at place) needs).refused ≡ None → grants_fit needs (fresh s cspace (max (word_at s cspace need.0).set_at place) needs).words ≡ true) → grants_fit (need ∷ needs) (unless_refused (refusal_of reply) (first_look s cspace place need) (joined (first_look s cspace place need) (fresh s cspace (max (word_at s cspace need.0).set_at place) needs))).words ≡ true
-    grants_cons place need needs (Err errno) is open_ others =
-        let never : Some errno ≡ None = subst (λ (r : Result Serial Errno). refusal_of r ≡ None) is open_ in absurd (let no_more : ⊥ = cc in no_more)
-    grants_cons place need needs (Ok serial) is open_ others =
-        rw (reply_fits (word_at s cspace need.0).row need.1 serial is) (others open_)
+  pub grants_cons : (place : ℕ) (need : ℕ × Need) (needs : List (ℕ × Need)) (reply : Result Serial Errno) → look_reply (word_at s cspace need.0) need.1 ≡ reply → (unless_refused (refusal_of reply) (first_look s cspace place need) (joined (first_look s cspace place need) (fresh s cspace (max (word_at s cspace need.0).set_at place) needs))).refused ≡ None → ((fresh s cspace (max (word_at s cspace need.0).set_at place) needs).refused ≡ None → grants_fit needs (fresh s cspace (max (word_at s cspace need.0).set_at place) needs).words ≡ true) → grants_fit (need ∷ needs) (unless_refused (refusal_of reply) (first_look s cspace place need) (joined (first_look s cspace place need) (fresh s cspace (max (word_at s cspace need.0).set_at place) needs))).words ≡ true
+  grants_cons place need needs (Err errno) is open_ others =
+      let never : Some errno ≡ None = subst (λ (r : Result Serial Errno). refusal_of r ≡ None) is open_ in absurd (let no_more : ⊥ = cc in no_more)
+  grants_cons place need needs (Ok serial) is open_ others =
+      rw (reply_fits (word_at s cspace need.0).row need.1 serial is) (others open_)
 
-    -- looks that all granted have a grant for each need
-    pub grants_are : (place : ℕ) (needs : List (ℕ × Need)) → (fresh s cspace place needs).refused ≡ None → grants_fit needs (fresh s cspace place needs).words ≡ true
-    grants_are place [] open_ = refl
-    grants_are place (need ∷ needs) open_ =
-        grants_cons place need needs (look_reply (word_at s cspace need.0) need.1) refl open_ (λ all. grants_are (max (word_at s cspace need.0).set_at place) needs all)
+  -- looks that all granted have a grant for each need
+  pub grants_are : (place : ℕ) (needs : List (ℕ × Need)) → (fresh s cspace place needs).refused ≡ None → grants_fit needs (fresh s cspace place needs).words ≡ true
+  grants_are place [] open_ = refl
+  grants_are place (need ∷ needs) open_ =
+      grants_cons place need needs (look_reply (word_at s cspace need.0) need.1) refl open_ (λ all. grants_are (max (word_at s cspace need.0).set_at place) needs all)

@@ -134,7 +134,7 @@ module _ (boot : State) (whole : List Event) (lines : List Line) where
     section_is = refl;
     frame_is = refl;
     legal = λ front. subst (λ (r : Result Call Errno). FrameIs boot whole x.cpu.cspace.0 x.cpu.place r (made_of (unmade x.plain x.cpu (frame_of lines x) (no_looks x.cpu.place) ends.Frame (refusal errno)))) (sym is) (refl, refl, refl);
-    entry = inl (record { none = refl; same = refl; place = here.within; not_entry = λ number. refl })
+    entry = inl (record { none = refl; same = refl; place = here.within; not_entry = λ number. refl });
   }
 
   abbrev pub looked_of : Solo → Call → Looked
@@ -146,15 +146,17 @@ module _ (boot : State) (whole : List Event) (lines : List Line) where
     number_is = refl;
     section_is = refl;
     frame_is = refl;
-    legal = λ front. subst (λ (r : Result Call Errno). FrameIs boot whole x.cpu.cspace.0 x.cpu.place r (made_of (unmade x.plain x.cpu (frame_of lines x) (looked_of x call) ends.Refused (refusal errno)))) (sym is)
-      (looks_are boot whole x.plain x.cpu.cspace.0 (length x.history) x.cpu.place (needs_of call) (call_mark x.cpu (looked_of x call) ends.Refused (refusal errno)) here.sees here.within
-        (subst (λ (o : Option Errno). EndsAs (call_mark x.cpu (looked_of x call) ends.Refused (refusal errno)) o) (sym refused) (refl, refl)), tt);
+    legal = λ front. subst (λ (r : Result Call Errno). FrameIs boot whole x.cpu.cspace.0 x.cpu.place r (made_of (unmade x.plain x.cpu (frame_of lines x) (looked_of x call) ends.Refused (refusal errno)))) (sym is) (
+      looks_are boot whole x.plain x.cpu.cspace.0 (length x.history) x.cpu.place (needs_of call) (call_mark x.cpu (looked_of x call) ends.Refused (refusal errno)) here.sees here.within
+          (subst (λ (o : Option Errno). EndsAs (call_mark x.cpu (looked_of x call) ends.Refused (refusal errno)) o) (sym refused) (refl, refl)),
+      tt,
+    );
     entry = inl (record {
       none = refl;
       same = refl;
       place = subst (λ (n : ℕ). n ≤ length x.history) (sym (place_after_fresh x.plain x.cpu.cspace.0 x.cpu.place (needs_of call))) (place_stays boot whole x.plain x.cpu.cspace.0 (length x.history) x.cpu.place (needs_of call) here.sees here.within);
-      not_entry = λ number. refl
-    })
+      not_entry = λ number. refl;
+    });
   }
 
   -- an act that was refused
@@ -164,22 +166,26 @@ module _ (boot : State) (whole : List Event) (lines : List Line) where
     number_is = refl;
     section_is = refl;
     frame_is = refl;
-    legal = λ front. subst (λ (r : Result Call Errno). FrameIs boot whole x.cpu.cspace.0 x.cpu.place r (made_of (unmade x.plain x.cpu (frame_of lines x) (looked_of x call) (ends.Act x.plain.entries) reply))) (sym is)
-      (looks_are boot whole x.plain x.cpu.cspace.0 (length x.history) x.cpu.place (needs_of call) (call_mark x.cpu (looked_of x call) (ends.Act x.plain.entries) reply) here.sees here.within
-        (subst (λ (o : Option Errno). EndsAs (call_mark x.cpu (looked_of x call) (ends.Act x.plain.entries) reply) o) (sym open_) tt),
-       (record {
+    legal = λ front. subst (λ (r : Result Call Errno). FrameIs boot whole x.cpu.cspace.0 x.cpu.place r (made_of (unmade x.plain x.cpu (frame_of lines x) (looked_of x call) (ends.Act x.plain.entries) reply))) (sym is) (
+      looks_are boot whole x.plain x.cpu.cspace.0 (length x.history) x.cpu.place (needs_of call) (call_mark x.cpu (looked_of x call) (ends.Act x.plain.entries) reply) here.sees here.within
+          (subst (λ (o : Option Errno). EndsAs (call_mark x.cpu (looked_of x call) (ends.Act x.plain.entries) reply) o) (sym open_) tt),
+      (
+        record {
           within = subst (λ (n : ℕ). n ≤ length whole) (sym here.counted) here.sees.bounded;
           not_before = subst (λ (n : ℕ). n ≤ x.plain.entries) (sym (place_after_fresh x.plain x.cpu.cspace.0 x.cpu.place (needs_of call))) (subst (λ (n : ℕ). (looked_of x call).place ≤ n) (sym here.counted) (place_stays boot whole x.plain x.cpu.cspace.0 (length x.history) x.cpu.place (needs_of call) here.sees here.within));
           reply = subst (λ (s : State). judge s x.cpu.cpu.0 (frame_of lines x) call (found_words boot whole x.cpu.cspace.0 (looked_of x call).looks) ≡ Refused reply) (sym (ap (state_at boot whole) here.counted ∙ here.state)) (subst (λ (ws : List Word). judge x.plain x.cpu.cpu.0 (frame_of lines x) call ws ≡ Refused reply) (sym (words_are boot whole x.plain x.cpu.cspace.0 (length x.history) x.cpu.place (needs_of call) here.sees here.within)) judged);
           is_refusal = (act_refuses x.plain x.cpu.cpu.0 call (map granted (looked_of x call).words) reply judged).number;
-          no_parts = subst (λ (s : State). s.taken ≡ []) (sym (ap (state_at boot whole) here.counted ∙ here.state)) here.no_parts
-        }, (act_refuses x.plain x.cpu.cpu.0 call (map granted (looked_of x call).words) reply judged).not_short));
+          no_parts = subst (λ (s : State). s.taken ≡ []) (sym (ap (state_at boot whole) here.counted ∙ here.state)) here.no_parts;
+        },
+        (act_refuses x.plain x.cpu.cpu.0 call (map granted (looked_of x call).words) reply judged).not_short,
+      ),
+    );
     entry = inl (record {
       none = refl;
       same = refl;
       place = subst (λ (n : ℕ). n ≤ length x.history) (sym here.counted) (omega arith);
-      not_entry = λ number. refl
-    })
+      not_entry = λ number. refl;
+    });
   }
 
   -- behind the next entry the state is what it makes
@@ -204,7 +210,7 @@ module _ (boot : State) (whole : List Event) (lines : List Line) where
   event_made x call new reply is open_ judged =
       subst (λ (r : Result Call Errno). after_call x.plain x.cpu.cpu.0 (frame_of lines x) r (looked_of x call).words ≡ new) (sym is)
       (rw (grants_are x.plain x.cpu.cspace.0 x.cpu.place (needs_of call) open_)
-        (subst (λ (v : Verdict). after_verdict x.plain v ≡ new) (sym judged) refl))
+      (subst (λ (v : Verdict). after_verdict x.plain v ≡ new) (sym judged) refl))
 
   -- an act that was done
   pub good_done : (x : Solo) (call : Call) (new : State) (reply : Reply) → Here x → call_of (frame_of lines x) ≡ Ok call → (looked_of x call).refused ≡ None → judge x.plain x.cpu.cpu.0 (frame_of lines x) call (looked_of x call).words ≡ Done new reply → Good x (done_call x call new reply)
@@ -220,20 +226,21 @@ module _ (boot : State) (whole : List Event) (lines : List Line) where
         number_is = refl;
         section_is = refl;
         frame_is = refl;
-        legal = λ front. subst (λ (r : Result Call Errno). FrameIs boot whole x.cpu.cspace.0 x.cpu.place r (made_of (done_call x call new reply))) (sym is)
-          (looks_are boot whole x.plain x.cpu.cspace.0 (length x.history) x.cpu.place (needs_of call) (call_mark x.cpu (looked_of x call) (ends.Entry new.entries) reply) here.sees here.within
-            (subst (λ (o : Option Errno). EndsAs (call_mark x.cpu (looked_of x call) (ends.Entry new.entries) reply) o) (sym open_) tt),
-           record {
-             from_one = omega arith;
-             after_looks = subst (λ (n : ℕ). n < new.entries) (sym (place_after_fresh x.plain x.cpu.cspace.0 x.cpu.place (needs_of call))) (let stays : (looked_of x call).place ≤ length x.history = place_stays boot whole x.plain x.cpu.cspace.0 (length x.history) x.cpu.place (needs_of call) here.sees here.within in omega arith);
-             event = subst (λ (n : ℕ). slice_get whole n ≡ Some (event_of boot whole x.cpu.cspace.0 (made_of (done_call x call new reply)))) (sym before)
-               (subst (λ (w : List Event). slice_get w (length x.history) ≡ Some (event_of boot whole x.cpu.cspace.0 (made_of (done_call x call new reply)))) (sym (front.1 ∙ append_assoc x.history (event ∷ []) front.0))
-                 (slice_get_seam x.history event front.0 ∙ ap (λ (ws : List Word). Some (record { entry = Acted x.cpu.cpu (x.cpu.number + 1); frame = frame_of lines x; words = ws })) (sym words)));
-             reply = subst (λ (s : State). judge s x.cpu.cpu.0 (frame_of lines x) call (found_words boot whole x.cpu.cspace.0 (looked_of x call).looks) ≡ Done (state_at boot whole new.entries) reply) (sym (ap (state_at boot whole) before ∙ here.state))
-               (subst (λ (ws : List Word). judge x.plain x.cpu.cpu.0 (frame_of lines x) call ws ≡ Done (state_at boot whole new.entries) reply) (sym words)
-                 (subst (λ (s : State). judge x.plain x.cpu.cpu.0 (frame_of lines x) call (looked_of x call).words ≡ Done s reply) (sym (state_behind x event new front here.now made number)) judged))
-           });
-        entry = inr (record { one = refl; end = ap ends.Entry number; made = made; keeps = keeps })
+        legal = λ front. subst (λ (r : Result Call Errno). FrameIs boot whole x.cpu.cspace.0 x.cpu.place r (made_of (done_call x call new reply))) (sym is) (
+          looks_are boot whole x.plain x.cpu.cspace.0 (length x.history) x.cpu.place (needs_of call) (call_mark x.cpu (looked_of x call) (ends.Entry new.entries) reply) here.sees here.within
+              (subst (λ (o : Option Errno). EndsAs (call_mark x.cpu (looked_of x call) (ends.Entry new.entries) reply) o) (sym open_) tt),
+          record {
+            from_one = omega arith;
+            after_looks = subst (λ (n : ℕ). n < new.entries) (sym (place_after_fresh x.plain x.cpu.cspace.0 x.cpu.place (needs_of call))) (let stays : (looked_of x call).place ≤ length x.history = place_stays boot whole x.plain x.cpu.cspace.0 (length x.history) x.cpu.place (needs_of call) here.sees here.within in omega arith);
+            event = subst (λ (n : ℕ). slice_get whole n ≡ Some (event_of boot whole x.cpu.cspace.0 (made_of (done_call x call new reply)))) (sym before)
+                (subst (λ (w : List Event). slice_get w (length x.history) ≡ Some (event_of boot whole x.cpu.cspace.0 (made_of (done_call x call new reply)))) (sym (front.1 ∙ append_assoc x.history (event ∷ []) front.0))
+                (slice_get_seam x.history event front.0 ∙ ap (λ (ws : List Word). Some (record { entry = Acted x.cpu.cpu (x.cpu.number + 1); frame = frame_of lines x; words = ws })) (sym words)));
+            reply = subst (λ (s : State). judge s x.cpu.cpu.0 (frame_of lines x) call (found_words boot whole x.cpu.cspace.0 (looked_of x call).looks) ≡ Done (state_at boot whole new.entries) reply) (sym (ap (state_at boot whole) before ∙ here.state))
+                (subst (λ (ws : List Word). judge x.plain x.cpu.cpu.0 (frame_of lines x) call ws ≡ Done (state_at boot whole new.entries) reply) (sym words)
+                (subst (λ (s : State). judge x.plain x.cpu.cpu.0 (frame_of lines x) call (looked_of x call).words ≡ Done s reply) (sym (state_behind x event new front here.now made number)) judged));
+          },
+        );
+        entry = inr (record { one = refl; end = ap ends.Entry number; made = made; keeps = keeps });
       }
 
   -- the call by its verdict

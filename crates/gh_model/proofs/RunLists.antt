@@ -35,9 +35,10 @@ slice_get_seam (x ∷ xs) y ys = slice_get_seam xs y ys
 -- what holds of each item in turn, and of one more behind them
 pub in_turn_snoc : {X : Type 0} (P : List X → X → Type 0) (xs : List X) (x : X) → InTurn P xs → P xs x → InTurn P (xs ++ x ∷ [])
 in_turn_snoc {X} P xs x before last = λ (i : ℕ) (item : X) (is : slice_get (xs ++ x ∷ []) i ≡ Some item).
-    elim (snoc_cases xs x item i is) as (λ _. P (take i (xs ++ x ∷ [])) item)
-    [ inl earlier ↦ subst (λ (front : List X). P front item) (sym (take-append-le i xs (x ∷ []) (let within : i < length xs = earlier.0 in omega arith))) (before i item earlier.1)
-    | inr here ↦ subst (λ (n : ℕ). P (take n (xs ++ x ∷ [])) item) (sym here.0) (subst (λ (front : List X). P front item) (sym (take-append_seam xs (x ∷ []))) (subst (λ (y : X). P xs y) here.1 last)) ]
+    elim (snoc_cases xs x item i is) as (λ _. P (take i (xs ++ x ∷ [])) item) [
+      | inl earlier ↦ subst (λ (front : List X). P front item) (sym (take-append-le i xs (x ∷ []) (let within : i < length xs = earlier.0 in omega arith))) (before i item earlier.1)
+      | inr here ↦ subst (λ (n : ℕ). P (take n (xs ++ x ∷ [])) item) (sym here.0) (subst (λ (front : List X). P front item) (sym (take-append_seam xs (x ∷ []))) (subst (λ (y : X). P xs y) here.1 last))
+    ]
 
 pub count_snoc : {X : Type 0} (p : X → Bool) (xs : List X) (x : X) → count_by p (xs ++ x ∷ []) ≡ count_by p xs + (if p x then 1 else 0)
 count_snoc p xs x = fold-append _ 0 xs (x ∷ [])

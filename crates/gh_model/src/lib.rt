@@ -6,6 +6,7 @@ mod act;
 mod boot;
 mod boot_line;
 mod entry;
+mod law;
 mod lookup;
 mod plain;
 mod program;
@@ -20,6 +21,7 @@ pub use access::PageRun;
 pub use boot::Boot;
 pub use boot_line::BootLine;
 pub use entry::Entry;
+pub use law::run_is_legal;
 pub use plain::{Judged, Plain};
 pub use program::{Line, Step};
 pub use rows::{
