@@ -1,6 +1,6 @@
 //! A run by whole calls.
 
-ghost use Rattle.std.specs.Prelude.{◌≡◌, ◌+◌, ◌*◌, ◌<◌, ◌≤◌, ◌^◌, [], ◌++◌, drop, length, slice_get, IfOk, OnOk, OnErr};
+ghost use Rattle.std.specs.Prelude.{◌≡◌, ◌+◌, ◌*◌, ◌<◌, ◌≤◌, ◌^◌, [], ◌++◌, false, Some, drop, length, slice_get, IfOk, OnOk, OnErr};
 ghost use Rattle.std.specs.Bool.{OnTrue};
 ghost use Rattle.std.specs.List.{list_all};
 ghost use Rattle.gh_model.specs.Run.{file_of};
@@ -123,20 +123,22 @@ fn record(history: &mut Sequence<Entry>, mark: &Mark) -> Result<(), NoMemory>
     }
 }
 
-/// The turn of a CPU: a call, unless it has ended.
-fn turn(alloc: Global, run: &mut Running, files: &[Sequence<Line>], at: usize) -> Result<(), NoMemory>
-    requires within { at < length run.old.cpus }
-    requires bounded { IsBounded run.old }
-    requires calls { length run.old.marks < 4128768 }
-    ensures run { OnOk result (run.new ≡ turn_of files.now run.old at) }
-    ensures bounded { OnOk result (IsBounded run.new) }
-    ensures calls { OnOk result (length run.new.marks ≤ length run.old.marks + 1) }
-    ensures cpus { OnOk result (length run.new.cpus ≡ length run.old.cpus) }
+/// The call of a CPU that hasn't ended.
+fn make_turn(
+    alloc: Global,
+    run: &mut Running,
+    files: &[Sequence<Line>],
+    at: usize,
+    c: CpuRun,
+) -> Result<(), NoMemory>
+    requires cpu { slice_get run.old.cpus at ≡ Some c }
+    requires going { c.ended ≡ false }
+    requires entries { run.old.plain.entries < 4294963200 }
+    requires number { c.number < 4294967295 }
+    requires sections { c.sections < 4294967295 }
+    requires line { c.at < 2 ^ 63 }
+    ensures { OnOk result (run.new ≡ turn_of files.now run.old at) }
 {
-    let c = run.cpus.as_slice()[at];
-    if c.ended {
-        return Ok(());
-    }
     let lines = lines_of(files, c.cpu);
     let exits = next_exits(&c, lines);
     let mark = make_call(alloc, &mut run.plain, &c, lines)?;
@@ -145,6 +147,20 @@ fn turn(alloc: Global, run: &mut Running, files: &[Sequence<Line>], at: usize) -
     run.marks.push(mark)?;
     run.cpus.set(at, next);
     Ok(())
+}
+
+/// The turn of a CPU: a call, unless it has ended.
+fn turn(alloc: Global, run: &mut Running, files: &[Sequence<Line>], at: usize) -> Result<(), NoMemory>
+    requires within { at < length run.old.cpus }
+    requires bounded { IsBounded run.old }
+    requires calls { length run.old.marks < 4128768 }
+    ensures { OnOk result (run.new ≡ turn_of files.now run.old at) }
+{
+    let c = run.cpus.as_slice()[at];
+    if c.ended {
+        return Ok(());
+    }
+    make_turn(alloc, run, files, at, c)
 }
 
 /// One round: each CPU in turn.
@@ -176,7 +192,7 @@ fn run_rounds(alloc: Global, run: &mut Running, files: &[Sequence<Line>]) -> Res
     requires calls { run.old.marks ≡ [] }
     ensures { OnOk result (run.new ≡ rounds last_number files.now run.old) }
 {
-    for _ in 0..CALL_NUMBERS {
+    for done in 0..CALL_NUMBERS {
         if all_ended(run.cpus.as_slice()) {
             return Ok(());
         }
