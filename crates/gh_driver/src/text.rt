@@ -346,7 +346,6 @@ fn after_page(run: PageRun, page: u16, found: Option<(u128, u8)>) -> PageRun
 }
 
 /// The longest runs of pages of an address space.
-#[tactic(auto, using(crate::proofs::TextLemmas::pages))]
 fn put_space(out: &mut String, state: &State, space: Serial) -> Result<(), NoMemory>
     ensures { OnOk result (string_bytes out.new ≡ string_bytes out.old ++ runs_from state.now space.0 no_run (pages_from 0 4096)) }
 {
