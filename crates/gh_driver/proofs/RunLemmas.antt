@@ -1,8 +1,8 @@
 -- Turns and rounds, step by step, and what they keep.
-use Rattle.std.proofs.Common.{◌≡◌, ◌==◌, ◌+◌, ◌-◌, ◌<◌, ◌≤◌, ◌∙◌, ℕ, zero, suc, Bool, true, false, List, [], ◌∷◌, ◌++◌, length, refl, subst, sym, ap, arith, Option, Some, None, Result, Ok, Err, drop, get_or, slice_get, slice_set, All, if◌then◌else◌, length-append, length-set}
+use Rattle.std.proofs.Common.{◌≡◌, ◌==◌, ◌+◌, ◌-◌, ◌<◌, ◌≤◌, ◌^◌, ◌∙◌, ℕ, zero, suc, Bool, true, false, List, [], ◌∷◌, ◌++◌, length, refl, subst, sym, ap, arith, Option, Some, None, Result, Ok, Err, drop, get_or, slice_get, slice_set, All, if◌then◌else◌, length-append, length-set}
 use Rattle.std.specs.List.{list_all}
 use Rattle.std.proofs.lemmas.List.Elements.{All-get_or, All-set, All-weaker}
-use Rattle.std.proofs.lemmas.Option.{get_or_from_slice_get, slice_get_within}
+use Rattle.std.proofs.lemmas.Option.{get_or_from_slice_get, slice_get-get_or, slice_get_within}
 use Rattle.gh_base.specs.declared.call.Call.{Call}
 use Rattle.gh_base.specs.declared.errno.Errno.{Errno}
 use Rattle.gh_base.specs.declared.frame.Frame.{Frame}
@@ -61,6 +61,29 @@ going_turn w x false going = refl
 
 pub turn_going : (files : List (List Line)) (w : Running) (at : ℕ) (c : CpuRun) → slice_get w.cpus at ≡ Some c → c.ended ≡ false → turn files w at ≡ with_call w at (after_called c (file_of files c.cpu.0) (next_call w.plain c (file_of files c.cpu.0))) (next_call w.plain c (file_of files c.cpu.0))
 turn_going files w at c is going = ap (λ (cpu : Option CpuRun). turn_of files w at cpu) is ∙ going_turn w _ c.ended going
+
+pub turn_still : (files : List (List Line)) (w : Running) (at : ℕ) (c : CpuRun) → slice_get w.cpus at ≡ Some c → c.ended ≡ true → turn files w at ≡ w
+turn_still files w at c is ended = ap (λ (cpu : Option CpuRun). turn_of files w at cpu) is ∙ ended_turn w _ c.ended ended
+
+-- a CPU that is there
+pub cpu_there : (cpus xs : List CpuRun) (at : ℕ) (d : CpuRun) → xs ≡ cpus → at < length cpus → slice_get cpus at ≡ Some (get_or xs at d)
+cpu_there cpus xs at d same within = rw same (slice_get-get_or cpus at d within)
+
+-- the counts of a CPU after fewer calls than there can be
+pub record IsSmall (c : CpuRun) : Type 0 where
+  pub number : c.number < 4294967295
+  pub sections : c.sections < 4294967295
+  pub line : c.at < 2 ^ 63
+
+pub paced_small : (calls : ℕ) (c : CpuRun) → calls < 4128768 → IsPaced calls c → IsSmall c
+paced_small calls c few paced =
+    let numbered : c.number ≤ calls = paced.numbered in
+    let along : c.at ≤ c.number = paced.along in
+    let opened : c.sections ≤ c.number = paced.opened in
+    record { number = omega arith; sections = omega arith; line = omega arith }
+
+pub cpu_small : (calls : ℕ) (cpus xs : List CpuRun) (at : ℕ) (d : CpuRun) → calls < 4128768 → xs ≡ cpus → at < length cpus → All (IsPaced calls) cpus → IsSmall (get_or xs at d)
+cpu_small calls cpus xs at d few same within paced = rw same (paced_small calls (get_or cpus at d) few (All-get_or (IsPaced calls) cpus at d within paced))
 
 -- a run in its parts
 abbrev pub running : State → List Entry → List Mark → List CpuRun → Running

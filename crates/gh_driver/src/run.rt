@@ -1,6 +1,6 @@
 //! A run by whole calls.
 
-ghost use Rattle.std.specs.Prelude.{◌≡◌, ◌+◌, ◌*◌, ◌<◌, ◌≤◌, ◌^◌, [], ◌++◌, false, Some, drop, length, slice_get, IfOk, OnOk, OnErr};
+ghost use Rattle.std.specs.Prelude.{◌≡◌, ◌+◌, ◌*◌, ◌<◌, ◌≤◌, ◌^◌, [], ◌++◌, false, Some, drop, length, map, slice_get, IfOk, OnOk, OnErr};
 ghost use Rattle.std.specs.Bool.{OnTrue};
 ghost use Rattle.std.specs.List.{list_all};
 ghost use Rattle.gh_model.specs.Run.{file_of};
@@ -235,17 +235,25 @@ pub(crate) fn cpus(alloc: Global, rows: &[CpuRow]) -> Result<Sequence<CpuRow>, N
     Ok(Sequence::from_vec(cpus))
 }
 
+/// The CPUs before their first calls.
+fn cpu_runs(alloc: Global, rows: &[CpuRow]) -> Result<Sequence<CpuRun>, NoMemory>
+    ensures { IfOk result (λ runs. runs ≡ map cpu_start rows.now) }
+{
+    let runs: Vec<CpuRun> = rows.iter().map(|row| cpu_run(row)).collect(alloc)?;
+    Ok(Sequence::from_vec(runs))
+}
+
 /// The run before its first call.
 fn start(alloc: Global, plain: Plain) -> Result<Running, NoMemory>
     ensures { IfOk result (λ run. run ≡ run_start plain) }
 {
     let rows = cpus(alloc, plain.state().cpus.as_slice())?;
-    let cpus: Vec<CpuRun> = rows.as_slice().iter().map(|row| cpu_run(row)).collect(alloc)?;
+    let cpus = cpu_runs(alloc, rows.as_slice())?;
     Ok(Running {
         plain,
         entries: Sequence::new(alloc),
         marks: Sequence::new(alloc),
-        cpus: Sequence::from_vec(cpus),
+        cpus,
     })
 }
 
