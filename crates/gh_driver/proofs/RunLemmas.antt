@@ -19,7 +19,7 @@ use Rattle.gh_model.specs.Registers.{call_of, needs_of}
 use Rattle.gh_model.specs.Program.{next_frame, is_exit}
 use Rattle.gh_model.specs.Run.{file_of}
 use Rattle.gh_model.specs.Calls.{Called, by_verdict, by_looks, by_shape, call_with, next_call, look_all, no_looks, turn, turn_of, turns, round, rounds, has_ended, with_call, after_called, after_mark, after_call_reply, stays, entries_of, IsPaced, IsBounded}
-use Rattle.gh_model.proofs.CallsLemmas.{call_entries}
+use Rattle.gh_model.proofs.CallsLemmas.{call_entries, turns_step, rounds_none, rounds_step}
 use Rattle.gh_model.proofs.Tests.{and-first, and-second}
 
 -- a call's frame is the one that was made
@@ -177,3 +177,25 @@ pub rounds_ended : (n : ℕ) (files : List (List Line)) (w : Running) → list_a
 unfolding rounds
 rounds_ended zero files w all = refl
 rounds_ended (suc n) files w all = ap (λ (v : Running). rounds n files v) (turns_ended files w 0 (length w.cpus) all) ∙ rounds_ended n files w all
+
+-- a turn along a round of so many, and what it keeps
+pub along_turns : (files : List (List Line)) (w new all : Running) (at n : ℕ) → at < n → new ≡ turn files w at → turns files w at (n - at) ≡ all → turns files new (at + 1) (n - (at + 1)) ≡ all
+along_turns files w new all at n within is rest =
+    ap (λ (v : Running). turns files v (at + 1) (n - (at + 1))) is ∙ sym (turns_step files w at n within) ∙ rest
+
+pub turn_along : (files : List (List Line)) (w new : Running) (at : ℕ) → new ≡ turn files w at → IsBounded w → Steps w new
+turn_along files w new at is bounded = subst (λ (v : Running). Steps w v) (sym is) (turn_steps files w at bounded)
+
+-- a round along a run of so many
+pub along_rounds : (files : List (List Line)) (w new all : Running) (at n : ℕ) → at < n → new ≡ round files w → rounds (n - at) files w ≡ all → rounds (n - (at + 1)) files new ≡ all
+along_rounds files w new all at n within is rest =
+    ap (λ (v : Running). rounds (n - (at + 1)) files v) is ∙ sym (rounds_step n at files w within) ∙ rest
+
+-- no round is left
+pub rounds_past : (files : List (List Line)) (w all : Running) (at n : ℕ) → n ≤ at → rounds (n - at) files w ≡ all → w ≡ all
+rounds_past files w all at n past rest =
+    let none : n - at ≡ 0 = omega arith in
+    sym (ap (λ (left : ℕ). rounds left files w) none ∙ rounds_none files w) ∙ rest
+
+pub rounds_still : (files : List (List Line)) (w all : Running) (left : ℕ) → list_all has_ended w.cpus ≡ true → rounds left files w ≡ all → w ≡ all
+rounds_still files w all left ended rest = sym (rounds_ended left files w ended) ∙ rest
