@@ -197,5 +197,8 @@ rounds_past files w all at n past rest =
     let none : n - at ≡ 0 = omega arith in
     sym (ap (λ (left : ℕ). rounds left files w) none ∙ rounds_none files w) ∙ rest
 
-pub rounds_still : (files : List (List Line)) (w all : Running) (left : ℕ) → list_all has_ended w.cpus ≡ true → rounds left files w ≡ all → w ≡ all
-rounds_still files w all left ended rest = sym (rounds_ended left files w ended) ∙ rest
+-- the rounds that are left change nothing
+pub rounds_still : (files : List (List Line)) (w all : Running) (left : ℕ) (cpus : List CpuRun) (ended : Bool) → cpus ≡ w.cpus → ended ≡ list_all has_ended cpus → ended ≡ true → rounds left files w ≡ all → w ≡ all
+rounds_still files w all left cpus ended same is_ended is rest =
+    let every : list_all has_ended w.cpus ≡ true = ap (λ (xs : List CpuRun). list_all has_ended xs) (sym same) ∙ sym is_ended ∙ is in
+    sym (rounds_ended left files w every) ∙ rest
