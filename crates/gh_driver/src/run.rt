@@ -236,11 +236,11 @@ pub(crate) fn cpus(alloc: Global, rows: &[CpuRow]) -> Result<Sequence<CpuRow>, N
 }
 
 /// The CPUs before their first calls.
-fn cpu_runs(alloc: Global, rows: &[CpuRow]) -> Result<Sequence<CpuRun>, NoMemory>
-    ensures { IfOk result (λ runs. runs ≡ map cpu_start rows.now) }
+fn cpu_runs(alloc: Global, rows: &[CpuRow]) -> Result<Vec<CpuRun>, NoMemory>
+    ensures { IfOk result (λ runs. runs.items ≡ map cpu_start rows.now) }
 {
     let runs: Vec<CpuRun> = rows.iter().map(|row| cpu_run(row)).collect(alloc)?;
-    Ok(Sequence::from_vec(runs))
+    Ok(runs)
 }
 
 /// The run before its first call.
@@ -248,12 +248,12 @@ fn start(alloc: Global, plain: Plain) -> Result<Running, NoMemory>
     ensures { IfOk result (λ run. run ≡ run_start plain) }
 {
     let rows = cpus(alloc, plain.state().cpus.as_slice())?;
-    let cpus = cpu_runs(alloc, rows.as_slice())?;
+    let runs = cpu_runs(alloc, rows.as_slice())?;
     Ok(Running {
         plain,
         entries: Sequence::new(alloc),
         marks: Sequence::new(alloc),
-        cpus,
+        cpus: Sequence::from_vec(runs),
     })
 }
 
