@@ -1,5 +1,6 @@
 -- The CPUs of a boot state, and the run that begins there.
 use Rattle.std.proofs.Common.{◌≡◌, ◌==◌, ◌+◌, ◌≤◌, ◌<◌, ◌∙◌, ℕ, zero, suc, Bool, true, false, List, [], ◌∷◌, ◌++◌, length, fold, filter, map, IsTrue, All, refl, sym, ap, subst, nat_le, nat_lt, if◌then◌else◌, arith, length-append}
+use Rattle.std.proofs.lemmas.Bool.Decides.{nat_tests}
 use Rattle.std.proofs.lemmas.List.{length-map}
 use Rattle.std.proofs.lemmas.List.Elements.{All-map}
 use Rattle.gh_model.specs.declared.boot_line.BootLine.{BootLine}
@@ -66,8 +67,7 @@ fold-entries s (line ∷ lines) = fold-entries (after_line s line) lines ∙ aft
 
 -- the CPUs in order are not more than the rows
 pub one_part : (row : CpuRow) (rows managers vms : List CpuRow) (cpu : ℕ) → length managers + length vms ≤ length rows → length (if cpu == 0 then row ∷ managers else managers) + length (if nat_lt 0 cpu then row ∷ vms else vms) ≤ suc (length rows)
-one_part row rows managers vms zero few = omega arith
-one_part row rows managers vms (suc cpu) few = omega arith
+one_part row rows managers vms cpu few = grind (arith, nat_tests)
 
 pub order_parts : (rows : List CpuRow) → length (filter is_manager rows) + length (filter is_vm rows) ≤ length rows
 order_parts [] = omega arith
@@ -85,12 +85,11 @@ start_bounded lines =
     let none : (boot_state lines).entries ≡ 0 = fold-entries empty_state lines in
     record { made = omega (arith, none); paced = start_paced (cpus_in_order (boot_state lines)) }
 
-pub start_cpus : (lines : List BootLine) → IsTrue (boot_fits lines) → length (run_start (boot_state lines)).cpus ≤ 9
-start_cpus lines fit =
+pub start_cpus : (lines : List BootLine) → length (boot_state lines).cpus ≤ 9 → length (run_start (boot_state lines)).cpus ≤ 9
+start_cpus lines few =
     let rows : List CpuRow = (boot_state lines).cpus in
     let same : length (map cpu_start (rows_in_order rows)) ≡ length (rows_in_order rows) = length-map (rows_in_order rows) cpu_start in
     let fewer : length (rows_in_order rows) ≤ length rows = order_length rows in
-    let few : length rows ≤ 9 = boot_cpus lines fit in
     omega (arith, same, fewer, few)
 
 -- what a run needs before its first round
@@ -99,7 +98,7 @@ pub record IsFresh (w : Running) : Type 0 where
   pub bounded : IsBounded w
   pub calls : w.marks ≡ []
 
-pub start_fresh : (lines : List BootLine) (plain : State) (w : Running) → IsTrue (boot_fits lines) → plain ≡ boot_state lines → w ≡ run_start plain → IsFresh w
-start_fresh lines plain w fit booted begun =
+pub start_fresh : (lines : List BootLine) (plain : State) (w : Running) → length (boot_state lines).cpus ≤ 9 → plain ≡ boot_state lines → w ≡ run_start plain → IsFresh w
+start_fresh lines plain w few booted begun =
     let start : w ≡ run_start (boot_state lines) = begun ∙ ap (λ (s : State). run_start s) booted in
-    subst (λ (v : Running). IsFresh v) (sym start) (record { cpus = start_cpus lines fit; bounded = start_bounded lines; calls = refl })
+    subst (λ (v : Running). IsFresh v) (sym start) (record { cpus = start_cpus lines few; bounded = start_bounded lines; calls = refl })

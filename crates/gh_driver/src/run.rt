@@ -3,6 +3,7 @@
 ghost use Rattle.std.specs.Prelude.{◌≡◌, ◌+◌, ◌*◌, ◌<◌, ◌≤◌, ◌^◌, [], ◌++◌, false, Some, drop, length, map, slice_get, IfOk, OnOk, OnErr};
 ghost use Rattle.std.specs.Bool.{OnTrue};
 ghost use Rattle.std.specs.List.{list_all};
+ghost use Rattle.gh_model.specs.Boot.{boot_state};
 ghost use Rattle.gh_model.specs.Run.{file_of};
 ghost use Rattle.gh_model.specs.Program.{asks_again, last_number};
 ghost use Rattle.gh_model.specs.Calls.{after_mark, after_call_reply, place_after_mark, times_of, stays, turn as turn_of, round as round_of, rounds, cpu_start, rows_in_order, has_ended, run_start, run_of, entries_of, IsBounded};
@@ -257,6 +258,14 @@ fn start(alloc: Global, plain: Plain) -> Result<Running, NoMemory>
     })
 }
 
+/// A boot file makes at most nine CPUs.
+#[tactic(auto, using(crate::proofs::BootLemmas::boot_cpus))]
+fn few_cpus(boot: &Boot)
+    ensures { length (boot_state boot.now).cpus ≤ 9 }
+{
+    let _lines = boot.lines();
+}
+
 /// Runs the programs of the call files: the CPUs in rising order each make one call, round after round,
 /// until all have ended.
 pub fn run_step(alloc: Global, boot: &Boot, files: &[Sequence<Line>]) -> Result<Finished, NoMemory>
@@ -264,6 +273,7 @@ pub fn run_step(alloc: Global, boot: &Boot, files: &[Sequence<Line>]) -> Result<
     ensures marks { IfOk result (λ done. done.marks ≡ (run_of boot.now files.now).marks) }
     ensures state { IfOk result (λ done. done.state ≡ (run_of boot.now files.now).plain) }
 {
+    few_cpus(boot);
     let plain = Plain::boot(alloc, boot)?;
     let mut run = start(alloc, plain)?;
     run_rounds(alloc, &mut run, files)?;
