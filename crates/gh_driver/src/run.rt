@@ -1,8 +1,9 @@
 //! A run by whole calls.
 
-ghost use Rattle.std.specs.Prelude.{◌≡◌, ◌+◌, ◌*◌, ◌<◌, ◌≤◌, ◌^◌, [], ◌++◌, drop, length, slice_get, IfOk, OnOk, OnErr};
+ghost use Rattle.std.specs.Prelude.{◌≡◌, ◌+◌, ◌*◌, ◌<◌, ◌≤◌, ◌^◌, [], ◌++◌, false, Some, drop, length, map, slice_get, IfOk, OnOk, OnErr};
 ghost use Rattle.std.specs.Bool.{OnTrue};
 ghost use Rattle.std.specs.List.{list_all};
+ghost use Rattle.gh_model.specs.Boot.{boot_state};
 ghost use Rattle.gh_model.specs.Run.{file_of};
 ghost use Rattle.gh_model.specs.Program.{asks_again, last_number};
 ghost use Rattle.gh_model.specs.Calls.{after_mark, after_call_reply, place_after_mark, times_of, stays, turn as turn_of, round as round_of, rounds, cpu_start, rows_in_order, has_ended, run_start, run_of, entries_of, IsBounded};
@@ -123,20 +124,22 @@ fn record(history: &mut Sequence<Entry>, mark: &Mark) -> Result<(), NoMemory>
     }
 }
 
-/// The turn of a CPU: a call, unless it has ended.
-fn turn(alloc: Global, run: &mut Running, files: &[Sequence<Line>], at: usize) -> Result<(), NoMemory>
-    requires within { at < length run.old.cpus }
-    requires bounded { IsBounded run.old }
-    requires calls { length run.old.marks < 4128768 }
-    ensures run { OnOk result (run.new ≡ turn_of files.now run.old at) }
-    ensures bounded { OnOk result (IsBounded run.new) }
-    ensures calls { OnOk result (length run.new.marks ≤ length run.old.marks + 1) }
-    ensures cpus { OnOk result (length run.new.cpus ≡ length run.old.cpus) }
+/// The call of a CPU that hasn't ended.
+fn make_turn(
+    alloc: Global,
+    run: &mut Running,
+    files: &[Sequence<Line>],
+    at: usize,
+    c: CpuRun,
+) -> Result<(), NoMemory>
+    requires cpu { slice_get run.old.cpus at ≡ Some c }
+    requires going { c.ended ≡ false }
+    requires entries { run.old.plain.entries < 4294963200 }
+    requires number { c.number < 4294967295 }
+    requires sections { c.sections < 4294967295 }
+    requires line { c.at < 2 ^ 63 }
+    ensures { OnOk result (run.new ≡ turn_of files.now run.old at) }
 {
-    let c = run.cpus.as_slice()[at];
-    if c.ended {
-        return Ok(());
-    }
     let lines = lines_of(files, c.cpu);
     let exits = next_exits(&c, lines);
     let mark = make_call(alloc, &mut run.plain, &c, lines)?;
@@ -145,6 +148,20 @@ fn turn(alloc: Global, run: &mut Running, files: &[Sequence<Line>], at: usize) -
     run.marks.push(mark)?;
     run.cpus.set(at, next);
     Ok(())
+}
+
+/// The turn of a CPU: a call, unless it has ended.
+fn turn(alloc: Global, run: &mut Running, files: &[Sequence<Line>], at: usize) -> Result<(), NoMemory>
+    requires within { at < length run.old.cpus }
+    requires bounded { IsBounded run.old }
+    requires calls { length run.old.marks < 4128768 }
+    ensures { OnOk result (run.new ≡ turn_of files.now run.old at) }
+{
+    let c = run.cpus.as_slice()[at];
+    if c.ended {
+        return Ok(());
+    }
+    make_turn(alloc, run, files, at, c)
 }
 
 /// One round: each CPU in turn.
@@ -176,7 +193,7 @@ fn run_rounds(alloc: Global, run: &mut Running, files: &[Sequence<Line>]) -> Res
     requires calls { run.old.marks ≡ [] }
     ensures { OnOk result (run.new ≡ rounds last_number files.now run.old) }
 {
-    for _ in 0..CALL_NUMBERS {
+    for done in 0..CALL_NUMBERS {
         if all_ended(run.cpus.as_slice()) {
             return Ok(());
         }
@@ -219,18 +236,34 @@ pub(crate) fn cpus(alloc: Global, rows: &[CpuRow]) -> Result<Sequence<CpuRow>, N
     Ok(Sequence::from_vec(cpus))
 }
 
+/// The CPUs before their first calls.
+fn cpu_runs(alloc: Global, rows: &[CpuRow]) -> Result<Vec<CpuRun>, NoMemory>
+    ensures { IfOk result (λ runs. runs.items ≡ map cpu_start rows.now) }
+{
+    let runs: Vec<CpuRun> = rows.iter().map(|row| cpu_run(row)).collect(alloc)?;
+    Ok(runs)
+}
+
 /// The run before its first call.
 fn start(alloc: Global, plain: Plain) -> Result<Running, NoMemory>
     ensures { IfOk result (λ run. run ≡ run_start plain) }
 {
     let rows = cpus(alloc, plain.state().cpus.as_slice())?;
-    let cpus: Vec<CpuRun> = rows.as_slice().iter().map(|row| cpu_run(row)).collect(alloc)?;
+    let runs = cpu_runs(alloc, rows.as_slice())?;
     Ok(Running {
         plain,
         entries: Sequence::new(alloc),
         marks: Sequence::new(alloc),
-        cpus: Sequence::from_vec(cpus),
+        cpus: Sequence::from_vec(runs),
     })
+}
+
+/// A boot file makes at most nine CPUs.
+#[tactic(auto, using(crate::proofs::BootLemmas::boot_cpus))]
+fn few_cpus(boot: &Boot)
+    ensures { length (boot_state boot.now).cpus ≤ 9 }
+{
+    let _lines = boot.lines();
 }
 
 /// Runs the programs of the call files: the CPUs in rising order each make one call, round after round,
@@ -240,6 +273,7 @@ pub fn run_step(alloc: Global, boot: &Boot, files: &[Sequence<Line>]) -> Result<
     ensures marks { IfOk result (λ done. done.marks ≡ (run_of boot.now files.now).marks) }
     ensures state { IfOk result (λ done. done.state ≡ (run_of boot.now files.now).plain) }
 {
+    few_cpus(boot);
     let plain = Plain::boot(alloc, boot)?;
     let mut run = start(alloc, plain)?;
     run_rounds(alloc, &mut run, files)?;

@@ -1,0 +1,3 @@
+pub mod BootLemmas
+pub mod RunLemmas
+pub mod TextLemmas

@@ -1,0 +1,49 @@
+-- Pages one after the other, and the runs that they make.
+use Rattle.std.proofs.Common.{◌≡◌, ◌+◌, ◌-◌, ◌<◌, ◌≤◌, ◌++◌, ◌∙◌, ℕ, Bool, true, false, zero, suc, List, [], ◌∷◌, Option, Some, None, refl, sym, ap, subst, arith, append_assoc, if◌then◌else◌}
+use Rattle.gh_model.specs.declared.access.PageRun.{PageRun}
+use Rattle.gh_model.specs.declared.state.State.{State}
+use Rattle.gh_model.specs.Access.{access_at}
+use Rattle.gh_model.specs.Text.{pages_from, runs_from, ended_run, open_run, goes_on, goes_on_with, longer, new_run}
+
+pub pages_none : (page : ℕ) → pages_from page 0 ≡ []
+unfolding pages_from
+pages_none page = refl
+
+pub pages_more : (page more : ℕ) → pages_from page (suc more) ≡ page ∷ pages_from (page + 1) more
+unfolding pages_from
+pages_more page more = refl
+
+-- the pages that are left begin with the next
+pub pages_left : (page count : ℕ) → page < count → pages_from page (count - page) ≡ page ∷ pages_from (page + 1) (count - (page + 1))
+pages_left page count within =
+    let more : count - page ≡ suc (count - (page + 1)) = omega arith in
+    rw more (pages_more page (count - (page + 1)))
+
+-- a run has no more pages than came before
+pub longer_or_new : (run : PageRun) (page : ℕ) (found : ℕ × ℕ) (goes : Bool) → run.count ≤ page → (if goes then longer run else new_run page found).count ≤ page + 1
+longer_or_new run page found true most = omega arith
+longer_or_new run page found false most = omega arith
+
+pub open_run-count : (run : PageRun) (page : ℕ) (found : Option (ℕ × ℕ)) → run.count ≤ page → (open_run run page found).count ≤ page + 1
+open_run-count run page None most = omega arith
+open_run-count run page (Some found) most = longer_or_new run page found (goes_on run found) most
+
+-- the runs that are left begin with what the next page ends
+pub runs_left : (s : State) (space : ℕ) (run : PageRun) (page count : ℕ) → page < count → runs_from s space run (pages_from page (count - page)) ≡ ended_run space run (goes_on_with run (access_at s space page)) ++ runs_from s space (open_run run page (access_at s space page)) (pages_from (page + 1) (count - (page + 1)))
+runs_left s space run page count within = ap (λ (pages : List ℕ). runs_from s space run pages) (pages_left page count within)
+
+-- behind the last page the open run is left
+pub runs_none : (s : State) (space : ℕ) (run : PageRun) (page count : ℕ) → count ≤ page → runs_from s space run (pages_from page (count - page)) ≡ ended_run space run false
+runs_none s space run page count past =
+    let none : count - page ≡ 0 = omega arith in
+    ap (λ (pages : List ℕ). runs_from s space run pages) (ap (λ (n : ℕ). pages_from page n) none ∙ pages_none page)
+
+-- a page's step: what it ends is written, and the rest has the run that is open behind it
+pub page_step : (s : State) (space : ℕ) (run : PageRun) (page count : ℕ) (found : Option (ℕ × ℕ)) (goes : Bool) (next : PageRun) (old out all : List ℕ) → page < count → found ≡ access_at s space page → goes ≡ goes_on_with run found → next ≡ open_run run page found → out ≡ old ++ ended_run space run goes → old ++ runs_from s space run (pages_from page (count - page)) ≡ all → out ++ runs_from s space next (pages_from (page + 1) (count - (page + 1))) ≡ all
+page_step s space run page count found goes next old out all within is_found is_goes is_next put rest =
+    rw (put, is_next, is_goes, is_found) (append_assoc old _ _ ∙ (ap (λ (text : List ℕ). old ++ text) (sym (runs_left s space run page count within)) ∙ rest))
+
+-- behind the last page the open run ends
+pub page_end : (s : State) (space : ℕ) (run : PageRun) (page count : ℕ) (old out all : List ℕ) → count ≤ page → out ≡ old ++ ended_run space run false → old ++ runs_from s space run (pages_from page (count - page)) ≡ all → out ≡ all
+page_end s space run page count old out all past put rest =
+    put ∙ ap (λ (text : List ℕ). old ++ text) (sym (runs_none s space run page count past)) ∙ rest
