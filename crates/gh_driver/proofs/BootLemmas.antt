@@ -1,12 +1,11 @@
 -- The CPUs of a boot state, and the run that begins there.
-use Rattle.std.proofs.Common.{◌≡◌, ◌==◌, ◌+◌, ◌≤◌, ◌<◌, ◌∙◌, ℕ, zero, suc, Bool, true, false, List, [], ◌∷◌, ◌++◌, length, fold, filter, map, IsTrue, All, refl, sym, ap, subst, nat_le, nat_lt, if◌then◌else◌, arith, length-append}
+use Rattle.std.proofs.Common.{◌≡◌, ◌==◌, ◌+◌, ◌≤◌, ◌∙◌, ℕ, suc, List, [], ◌∷◌, ◌++◌, length, fold, filter, map, IsTrue, All, refl, sym, ap, subst, nat_le, nat_lt, if◌then◌else◌, arith, length-append}
 use Rattle.std.proofs.lemmas.Bool.Decides.{nat_tests}
 use Rattle.std.proofs.lemmas.List.{length-map}
 use Rattle.std.proofs.lemmas.List.Elements.{All-map}
 use Rattle.gh_model.specs.declared.boot_line.BootLine.{BootLine}
 use Rattle.gh_model.specs.declared.boot_line.BootLine.TheVariants.{Pages, Partition, Cspace, Addrspace, Doorbell, RootExtent, Extent, Msgqueue, Map, Cap, Vm, Rm, Link}
 use Rattle.gh_model.specs.declared.rows.CpuRow.{CpuRow}
-use Rattle.gh_model.specs.declared.running.CpuRun.{CpuRun}
 use Rattle.gh_model.specs.declared.running.Running.{Running}
 use Rattle.gh_model.specs.declared.state.State.{State}
 use Rattle.gh_model.specs.Boot.{line_fits, lines_fit, after_line, empty_state, boot_state, boot_fits, is_complete, is_vm}

@@ -144,7 +144,7 @@ call_steps w at c lines called entry paced bounded =
     record {
       bounded = record { made = omega (arith, one); paced = subst (λ (calls : ℕ). All (IsPaced calls) (slice_set w.cpus at (after_called c lines called))) (sym one) all };
       calls = omega (arith, one);
-      cpus = length-set w.cpus at (after_called c lines called)
+      cpus = length-set w.cpus at (after_called c lines called);
     }
 
 pub unless_ended : (w x : Running) (ended : Bool) → Steps w w → Steps w x → Steps w (if ended then w else x)

@@ -1,5 +1,5 @@
 -- Pages one after the other, and the runs that they make.
-use Rattle.std.proofs.Common.{◌≡◌, ◌+◌, ◌-◌, ◌<◌, ◌≤◌, ◌++◌, ◌∙◌, ℕ, Bool, true, false, zero, suc, List, [], ◌∷◌, Option, Some, None, refl, sym, ap, subst, arith, append_assoc, if◌then◌else◌}
+use Rattle.std.proofs.Common.{◌≡◌, ◌+◌, ◌-◌, ◌<◌, ◌≤◌, ◌++◌, ◌∙◌, ℕ, Bool, true, false, suc, List, [], ◌∷◌, Option, Some, None, refl, sym, ap, arith, append_assoc, if◌then◌else◌}
 use Rattle.gh_model.specs.declared.access.PageRun.{PageRun}
 use Rattle.gh_model.specs.declared.state.State.{State}
 use Rattle.gh_model.specs.Access.{access_at}

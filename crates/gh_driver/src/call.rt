@@ -56,7 +56,14 @@ fn refused_end(alloc: Global, call: &Call, reply: &Reply, place: u32) -> End
 }
 
 /// The act, once all looks have granted.
-fn acted(alloc: Global, plain: &mut Plain, c: &CpuRun, frame: &Frame, call: &Call, looked: Looked) -> Result<Mark, NoMemory>
+fn acted(
+    alloc: Global,
+    plain: &mut Plain,
+    c: &CpuRun,
+    frame: &Frame,
+    call: &Call,
+    looked: Looked,
+) -> Result<Mark, NoMemory>
     requires entries { plain.old.entries < 4294963200 }
     requires number { c.now.number < 4294967295 }
     ensures mark { IfOk result (λ mark. mark ≡ (by_looks plain.old c.now frame.now call.now looked None).mark) }
@@ -76,7 +83,13 @@ fn acted(alloc: Global, plain: &mut Plain, c: &CpuRun, frame: &Frame, call: &Cal
 }
 
 /// The looks and the act of a frame that is well formed.
-fn looked_up(alloc: Global, plain: &mut Plain, c: &CpuRun, frame: &Frame, call: &Call) -> Result<Mark, NoMemory>
+fn looked_up(
+    alloc: Global,
+    plain: &mut Plain,
+    c: &CpuRun,
+    frame: &Frame,
+    call: &Call,
+) -> Result<Mark, NoMemory>
     requires entries { plain.old.entries < 4294963200 }
     requires number { c.now.number < 4294967295 }
     ensures mark { IfOk result (λ mark. mark ≡ (by_shape plain.old c.now frame.now (Ok call.now)).mark) }
@@ -146,7 +159,12 @@ pub(crate) fn next_exits(c: &CpuRun, lines: &[Line]) -> bool
 }
 
 /// The CPU's next call.
-pub(crate) fn make_call(alloc: Global, plain: &mut Plain, c: &CpuRun, lines: &[Line]) -> Result<Mark, NoMemory>
+pub(crate) fn make_call(
+    alloc: Global,
+    plain: &mut Plain,
+    c: &CpuRun,
+    lines: &[Line],
+) -> Result<Mark, NoMemory>
     requires entries { plain.old.entries < 4294963200 }
     requires number { c.now.number < 4294967295 }
     ensures mark { IfOk result (λ mark. mark ≡ (next_call plain.old c.now lines.now).mark) }

@@ -10,7 +10,7 @@ ghost use Rattle.gh_model.specs.Calls.{after_mark, after_call_reply, place_after
 
 use crate::call::{make_call, next_exits};
 use gh_base::{CALL_NUMBERS, CpuNo, End, Errno, Mark, NoMemory, Reply, Sequence};
-use gh_model::{Boot, CpuRun, CpuRow, Entry, Line, Plain, Running};
+use gh_model::{Boot, CpuRow, CpuRun, Entry, Line, Plain, Running};
 use std::alloc::Global;
 
 /// What a run came to.
@@ -151,7 +151,12 @@ fn make_turn(
 }
 
 /// The turn of a CPU: a call, unless it has ended.
-fn turn(alloc: Global, run: &mut Running, files: &[Sequence<Line>], at: usize) -> Result<(), NoMemory>
+fn turn(
+    alloc: Global,
+    run: &mut Running,
+    files: &[Sequence<Line>],
+    at: usize,
+) -> Result<(), NoMemory>
     requires within { at < length run.old.cpus }
     requires bounded { IsBounded run.old }
     requires calls { length run.old.marks < 4128768 }

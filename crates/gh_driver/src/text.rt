@@ -43,7 +43,13 @@ fn put_counters(out: &mut String, seen: &[u64]) -> Result<(), NoMemory>
     Ok(())
 }
 
-fn put_part(out: &mut String, cpu: CpuNo, number: u32, space: Serial, slot: u8) -> Result<(), NoMemory>
+fn put_part(
+    out: &mut String,
+    cpu: CpuNo,
+    number: u32,
+    space: Serial,
+    slot: u8,
+) -> Result<(), NoMemory>
     ensures { OnOk result (string_bytes out.new ≡ string_bytes out.old ++ entry_words (Entry.Part cpu number space slot)) }
 {
     out.push_str(" part")?;

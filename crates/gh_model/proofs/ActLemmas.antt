@@ -1,14 +1,13 @@
 -- What an act keeps, and what a refused act answers.
-use Rattle.std.proofs.Common.{◌≡◌, ◌≢◌, ◌==◌, ◌+◌, ℕ, Bool, true, false, List, [], ◌∷◌, refl, subst, sym, slice_index, not, if◌then◌else◌}
-use Rattle.gh_base.specs.Reply.{refusal, register_reply}
+use Rattle.std.proofs.Common.{◌≡◌, ◌≢◌, ◌==◌, ◌+◌, ℕ, Bool, true, false, List, [], refl, subst, slice_index, not, if◌then◌else◌}
+use Rattle.gh_base.specs.Reply.{refusal}
 use Rattle.gh_base.specs.declared.call.Call.{Call}
 use Rattle.gh_base.specs.declared.call.Call.TheVariants.{Identify, Exit, BellSend, Create, ConfigurePartition, ConfigureQueue}
-use Rattle.gh_base.specs.declared.errno.Errno.{Errno}
 use Rattle.gh_base.specs.declared.errno.Errno.TheVariants.{Unimplemented, CapRevoked, ObjState}
 use Rattle.gh_base.specs.declared.frame.Reply.{Reply}
 use Rattle.gh_base.specs.declared.ids.Serial.{Serial}
 use Rattle.gh_model.specs.declared.state.State.{State}
-use Rattle.gh_model.specs.Act.{Verdict, Done, Refused, act, effect, counted, any_doomed, all_active, identified, with_bell_flags, with_exit, first_grant}
+use Rattle.gh_model.specs.Act.{Verdict, Done, Refused, act, effect, counted, any_doomed, all_active, with_bell_flags, with_exit, first_grant}
 use Rattle.gh_model.specs.Legal.{is_short}
 
 -- one entry more, and no slot set

@@ -1,11 +1,9 @@
 -- Whole calls, turns and rounds.
-use Rattle.std.proofs.Common.{◌≡◌, ◌==◌, ◌+◌, ◌-◌, ◌<◌, ◌≤◌, ◌∙◌, ℕ, zero, suc, Bool, true, false, List, [], ◌∷◌, ◌++◌, length, refl, subst, sym, ap, arith, Option, Some, None, Result, Ok, Err, slice_get, slice_set, get_or, All, if◌then◌else◌, length-append, length-set}
-use Rattle.std.specs.List.{list_all}
+use Rattle.std.proofs.Common.{◌≡◌, ◌+◌, ◌-◌, ◌<◌, ◌≤◌, ℕ, suc, List, refl, arith, Option, Some, None, Result, Ok, Err}
 use Rattle.gh_base.specs.declared.call.Call.{Call}
 use Rattle.gh_base.specs.declared.errno.Errno.{Errno}
 use Rattle.gh_base.specs.declared.frame.Frame.{Frame}
 use Rattle.gh_base.specs.declared.frame.Reply.{Reply}
-use Rattle.gh_base.specs.declared.mark.Mark.{Mark}
 use Rattle.gh_model.specs.declared.program.Line.{Line}
 use Rattle.gh_model.specs.declared.running.CpuRun.{CpuRun}
 use Rattle.gh_model.specs.declared.running.Looked.{Looked}
@@ -13,9 +11,8 @@ use Rattle.gh_model.specs.declared.running.Running.{Running}
 use Rattle.gh_model.specs.declared.state.State.{State}
 use Rattle.gh_model.specs.Act.{Verdict, Done, Refused, judge, granted}
 use Rattle.gh_model.specs.Registers.{call_of, needs_of}
-use Rattle.gh_model.specs.Run.{file_of}
-use Rattle.gh_model.specs.Calls.{Called, by_verdict, by_looks, by_shape, call_with, next_call, look_all, no_looks, turn, turn_of, turns, round, rounds, has_ended, with_call, after_called}
-use Rattle.gh_model.proofs.ActLemmas.{act_keeps, Keeps}
+use Rattle.gh_model.specs.Calls.{by_verdict, by_looks, by_shape, call_with, look_all, no_looks, turn, turns, round, rounds}
+use Rattle.gh_model.proofs.ActLemmas.{act_keeps}
 use Rattle.std.specs.Prelude.{map}
 
 -- a call makes at most one entry

@@ -1,10 +1,9 @@
 -- The looks of a whole call are legal: each finds the word of its slot at its place.
-use Rattle.std.proofs.Common.{◌≡◌, ◌==◌, ◌+◌, ◌<◌, ◌≤◌, ◌∙◌, ℕ, Bool, true, false, List, [], ◌∷◌, ◌++◌, length, refl, subst, sym, ap, arith, Option, Some, None, Result, Ok, Err, max, not, if◌then◌else◌, append_assoc}
+use Rattle.std.proofs.Common.{◌≡◌, ◌≤◌, ◌∙◌, ℕ, Bool, true, false, List, [], ◌∷◌, ◌++◌, length, refl, subst, sym, ap, arith, Option, Some, None, Result, Ok, Err, max, not, if◌then◌else◌, append_assoc}
 use Rattle.std.proofs.Common.{◌-◌, suc, get_or, slice_get}
 use Rattle.std.proofs.lemmas.Option.{slice_get-get_or}
 use Rattle.std.proofs.lemmas.List.{append-nil}
-use Rattle.std.specs.List.{last_or}
-use Rattle.std.specs.Prelude.{◌&&◌, ◌||◌, map}
+use Rattle.std.specs.Prelude.{◌&&◌, ◌||◌}
 use Rattle.gh_base.specs.Reply.{refusal}
 use Rattle.gh_base.specs.declared.cap_word.Look.{Look}
 use Rattle.gh_base.specs.declared.cap_word.Need.{Need}
@@ -18,7 +17,7 @@ use Rattle.gh_model.specs.declared.rows.CapabilityRow.{CapabilityRow}
 use Rattle.gh_model.specs.declared.running.Looked.{Looked}
 use Rattle.gh_model.specs.declared.state.State.{State}
 use Rattle.gh_model.specs.declared.word.Word.{Word}
-use Rattle.gh_model.specs.Word.{word_at, look_reply, slot_reply, grant_reply, kind_fits, rights_fit, bits_of, row_bits, Shows, ShowsRow}
+use Rattle.gh_model.specs.Word.{word_at, look_reply, slot_reply, kind_fits, rights_fit, bits_of, row_bits, Shows, ShowsRow}
 use Rattle.gh_model.specs.History.{Event, state_at, grants_fit, row_fits}
 use Rattle.gh_model.specs.Marks.{found_word, found_words, look_place, place_after_looks}
 use Rattle.gh_model.specs.Legal.{LookIs, LooksAre, LookAnswers, AfterGrant, EndsInAct}

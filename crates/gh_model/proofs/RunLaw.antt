@@ -1,44 +1,30 @@
 -- A run by whole calls of one CPU is legal, graced, and follows its program.
-use Rattle.std.proofs.Common.{◌≡◌, ◌≢◌, ◌==◌, ◌+◌, ◌*◌, ◌-◌, ◌<◌, ◌≤◌, ◌∙◌, ℕ, zero, suc, Bool, true, false, not, List, [], ◌∷◌, ◌++◌, ◌⊎◌, inl, inr, length, take, drop, refl, subst, sym, ap, arith, Option, Some, None, Result, Ok, Err, slice_get, slice_index, map, fold, max, find, IsTrue, IsSome, if◌then◌else◌, append_assoc, add-zero, add-one}
-use Rattle.std.proofs.lemmas.List.{append-nil, take-append-le, length-append, map-append}
-use Rattle.std.proofs.Math.Seq.{take-append_seam}
+use Rattle.std.proofs.Common.{◌≡◌, ◌==◌, ◌+◌, ◌*◌, ◌-◌, ◌<◌, ◌≤◌, ◌∙◌, ℕ, Bool, false, List, [], ◌∷◌, ◌++◌, ◌⊎◌, inl, inr, length, take, drop, refl, subst, sym, ap, arith, Option, Some, None, Result, Ok, Err, slice_get, map, if◌then◌else◌, append_assoc}
+use Rattle.std.proofs.lemmas.List.{take-append-le, length-append}
 use Rattle.std.proofs.lemmas.List.Sums.{fold-append}
-use Rattle.std.specs.Prelude.{◌&&◌, ◌||◌, count_by, filter}
-use Rattle.std.specs.List.{last_or}
 use Rattle.gh_base.specs.Reply.{refusal}
 use Rattle.gh_base.specs.declared.call.Call.{Call}
-use Rattle.gh_base.specs.declared.cap_word.Need.{Need}
 use Rattle.gh_base.specs.declared.errno.Errno.{Errno}
 use Rattle.gh_base.specs.declared.frame.Frame.{Frame}
 use Rattle.gh_base.specs.declared.frame.Reply.{Reply}
-use Rattle.gh_base.specs.declared.ids.CpuNo.{CpuNo}
-use Rattle.gh_base.specs.declared.ids.Serial.{Serial}
-use Rattle.gh_base.specs.declared.mark.Mark.{Mark}
 use Rattle.gh_base.specs.declared.mark.End.{End}
 use Rattle.gh_base.specs.declared.mark.End.TheVariants as ends
-use Rattle.gh_base.specs.declared.cap_word.Look.{Look}
-use Rattle.gh_model.specs.declared.entry.Entry.{Entry}
-use Rattle.gh_model.specs.declared.entry.Entry.TheVariants.{Acted, Part, Retired, Reclaimed}
+use Rattle.gh_model.specs.declared.entry.Entry.TheVariants.{Acted}
 use Rattle.gh_model.specs.declared.program.Line.{Line}
-use Rattle.gh_model.specs.declared.rows.CapabilityRow.{CapabilityRow}
-use Rattle.gh_model.specs.declared.rows.SetAtRow.{SetAtRow}
 use Rattle.gh_model.specs.declared.running.CpuRun.{CpuRun}
 use Rattle.gh_model.specs.declared.running.Looked.{Looked}
-use Rattle.gh_model.specs.declared.running.Running.{Running}
 use Rattle.gh_model.specs.declared.state.State.{State}
 use Rattle.gh_model.specs.declared.word.Word.{Word}
-use Rattle.gh_model.specs.Word.{word_at, is_slot, setting, setting_number}
-use Rattle.gh_model.specs.Rows.{fills, tells_setting, cpu_row}
 use Rattle.gh_model.specs.Registers.{call_of, needs_of}
 use Rattle.gh_model.specs.Act.{Verdict, Done, Refused, judge, granted}
-use Rattle.gh_model.specs.History.{Event, after_event, after_call, after_verdict, numbered, grants_fit, replay, state_at, acted}
-use Rattle.gh_model.specs.Marks.{Made, InTurn, place_after, place_after_end, place_after_looks, place_after_mark, has_looks, section_after, cspace_of, found_word, found_words, is_entry_end, ends_with, event_of}
-use Rattle.gh_model.specs.Legal.{FrameIs, EndIs, IsEntryAt, IsRefusedAt, LooksAre, CallIs, KeepsGrants, EntryIs, reclaims, is_short, ends_in_exit}
-use Rattle.gh_model.specs.Program.{next_frame, exit_frame, is_exit, frames_from, start, last_number}
-use Rattle.gh_model.specs.Calls.{Called, call_mark, unmade, act_end, by_verdict, by_looks, by_shape, call_with, next_call, look_all, no_looks, after_called, after_mark, after_call_reply}
-use Rattle.gh_model.proofs.ActLemmas.{Keeps, act_keeps, act_refuses, IsRefusal}
+use Rattle.gh_model.specs.History.{Event, after_event, after_call, after_verdict, replay, state_at}
+use Rattle.gh_model.specs.Marks.{Made, place_after_mark, found_words, is_entry_end, event_of}
+use Rattle.gh_model.specs.Legal.{FrameIs, is_short}
+use Rattle.gh_model.specs.Program.{next_frame}
+use Rattle.gh_model.specs.Calls.{Called, call_mark, unmade, by_verdict, by_looks, by_shape, next_call, no_looks, after_called}
+use Rattle.gh_model.proofs.ActLemmas.{Keeps, act_keeps, act_refuses}
 use Rattle.gh_model.proofs.LooksLaw.{fresh, look_all_is, EndsAs, Sees, looks_are, words_are, place_stays, place_after_fresh, grants_are}
-use Rattle.gh_model.proofs.RunLists.{snoc_cases, slice_get_left, slice_get_seam, in_turn_snoc, count_snoc, last_or_snoc, position_after, position_snoc, frames_snoc, position_of, moves}
+use Rattle.gh_model.proofs.RunLists.{slice_get_left, slice_get_seam}
 
 -- a run of one CPU, with the frames and words of its calls
 pub record Solo : Type 0 where

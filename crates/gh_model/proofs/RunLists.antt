@@ -1,16 +1,15 @@
 -- Lists that grow at their end, and programs along their replies.
-use Rattle.std.proofs.Common.{◌≡◌, ◌==◌, ◌+◌, ◌-◌, ◌<◌, ◌≤◌, ◌∙◌, ℕ, zero, suc, Bool, true, false, List, [], ◌∷◌, ◌++◌, ◌⊎◌, inl, inr, length, take, drop, refl, subst, sym, ap, arith, Option, Some, None, slice_get, map, fold, if◌then◌else◌, append_assoc, add-zero, add-one}
-use Rattle.std.proofs.lemmas.List.{append-nil, take-append-le}
+use Rattle.std.proofs.Common.{◌≡◌, ◌==◌, ◌+◌, ◌<◌, ℕ, zero, suc, Bool, true, false, List, [], ◌∷◌, ◌++◌, ◌⊎◌, inl, inr, length, take, drop, refl, subst, sym, ap, arith, Option, Some, slice_get, if◌then◌else◌, add-zero}
+use Rattle.std.proofs.lemmas.List.{take-append-le}
 use Rattle.std.proofs.Math.Seq.{take-append_seam}
 use Rattle.std.proofs.lemmas.List.Sums.{fold-append}
-use Rattle.std.specs.Prelude.{◌&&◌, ◌||◌, count_by, filter, nat_lt}
+use Rattle.std.specs.Prelude.{◌&&◌, count_by, nat_lt}
 use Rattle.std.specs.List.{last_or}
 use Rattle.gh_base.specs.declared.frame.Frame.{Frame}
 use Rattle.gh_base.specs.declared.frame.Reply.{Reply}
-use Rattle.gh_base.specs.declared.mark.Mark.{Mark}
 use Rattle.gh_model.specs.declared.program.Line.{Line}
 use Rattle.gh_model.specs.declared.running.CpuRun.{CpuRun}
-use Rattle.gh_model.specs.Program.{Position, next_frame, line_frame, exit_frame, is_exit, asks_again, after_line_reply, after_reply, frames_from, last_number, start}
+use Rattle.gh_model.specs.Program.{Position, next_frame, line_frame, exit_frame, is_exit, asks_again, after_line_reply, after_reply, frames_from, last_number}
 use Rattle.gh_model.specs.Marks.{InTurn}
 use Rattle.gh_model.specs.Calls.{stays, times_of, after_call_reply}
 

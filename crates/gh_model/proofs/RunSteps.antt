@@ -1,42 +1,34 @@
 -- One call more keeps a run of one CPU legal.
-use Rattle.std.proofs.Common.{◌≡◌, ◌≢◌, ◌==◌, ◌+◌, ◌*◌, ◌-◌, ◌<◌, ◌≤◌, ◌∙◌, ℕ, zero, suc, Bool, true, false, not, List, [], ◌∷◌, ◌++◌, ◌⊎◌, inl, inr, length, take, drop, refl, subst, sym, ap, arith, Option, Some, None, Result, Ok, Err, slice_get, slice_index, map, fold, max, find, IsTrue, IsSome, if◌then◌else◌, append_assoc, add-zero, add-one, eq-eqb}
+use Rattle.std.proofs.Common.{◌≡◌, ◌≢◌, ◌==◌, ◌+◌, ◌*◌, ◌<◌, ◌≤◌, ◌∙◌, ℕ, Bool, true, false, not, List, [], ◌∷◌, ◌++◌, ◌⊎◌, inl, inr, length, drop, refl, subst, sym, ap, arith, Some, None, slice_get, map, find, if◌then◌else◌, eq-eqb}
 use Rattle.std.proofs.lemmas.List.{append-nil, take-append-le, length-append, map-append, length-map}
 use Rattle.std.proofs.lemmas.Bool.Decides.{nat_tests}
 use Rattle.std.proofs.lemmas.List.Sums.{fold-append}
-use Rattle.std.specs.Prelude.{◌&&◌, ◌||◌, count_by, filter}
+use Rattle.std.specs.Prelude.{count_by}
 use Rattle.std.proofs.Math.Nat.{eq-or-lt_of_le}
 use Rattle.std.specs.List.{last_or}
-use Rattle.gh_base.specs.declared.call.Call.{Call}
-use Rattle.gh_base.specs.declared.errno.Errno.{Errno}
 use Rattle.gh_base.specs.declared.frame.Frame.{Frame}
 use Rattle.gh_base.specs.declared.frame.Reply.{Reply}
 use Rattle.gh_base.specs.declared.ids.CpuNo.{CpuNo}
 use Rattle.gh_base.specs.declared.ids.Serial.{Serial}
-use Rattle.gh_base.specs.declared.mark.Mark.{Mark}
 use Rattle.gh_base.specs.declared.mark.End.{End}
-use Rattle.gh_base.specs.declared.mark.End.TheVariants as ends
-use Rattle.gh_base.specs.declared.cap_word.Look.{Look}
 use Rattle.gh_model.specs.declared.entry.Entry.{Entry}
 use Rattle.gh_model.specs.declared.entry.Entry.TheVariants.{Acted, Part, Retired, Reclaimed}
 use Rattle.gh_model.specs.declared.program.Line.{Line}
-use Rattle.gh_model.specs.declared.rows.CapabilityRow.{CapabilityRow}
-use Rattle.gh_model.specs.declared.rows.SetAtRow.{SetAtRow}
 use Rattle.gh_model.specs.declared.running.CpuRun.{CpuRun}
 use Rattle.gh_model.specs.declared.state.State.{State}
 use Rattle.gh_model.specs.declared.word.Word.{Word}
-use Rattle.gh_model.specs.Word.{word_at, is_slot, setting, setting_number}
-use Rattle.gh_model.specs.Rows.{fills, tells_setting}
+use Rattle.gh_model.specs.Word.{word_at, is_slot, setting}
+use Rattle.gh_model.specs.Rows.{fills}
 use Rattle.gh_model.specs.Registers.{call_of}
 use Rattle.gh_model.specs.Act.{granted}
 use Rattle.gh_model.specs.History.{Event, after_event, replay, state_at}
-use Rattle.gh_model.specs.Marks.{Made, InTurn, place_after, place_after_end, place_after_looks, place_after_mark, has_looks, section_after, cspace_of, found_word, is_entry_end, ends_with}
-use Rattle.gh_model.specs.Legal.{FrameIs, CallIs, KeepsGrants, EntryIs, reclaims, ends_in_exit}
-use Rattle.gh_model.specs.Program.{next_frame, is_exit, frames_from, start, after_reply}
+use Rattle.gh_model.specs.Marks.{Made, InTurn, place_after, place_after_end, place_after_looks, place_after_mark, has_looks, cspace_of, found_word, is_entry_end, ends_with}
+use Rattle.gh_model.specs.Legal.{FrameIs, CallIs, EntryIs, reclaims, ends_in_exit}
+use Rattle.gh_model.specs.Program.{next_frame, is_exit, frames_from, start}
 use Rattle.gh_model.specs.Calls.{Called, after_called, after_mark, after_call_reply, stays}
 use Rattle.gh_model.proofs.ActLemmas.{Keeps}
-use Rattle.gh_model.proofs.LooksLaw.{Sees}
-use Rattle.gh_model.proofs.RunLists.{snoc_cases, slice_get_left, in_turn_snoc, count_snoc, last_or_snoc, position_after, position_snoc, frames_snoc, more_frames, after_more, position_of, moves}
-use Rattle.gh_model.proofs.RunLaw.{Solo, made_of, event_by, events_of, frame_of, stepped, called_of, IsFront, front_length, front_state, front_item, front_behind, take_all, NoEntry, OneEntry, Here, Good, good_call}
+use Rattle.gh_model.proofs.RunLists.{snoc_cases, in_turn_snoc, count_snoc, last_or_snoc, position_after, position_snoc, frames_snoc, more_frames, after_more, position_of, moves}
+use Rattle.gh_model.proofs.RunLaw.{Solo, made_of, event_by, events_of, stepped, called_of, IsFront, front_length, front_state, front_item, front_behind, take_all, NoEntry, OneEntry, Here, Good, good_call}
 
 -- a slot that no entry set
 pub unset_by : (named : Bool) (s : State) (cspace slot : ℕ) → s.set_at ≡ [] → (if◌then◌else◌ {A = Word} named (record { row = find (fills cspace slot) s.caps; set_at = setting s cspace slot }) (record { row = None; set_at = 0 })).set_at ≡ 0

@@ -1,18 +1,15 @@
 -- A whole run of one CPU: it ends, it is legal and graced, and it follows its program.
-use Rattle.std.proofs.Common.{◌≡◌, ◌≢◌, ◌==◌, ◌+◌, ◌-◌, ◌<◌, ◌≤◌, ◌∙◌, ℕ, zero, suc, Bool, true, false, not, List, [], ◌∷◌, ◌++◌, ◌⊎◌, inl, inr, length, drop, refl, subst, sym, ap, arith, Option, Some, None, Result, Ok, Err, slice_get, slice_set, map, fold, find, IsTrue, IsSome, if◌then◌else◌, append_assoc, add-zero, add-one, eq-eqb}
+use Rattle.std.proofs.Common.{◌≡◌, ◌==◌, ◌+◌, ◌∙◌, ℕ, zero, suc, Bool, true, false, List, [], ◌∷◌, ◌++◌, inl, inr, drop, refl, subst, sym, ap, arith, Option, Some, None, Result, Ok, Err, slice_get, map, fold, find, IsTrue, IsSome, if◌then◌else◌, append_assoc, add-one, eq-eqb}
 use Rattle.std.proofs.lemmas.List.{append-nil, map-append}
 use Rattle.std.proofs.lemmas.Bool.Decides.{eqb_tells}
 use Rattle.std.proofs.lemmas.Bool.{eqb-true}
 use Rattle.gh_model.specs.OneVm.{is_only_cpu, has_one_vm}
-use Rattle.std.specs.Prelude.{count_by, filter}
 use Rattle.std.specs.List.{last_or}
 use Rattle.gh_base.specs.declared.call.Call.{Call}
 use Rattle.gh_base.specs.declared.errno.Errno.{Errno}
 use Rattle.gh_base.specs.declared.frame.Frame.{Frame}
-use Rattle.gh_base.specs.declared.frame.Reply.{Reply}
 use Rattle.gh_base.specs.declared.ids.CpuNo.{CpuNo}
 use Rattle.gh_base.specs.declared.ids.Serial.{Serial}
-use Rattle.gh_base.specs.declared.mark.Mark.{Mark}
 use Rattle.gh_base.specs.declared.mark.End.{End}
 use Rattle.gh_base.specs.declared.mark.End.TheVariants as ends
 use Rattle.gh_model.specs.declared.boot_line.BootLine.{BootLine}
@@ -29,16 +26,16 @@ use Rattle.gh_model.specs.declared.boot_line.BootLine.TheVariants.{Pages, Partit
 use Rattle.gh_model.specs.Rows.{cpu_row, is_cpu}
 use Rattle.gh_model.specs.Act.{Verdict, Done, Refused, judge}
 use Rattle.gh_model.specs.Registers.{call_of, needs_of}
-use Rattle.gh_model.specs.History.{Event, replay, state_at}
-use Rattle.gh_model.specs.Marks.{Made, InTurn, calls_of, is_of_cpu, cspace_of}
-use Rattle.gh_model.specs.Legal.{IsLegal, CallIs, ends_in_exit}
-use Rattle.gh_model.specs.Graced.{IsGraced, GoesUnreferenced, GoesUnread, kept_counters}
+use Rattle.gh_model.specs.History.{Event, state_at}
+use Rattle.gh_model.specs.Marks.{Made, InTurn, calls_of, cspace_of}
+use Rattle.gh_model.specs.Legal.{CallIs, ends_in_exit}
+use Rattle.gh_model.specs.Graced.{GoesUnreferenced, GoesUnread, kept_counters}
 use Rattle.gh_model.specs.Program.{next_frame, is_exit, last_number, program_frames}
-use Rattle.gh_model.specs.Run.{file_of, FollowsPrograms, IsRunBy, IsRun}
-use Rattle.gh_model.specs.Calls.{Called, by_verdict, by_looks, by_shape, call_with, next_call, look_all, no_looks, after_called, after_mark, after_call_reply, stays, turn, turns, round, rounds, with_call, entries_of, end_entries, cpu_start, run_start, run_of, rows_in_order}
+use Rattle.gh_model.specs.Run.{file_of, IsRunBy, IsRun}
+use Rattle.gh_model.specs.Calls.{Called, by_verdict, by_looks, by_shape, next_call, look_all, no_looks, after_called, after_mark, stays, round, rounds, with_call, end_entries, cpu_start, run_start, run_of, rows_in_order}
 use Rattle.gh_model.proofs.CallsLemmas.{rounds_none, rounds_more}
-use Rattle.gh_model.proofs.RunLaw.{Solo, made_of, event_by, events_by, events_of, stepped, IsFront}
-use Rattle.gh_model.proofs.RunSteps.{IsActed, Between, Steady, step, reply_of, field_same, ended_by}
+use Rattle.gh_model.proofs.RunLaw.{Solo, made_of, events_by, events_of, stepped, IsFront}
+use Rattle.gh_model.proofs.RunSteps.{IsActed, Between, Steady, step, field_same, ended_by}
 
 pub verdict_frame : (s : State) (c : CpuRun) (frame : Frame) (call : Call) (looked : Looked) (v : Verdict) → (by_verdict s c frame call looked v).frame ≡ frame
 verdict_frame s c frame call looked (Done new reply) = refl

@@ -1,5 +1,5 @@
 -- What a test that is true says.
-use Rattle.std.proofs.Common.{◌≡◌, ◌≤◌, ℕ, Bool, true, false, IsTrue, nat_le, refl}
+use Rattle.std.proofs.Common.{◌≤◌, ℕ, Bool, true, false, IsTrue, nat_le, refl}
 use Rattle.std.proofs.lemmas.Bool.{leb-true}
 use Rattle.std.specs.Prelude.{◌&&◌}
 

@@ -1,8 +1,7 @@
 -- The act of a call on the state. By now it has the acts of identify, bell_send and exit; the calls that aren't built are
 -- refused at their frame and so make none.
-use Rattle.std.specs.Prelude.{◌≡◌, ◌==◌, ◌&&◌, ◌||◌, ◌+◌, not, ℕ, Bool, true, false, List, [], ◌∷◌, ◌++◌, Option, Some, None, find, map, slice_get, bit_or, if◌then◌else◌}
+use Rattle.std.specs.Prelude.{◌≡◌, ◌==◌, ◌+◌, not, ℕ, Bool, true, false, List, [], Option, Some, None, find, map, slice_get, bit_or, if◌then◌else◌}
 use Rattle.std.specs.List.{list_any, list_all}
-use Rattle.std.specs.Option.{option_map_or}
 use Rattle.gh_base.specs.Reply.{refusal, register_reply}
 use Rattle.gh_base.specs.declared.call.Call.{Call}
 use Rattle.gh_base.specs.declared.call.Call.TheVariants.{Identify, Exit, BellSend}

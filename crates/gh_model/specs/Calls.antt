@@ -1,9 +1,7 @@
 -- A run by whole calls: the CPUs in rising order each make one call, round after round, until all have ended.
-use Rattle.std.specs.Prelude.{◌≡◌, ◌==◌, ◌&&◌, ◌||◌, ◌+◌, ◌*◌, ◌≤◌, not, ℕ, zero, suc, Bool, true, false, List, [], ◌∷◌, ◌++◌, All, length, drop, max, Option, Some, None, Result, Ok, Err, fold, filter, map, slice_get, slice_set, nat_lt, if◌then◌else◌}
-use Rattle.std.specs.List.{list_all}
+use Rattle.std.specs.Prelude.{◌==◌, ◌&&◌, ◌+◌, ◌*◌, ◌≤◌, ℕ, zero, suc, Bool, true, false, List, [], ◌∷◌, ◌++◌, All, length, drop, max, Option, Some, None, Result, Ok, Err, filter, map, slice_get, slice_set, nat_lt, if◌then◌else◌}
 use Rattle.gh_base.specs.Reply.{refusal}
 use Rattle.gh_base.specs.declared.call.Call.{Call}
-use Rattle.gh_base.specs.declared.cap_word.Look.{Look}
 use Rattle.gh_base.specs.declared.cap_word.Need.{Need}
 use Rattle.gh_base.specs.declared.errno.Errno.{Errno}
 use Rattle.gh_base.specs.declared.frame.Frame.{Frame}
@@ -26,7 +24,7 @@ use Rattle.gh_model.specs.Boot.{boot_state, is_vm}
 use Rattle.gh_model.specs.Word.{word_at, look_reply, bits_of}
 use Rattle.gh_model.specs.Registers.{call_of, needs_of}
 use Rattle.gh_model.specs.Act.{Verdict, Done, Refused, judge}
-use Rattle.gh_model.specs.Program.{Position, next_frame, is_exit, asks_again, last_number}
+use Rattle.gh_model.specs.Program.{next_frame, is_exit, asks_again, last_number}
 use Rattle.gh_model.specs.Marks.{place_after_looks, place_after_end}
 use Rattle.gh_model.specs.Legal.{is_short}
 use Rattle.gh_model.specs.Run.{file_of}

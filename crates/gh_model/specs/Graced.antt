@@ -1,9 +1,8 @@
 -- Grace: an object is retired only without references, and reclaimed only after every CPU that was reading then has left
 -- its section.
-use Rattle.std.specs.Prelude.{◌≡◌, ◌==◌, ◌&&◌, ◌+◌, ◌*◌, ◌-◌, ◌<◌, ◌≤◌, ℕ, Bool, true, false, List, [], ◌∷◌, length, take, Option, Some, None, IsTrue, find, map, count_by, slice_get, slice_index}
+use Rattle.std.specs.Prelude.{◌≡◌, ◌==◌, ◌+◌, ◌*◌, ◌-◌, ◌<◌, ◌≤◌, ℕ, Bool, List, length, take, Option, Some, None, IsTrue, count_by, slice_get, slice_index}
 use Rattle.std.specs.List.{list_any}
 use Rattle.gh_base.specs.declared.cap_word.Look.{Look}
-use Rattle.gh_base.specs.declared.ids.Serial.{Serial}
 use Rattle.gh_base.specs.declared.mark.End.{End}
 use Rattle.gh_base.specs.declared.mark.End.TheVariants as ends
 use Rattle.gh_model.specs.declared.entry.Entry.{Entry}

@@ -1,5 +1,5 @@
 -- A legal history: each reply is that of the look, the frame or the act at its place.
-use Rattle.std.specs.Prelude.{◌≡◌, ◌≢◌, ◌==◌, ◌&&◌, ◌||◌, ◌+◌, ◌-◌, ◌<◌, ◌≤◌, not, ℕ, Bool, true, false, List, [], ◌∷◌, ◌++◌, length, take, max, Option, Some, None, Result, Ok, Err, IsTrue, IsSome, fold, find, map, filter, count_by, slice_get, slice_index, is_some, if◌then◌else◌}
+use Rattle.std.specs.Prelude.{◌≡◌, ◌≢◌, ◌==◌, ◌&&◌, ◌||◌, ◌+◌, ◌-◌, ◌<◌, ◌≤◌, ℕ, Bool, true, false, List, [], ◌∷◌, length, max, Option, Some, None, Result, Ok, Err, IsTrue, IsSome, find, map, filter, count_by, slice_get, slice_index, is_some}
 use Rattle.gh_base.specs.Reply.{refusal}
 use Rattle.gh_base.specs.declared.mark.Mark.{Mark}
 use Rattle.gh_base.specs.declared.mark.End.{End}
@@ -12,21 +12,19 @@ use Rattle.gh_base.specs.declared.call.Call.{Call}
 use Rattle.gh_base.specs.declared.call.Call.TheVariants.{Create, ConfigurePartition, ConfigureQueue, CapsRevoke}
 use Rattle.gh_base.specs.declared.errno.Errno.{Errno}
 use Rattle.gh_base.specs.declared.errno.Errno.TheVariants.{CapRevoked}
-use Rattle.gh_base.specs.declared.frame.Frame.{Frame}
 use Rattle.gh_base.specs.declared.frame.Reply.{Reply}
 use Rattle.gh_base.specs.declared.ids.Serial.{Serial}
 use Rattle.gh_model.specs.declared.rows.ObjectRow.{ObjectRow}
 use Rattle.gh_model.specs.declared.rows.CapabilityRow.{CapabilityRow}
-use Rattle.gh_model.specs.declared.rows.CpuRow.{CpuRow}
 use Rattle.gh_model.specs.declared.state.State.{State}
 use Rattle.gh_model.specs.declared.word.Word.{Word}
 use Rattle.gh_model.specs.declared.entry.Entry.{Entry}
 use Rattle.gh_model.specs.declared.entry.Entry.TheVariants.{Acted, Part, Retired, Reclaimed}
 use Rattle.gh_model.specs.Rows.{cpu_row, fills}
-use Rattle.gh_model.specs.Word.{word_at, look_reply, Shows}
+use Rattle.gh_model.specs.Word.{look_reply, Shows}
 use Rattle.gh_model.specs.Registers.{call_of, needs_of}
 use Rattle.gh_model.specs.References.{is_doomed}
-use Rattle.gh_model.specs.Act.{Verdict, Done, Refused, judge, granted}
+use Rattle.gh_model.specs.Act.{Done, Refused, judge, granted}
 use Rattle.gh_model.specs.History.{Event, state_at, may_part}
 use Rattle.gh_model.specs.Program.{is_exit}
 use Rattle.gh_model.specs.Marks.{Made, calls_of, InTurn, place_after, place_after_looks, place_after_mark, section_after, cspace_of, found_word, found_words, ends_with, event_of, is_odd}

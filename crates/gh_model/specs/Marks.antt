@@ -1,16 +1,14 @@
 -- Finished calls: whose they are, their places and their sections.
-use Rattle.std.specs.Prelude.{◌≡◌, ◌==◌, ◌&&◌, ◌+◌, ◌*◌, ◌-◌, ◌%◌, not, ℕ, Bool, true, false, List, [], ◌∷◌, length, take, Option, Some, None, fold, filter, map, count_by, slice_get, if◌then◌else◌}
+use Rattle.std.specs.Prelude.{◌≡◌, ◌==◌, ◌&&◌, ◌+◌, ◌*◌, ◌-◌, ◌%◌, not, ℕ, Bool, false, List, length, take, Option, Some, None, fold, filter, map, count_by, slice_get, if◌then◌else◌}
 use Rattle.std.specs.Option.{option_map_or}
 use Rattle.gh_base.specs.declared.mark.Mark.{Mark}
 use Rattle.gh_base.specs.declared.mark.End.{End}
 use Rattle.gh_base.specs.declared.mark.End.TheVariants as ends
 use Rattle.gh_base.specs.declared.cap_word.Look.{Look}
 use Rattle.gh_base.specs.declared.frame.Frame.{Frame}
-use Rattle.gh_base.specs.declared.frame.Reply.{Reply}
 use Rattle.gh_model.specs.declared.rows.CpuRow.{CpuRow}
 use Rattle.gh_model.specs.declared.state.State.{State}
 use Rattle.gh_model.specs.declared.word.Word.{Word}
-use Rattle.gh_model.specs.declared.entry.Entry.{Entry}
 use Rattle.gh_model.specs.declared.entry.Entry.TheVariants.{Acted}
 use Rattle.gh_model.specs.Rows.{cpu_row}
 use Rattle.gh_model.specs.Word.{word_at}

@@ -1,5 +1,5 @@
 -- What a VM's program makes: the lines of its call file, and then the exit call.
-use Rattle.std.specs.Prelude.{◌≡◌, ◌==◌, ◌&&◌, ◌||◌, ◌+◌, ◌%◌, ◌^◌, not, ℕ, Bool, true, false, List, [], ◌∷◌, ◌++◌, slice_index, nat_lt, if◌then◌else◌}
+use Rattle.std.specs.Prelude.{◌==◌, ◌&&◌, ◌||◌, ◌+◌, ◌%◌, ◌^◌, ℕ, Bool, true, false, List, [], ◌∷◌, slice_index, nat_lt, if◌then◌else◌}
 use Rattle.gh_base.specs.declared.frame.Frame.{Frame}
 use Rattle.gh_base.specs.declared.frame.Reply.{Reply}
 use Rattle.gh_model.specs.declared.program.Line.{Line}

@@ -1,7 +1,7 @@
 -- The register table: for each hypercall its function number, its registers, the register that must be zero, the shape
 -- that it asks of them, and the capabilities that it looks up. The numbers up to 8061 and their registers are those of
 -- the Linux drivers; the others, and which error answers which cause, are this project's own.
-use Rattle.std.specs.Prelude.{◌≡◌, ◌==◌, ◌&&◌, ◌||◌, ◌+◌, ◌-◌, ◌/◌, ◌%◌, ◌^◌, ℕ, Bool, true, false, not, List, [], ◌∷◌, length, Option, Some, None, Result, Ok, Err, find, slice_index, nat_lt, nat_le, if◌then◌else◌}
+use Rattle.std.specs.Prelude.{◌==◌, ◌&&◌, ◌||◌, ◌+◌, ◌-◌, ◌/◌, ◌%◌, ◌^◌, ℕ, Bool, true, false, not, List, [], ◌∷◌, length, Option, Some, None, Result, Ok, Err, find, slice_index, nat_lt, if◌then◌else◌}
 use Rattle.std.specs.List.{list_any}
 use Rattle.gh_base.specs.declared.call.Call.{Call}
 use Rattle.gh_base.specs.declared.call.Call.TheVariants.{Identify, Exit, BellSend, BellSetMask, BellReceive, BellReset, MsgqSend, MsgqRecv, MsgqFlush, Map, Unmap, Donate, Derive, AsLookup, Create, ConfigurePartition, ConfigureQueue, Activate, CapCopy, CapDelete, CapRevoke, CapsRevoke, RmAct, RmPoll}

@@ -1,7 +1,6 @@
 -- Rows of the state: how one is found, and how one is changed.
-use Rattle.std.specs.Prelude.{◌≡◌, ◌==◌, ◌&&◌, ◌||◌, ◌+◌, ◌-◌, ℕ, Bool, List, [], ◌∷◌, ◌++◌, Option, Some, None, find, filter, slice_set, slice_get, sum_by}
+use Rattle.std.specs.Prelude.{◌==◌, ◌&&◌, ℕ, Bool, List, Option, Some, None, find, slice_set, slice_get}
 use Rattle.std.specs.List.{position_or_len}
-use Rattle.gh_base.specs.declared.kind.Kind.{Kind}
 use Rattle.gh_model.specs.declared.rows.ObjectRow.{ObjectRow}
 use Rattle.gh_model.specs.declared.rows.PartitionRow.{PartitionRow}
 use Rattle.gh_model.specs.declared.rows.CapabilityRow.{CapabilityRow}

@@ -1,7 +1,5 @@
 -- A run: a legal history in which each CPU's calls are those of its program.
-use Rattle.std.specs.Prelude.{◌≡◌, ◌-◌, ℕ, List, map, Option, Some, None, slice_get, [], ◌∷◌}
-use Rattle.gh_base.specs.declared.frame.Frame.{Frame}
-use Rattle.gh_base.specs.declared.frame.Reply.{Reply}
+use Rattle.std.specs.Prelude.{◌≡◌, ℕ, List, map, Option, Some, None, slice_get, [], ◌∷◌}
 use Rattle.gh_base.specs.declared.mark.Mark.{Mark}
 use Rattle.gh_model.specs.declared.boot_line.BootLine.{BootLine}
 use Rattle.gh_model.specs.declared.entry.Entry.{Entry}

@@ -1,5 +1,5 @@
 -- The units of a partition.
-use Rattle.std.specs.Prelude.{◌==◌, ◌+◌, ◌-◌, ℕ, Bool, Option, Some, None, find, filter, map, sum_by, List}
+use Rattle.std.specs.Prelude.{◌==◌, ◌-◌, ℕ, Bool, Option, Some, None, find, filter, map, sum_by, List}
 use Rattle.gh_model.specs.declared.rows.ObjectRow.{ObjectRow}
 use Rattle.gh_model.specs.declared.rows.PartitionRow.{PartitionRow}
 use Rattle.gh_model.specs.declared.state.State.{State}

@@ -1,11 +1,8 @@
 -- What a slot holds, and what a look at it answers.
-use Rattle.std.specs.Prelude.{◌≡◌, ◌==◌, ◌&&◌, ◌||◌, ◌+◌, ◌-◌, ℕ, Bool, true, false, not, List, Option, Some, None, Result, Ok, Err, find, bit_and, nat_le, if◌then◌else◌}
-use Rattle.std.specs.Option.{option_map_or}
+use Rattle.std.specs.Prelude.{◌≡◌, ◌==◌, ◌&&◌, ◌||◌, ℕ, Bool, true, not, Option, Some, None, Result, Ok, Err, find, bit_and, nat_le, if◌then◌else◌}
 use Rattle.gh_base.specs.CapWord.{filled_bits}
 use Rattle.gh_base.specs.Kind.{kind_number}
 use Rattle.gh_base.specs.declared.cap_word.CapWord.{CapWord}
-use Rattle.gh_base.specs.declared.cap_word.CapState.{CapState}
-use Rattle.gh_base.specs.declared.cap_word.CapState.TheVariants.{Empty, Valid, Revoked}
 use Rattle.gh_base.specs.declared.cap_word.Need.{Need}
 use Rattle.gh_base.specs.declared.kind.Kind.{Kind}
 use Rattle.gh_base.specs.declared.ids.Serial.{Serial}

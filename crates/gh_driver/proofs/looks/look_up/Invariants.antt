@@ -7,5 +7,5 @@ abbrev pub invariant-loop-item : goal.invariant-loop-item
 invariant-loop-item l = record {
   looks : length l.looked.looks ≡ l.item-index;
   words : length l.looked.words ≡ l.item-index;
-  rest : look_all l.plain l.cspace.0 (drop l.item-index l.needs) l.looked ≡ look_all l.plain l.cspace.0 l.needs (no_looks l.fn.place)
+  rest : look_all l.plain l.cspace.0 (drop l.item-index l.needs) l.looked ≡ look_all l.plain l.cspace.0 l.needs (no_looks l.fn.place);
 }

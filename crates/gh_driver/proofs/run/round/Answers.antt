@@ -1,5 +1,5 @@
 -- A turn's step along the round, and what it keeps.
-use Rattle.std.proofs.Common.{◌≡◌, ◌+◌, ◌≤◌, length, arith, ◌∙◌}
+use Rattle.std.proofs.Common.{arith, ◌∙◌}
 use Rattle.gh_driver.proofs.RunLemmas.{Steps, along_turns, turn_along}
 use Rattle.gh_driver.proofs.run.round.Goals as goal
 
@@ -10,5 +10,5 @@ loop-at-preserved c =
       rest = along_turns c.args.files.now c.loop-at.run c.turn.new.run _ c.loop-at.at c.len-at-end.result c.loop-at-test.true c.in_ok-turn.ensures c.loop-at.invariant.rest;
       bounded = steps.bounded;
       calls = omega (arith, steps.calls, c.loop-at.invariant.calls);
-      cpus = steps.cpus ∙ c.loop-at.invariant.cpus
+      cpus = steps.cpus ∙ c.loop-at.invariant.cpus;
     }

@@ -8,5 +8,5 @@ invariant-loop-at l = record {
   rest : turns l.files l.run l.at (l.at-end - l.at) ≡ turns l.files l.initial.run 0 l.at-end;
   bounded : IsBounded l.run;
   calls : length l.run.marks ≤ length l.initial.run.marks + l.at;
-  cpus : length l.run.cpus ≡ l.at-end
+  cpus : length l.run.cpus ≡ l.at-end;
 }

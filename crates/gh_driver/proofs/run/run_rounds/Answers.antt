@@ -1,5 +1,5 @@
 -- A round's step along the run, and the two ways out of it.
-use Rattle.std.proofs.Common.{◌≡◌, ◌+◌, ◌-◌, ◌*◌, ◌≤◌, length, arith}
+use Rattle.std.proofs.Common.{◌-◌, arith}
 use Rattle.gh_model.specs.Program.{last_number}
 use Rattle.gh_driver.proofs.RunLemmas.{along_rounds, rounds_past, rounds_still}
 use Rattle.gh_driver.proofs.run.run_rounds.Goals as goal
@@ -13,7 +13,7 @@ loop-done-preserved c = record {
   rest = along_rounds c.args.files.now c.loop-done.run c.round.new.run _ c.loop-done.done last_number c.loop-done-test.true c.in_ok-round.ensures.run c.loop-done.invariant.rest;
   bounded = c.in_ok-round.ensures.bounded;
   calls = omega (arith, c.in_ok-round.ensures.calls, c.loop-done.invariant.calls);
-  cpus = omega (arith, c.in_ok-round.ensures.cpus, c.loop-done.invariant.cpus)
+  cpus = omega (arith, c.in_ok-round.ensures.cpus, c.loop-done.invariant.cpus);
 }
 
 pub returns : goal.returns

@@ -17,5 +17,5 @@ make_turn-requires c =
       entries = omega (arith, made, few);
       number = (cpu_small (length c.args.run.now.marks) c.args.run.now.cpus c.as_slice.result.now c.args.at _ c.requires.calls c.as_slice.ensures c.requires.within c.requires.bounded.paced).number;
       sections = (cpu_small (length c.args.run.now.marks) c.args.run.now.cpus c.as_slice.result.now c.args.at _ c.requires.calls c.as_slice.ensures c.requires.within c.requires.bounded.paced).sections;
-      line = (cpu_small (length c.args.run.now.marks) c.args.run.now.cpus c.as_slice.result.now c.args.at _ c.requires.calls c.as_slice.ensures c.requires.within c.requires.bounded.paced).line
+      line = (cpu_small (length c.args.run.now.marks) c.args.run.now.cpus c.as_slice.result.now c.args.at _ c.requires.calls c.as_slice.ensures c.requires.within c.requires.bounded.paced).line;
     }

@@ -1,5 +1,4 @@
 -- A page's step, and the run that the last page leaves.
-use Rattle.std.proofs.Common.{◌≡◌}
 use Rattle.std.proofs.lemmas.Result.{on_ok_weaker}
 use Rattle.gh_driver.proofs.TextLemmas.{open_run-count, page_step, page_end}
 use Rattle.gh_driver.proofs.text.put_space.Goals as goal
@@ -7,7 +6,7 @@ use Rattle.gh_driver.proofs.text.put_space.Goals as goal
 pub loop-page-preserved : goal.loop-page-preserved
 loop-page-preserved c = record {
   count = rw (c.after_page-run.ensures) (open_run-count c.loop-page.run c.loop-page.page c.access-found.result c.loop-page.invariant.count);
-  rest = page_step c.args.state.now c.args.space.0 c.loop-page.run c.loop-page.page 4096 c.access-found.result c.continues.result c.after_page-run.result _ _ _ c.loop-page-test.true c.access-found.ensures c.continues.ensures c.after_page-run.ensures c.in_ok-put_ended.ensures c.loop-page.invariant.rest
+  rest = page_step c.args.state.now c.args.space.0 c.loop-page.run c.loop-page.page 4096 c.access-found.result c.continues.result c.after_page-run.result _ _ _ c.loop-page-test.true c.access-found.ensures c.continues.ensures c.after_page-run.ensures c.in_ok-put_ended.ensures c.loop-page.invariant.rest;
 }
 
 pub returns : goal.returns

@@ -6,5 +6,5 @@ use Rattle.gh_driver.proofs.text.put_space.Given as goal
 abbrev pub invariant-loop-page : goal.invariant-loop-page
 invariant-loop-page l = record {
   count : l.run.count ≤ l.page;
-  rest : string_bytes l.out ++ runs_from l.state l.space.0 l.run (pages_from l.page (4096 - l.page)) ≡ string_bytes l.fn.out ++ runs_from l.state l.space.0 no_run (pages_from 0 4096)
+  rest : string_bytes l.out ++ runs_from l.state l.space.0 l.run (pages_from l.page (4096 - l.page)) ≡ string_bytes l.fn.out ++ runs_from l.state l.space.0 no_run (pages_from 0 4096);
 }
