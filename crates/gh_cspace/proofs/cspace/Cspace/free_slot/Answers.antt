@@ -1,3 +1,4 @@
+-- The first bit that is 0 is that of the first free word.
 use Rattle.std.proofs.Common.{ap, ◌∙◌}
 use Rattle.gh_cspace.specs.Cspace.{free_slot}
 use Rattle.gh_cspace.proofs.FilledLemmas.{MarksFilled-some_clear, free_slot-first_free}

@@ -1,3 +1,4 @@
+-- No bit is set where no word is.
 use Rattle.gh_cspace.proofs.FilledLemmas.{MarksFilled-new}
 use Rattle.gh_cspace.proofs.cspace.Cspace.new.Goals as goal
 

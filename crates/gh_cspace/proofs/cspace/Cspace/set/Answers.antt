@@ -1,3 +1,4 @@
+-- The bit of the place follows its word.
 use Rattle.std.proofs.Common.{◌-◌, sym, ◌∙◌, arith}
 use Rattle.gh_cspace.proofs.FilledLemmas.{MarksFilled-set}
 use Rattle.gh_cspace.proofs.cspace.Cspace.set.Goals as goal

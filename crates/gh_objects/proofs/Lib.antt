@@ -1,0 +1,4 @@
+pub mod ListLemmas
+pub mod PartitionsLemmas
+pub mod RisingLemmas
+pub mod TableLemmas

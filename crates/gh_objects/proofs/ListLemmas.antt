@@ -1,0 +1,74 @@
+-- Facts about any list that the others rest on.
+use Rattle.std.proofs.Common.{◌≡◌, ℕ, suc, ◌+◌, ◌<◌, ◌≤◌, Bool, not, List, [], ◌∷◌, ◌++◌, Option, None, Some, length, get_or, set, take, drop, count_by, filter_map, refl, sym, ap, ◌∙◌, arith, inl, inr, cond, ltb, is_some, replicate, zero-add, subst}
+use Rattle.std.specs.Prelude.{is_none, position, IsSomeAnd}
+use Rattle.std.specs.List.{position_or_len, cons_option}
+use Rattle.std.proofs.lemmas.Bool.{cases_Bool, cases_lt, lt-ltb, le-ltb}
+use Rattle.std.proofs.lemmas.List.Sums.{sum_by-cons, sum_by-set}
+use Rattle.std.proofs.lemmas.List.{get_or-replicate, get_or_past, length-replicate, take-append-drop, take-set, drop-set}
+
+-- a list that is written at one place is what stands before, what was written and what stands behind
+pub set-pieces : {X : Type 0} (xs : List X) (i : ℕ) (y : X) → i < length xs → set xs i y ≡ take i xs ++ y ∷ drop (i + 1) xs
+set-pieces xs i y within = sym (take-append-drop i (set xs i y)) ∙ rw (take-set, drop-set xs i y within) refl
+
+-- a filter keeps no more than there is
+pub length-filter_map-le : {X Y : Type 0} (f : X → Option Y) (xs : List X) → length (filter_map f xs) ≤ length xs
+length-filter_map-le f [] = omega arith
+length-filter_map-le f (x ∷ xs) = kept (filter_map f xs) (length xs) (f x) (length-filter_map-le f xs)
+  where
+    kept : {Y : Type 0} (ys : List Y) (n : ℕ) (o : Option Y) → length ys ≤ n → length (cons_option o ys) ≤ suc n
+    kept ys n None le = omega arith
+    kept ys n (Some y) le = omega arith
+
+-- where fewer pass than there are, one fails
+pub position_or_len-lt-length : {X : Type 0} (p : X → Bool) (xs : List X) → count_by p xs < length xs → position_or_len (λ x. not (p x)) xs < length xs
+position_or_len-lt-length p [] few = few
+position_or_len-lt-length p (x ∷ xs) few =
+    elim (cases_Bool (p x)) [
+      | inl passes ↦
+          let count : count_by p (x ∷ xs) ≡ 1 + count_by p xs = sum_by-cons (λ y. cond (p y) 1 0) x xs ∙ rw passes refl in
+          rw passes (omega (arith, position_or_len-lt-length p xs (omega (arith, count))))
+      | inr fails ↦ rw fails (omega arith)
+    ]
+
+-- where fewer have a value than there are, one is found that has none
+pub position_within : {X : Type 0} (xs : List (Option X)) → count_by is_some xs < length xs → position is_none xs ≡ Some (position_or_len is_none xs)
+position_within xs few = rw (lt-ltb _ _ (position_or_len-lt-length is_some xs few)) refl
+
+-- one is found exactly where more than none pass
+pub position-count : {X : Type 0} (p : X → Bool) (xs : List X) → ltb (position_or_len p xs) (length xs) ≡ ltb 0 (count_by p xs)
+position-count p [] = refl
+position-count p (x ∷ xs) =
+    let count : count_by p (x ∷ xs) ≡ cond (p x) 1 0 + count_by p xs = sum_by-cons (λ y. cond (p y) 1 0) x xs in
+    elim (cases_Bool (p x)) [
+      | inl passes ↦ rw (count, passes) (lt-ltb 0 (suc (length xs)) (omega arith) ∙ sym (lt-ltb 0 (1 + count_by p xs) (omega arith)))
+      | inr fails ↦ rw (count, fails) (next (position_or_len p xs) (length xs) ∙ position-count p xs ∙ sym (ap (ltb 0) (zero-add (count_by p xs))))
+    ]
+  where
+    next : (m n : ℕ) → ltb (1 + m) (suc n) ≡ ltb m n
+    next m n =
+        elim (cases_lt m n) [
+          | inl below ↦ lt-ltb (1 + m) (suc n) (omega arith) ∙ sym (lt-ltb m n below)
+          | inr above ↦ le-ltb (1 + m) (suc n) (omega arith) ∙ sym (le-ltb m n above)
+        ]
+
+-- a count where one element is written
+pub count_by-set : {X : Type 0} (p : X → Bool) (xs : List X) (i : ℕ) (y d : X) → i < length xs
+    → count_by p (set xs i y) + cond (p (get_or xs i d)) 1 0 ≡ count_by p xs + cond (p y) 1 0
+count_by-set p xs i y d within = sum_by-set (λ x. cond (p x) 1 0) xs i y d within
+
+-- every element of a list of copies is that copy, and so is the default
+pub replicate-at : {X : Type 0} (x : X) (count : ℕ) (xs : List X) → xs ≡ replicate count x → (k : ℕ) → get_or xs k x ≡ x
+replicate-at x count xs is k =
+    ap (λ ys. get_or ys k x) is ∙
+    elim (cases_lt k count) [
+      | inl within ↦ get_or-replicate count k x x within
+      | inr past ↦ get_or_past (replicate count x) k x (omega (arith, length-replicate count x))
+    ]
+
+-- what has a value stands in the list
+pub some-within : {X : Type 0} (P : X → Type 0) (xs : List (Option X)) (i : ℕ) → IsSomeAnd (get_or xs i None) P → i < length xs
+some-within {X} P xs i some =
+    elim (cases_lt i (length xs)) [
+      | inl within ↦ within
+      | inr past ↦ absurd (subst (λ (o : Option X). IsSomeAnd o P) (get_or_past xs i None past) some)
+    ]

@@ -1,0 +1,5 @@
+pub mod Objects
+pub mod Partitions
+pub mod Rising
+pub mod Serials
+pub mod Table
