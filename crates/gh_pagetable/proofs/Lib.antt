@@ -1,0 +1,9 @@
+pub mod Counting
+pub mod Entries
+pub mod Maps
+pub mod Overwriting
+pub mod Ranges
+pub mod Runs
+pub mod Steps
+pub mod Tables
+pub mod Uniform

@@ -1,0 +1,14 @@
+//! The page table of an address space: three levels of tables, with blocks for whole ranges.
+#![tactic(auto)]
+
+mod descriptor;
+mod entry;
+mod page_table;
+mod table;
+mod upper;
+
+pub use descriptor::NUMBERED_PAGES;
+pub use page_table::PageTable;
+
+#[cfg(test)]
+mod tests;
