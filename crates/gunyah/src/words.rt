@@ -1,0 +1,52 @@
+//! The words of a command line.
+
+ghost use Rattle.std.specs.Prelude.{◌≡◌, ◌↔◌, ◌∷◌, [], length, string_bytes, true, false, IfOk, OnErr, IsErr};
+ghost use Rattle.std.specs.Bool.{OnTrue};
+ghost use Rattle.gunyah.specs.Words.{is_step, step_files, words_of, Spells};
+
+use crate::command::{Command, StepArgs, Usage};
+use gh_base::NoMemory;
+use std::alloc::Global;
+
+fn step_args(
+    alloc: Global,
+    boot: &String,
+    schedule: &String,
+    calls: &String,
+) -> Result<StepArgs, NoMemory>
+    ensures { IfOk result (λ args. step_files args
+        ≡ string_bytes boot.now ∷ string_bytes schedule.now ∷ string_bytes calls.now ∷ []) }
+{
+    Ok(StepArgs {
+        boot: boot.clone()?,
+        schedule: schedule.clone()?,
+        calls: vec![in alloc; calls.clone()?]?,
+    })
+}
+
+/// Whether the words are those of `step`.
+fn is_step(words: &[String]) -> bool
+    ensures test { result ≡ is_step (words_of words.now) }
+    ensures count { OnTrue result (length words.now ≡ 4) }
+{
+    match words {
+        [verb, _, _, _] => verb.as_str() == "step",
+        _ => false,
+    }
+}
+
+/// The command that the words behind the program's name spell. By now it is `step` with exactly one
+/// call file.
+pub fn read_words(alloc: Global, words: &[String]) -> Result<Result<Command, Usage>, NoMemory>
+    ensures command { IfOk result (λ read.
+        IfOk read (Spells (words_of words.now))) }
+    ensures usage { IfOk result (λ read.
+        IsErr read ↔ (is_step (words_of words.now) ≡ false)) }
+    ensures no_memory { OnErr result (is_step (words_of words.now) ≡ true) }
+{
+    if !is_step(words) {
+        return Ok(Err(Usage));
+    }
+    let args = step_args(alloc, &words[1], &words[2], &words[3])?;
+    Ok(Ok(Command::Step(args)))
+}
