@@ -1,6 +1,7 @@
 pub mod ActLemmas
 pub mod BootLemmas
 pub mod CallsLemmas
+pub mod CpuRows
 pub mod LooksLaw
 pub mod RunLaw
 pub mod RunLists

@@ -1,4 +1,4 @@
--- A run by whole calls of one CPU is legal, graced, and follows its program.
+-- A call of a CPU is legal where it is made, and its entry, if it has one, is the next.
 use Rattle.std.proofs.Common.{◌≡◌, ◌==◌, ◌+◌, ◌*◌, ◌-◌, ◌<◌, ◌≤◌, ◌∙◌, ℕ, Bool, false, List, [], ◌∷◌, ◌++◌, ◌⊎◌, inl, inr, length, take, drop, refl, subst, sym, ap, arith, Option, Some, None, Result, Ok, Err, slice_get, map, if◌then◌else◌, append_assoc}
 use Rattle.std.proofs.lemmas.List.{take-append-le, length-append}
 use Rattle.std.proofs.lemmas.List.Sums.{fold-append}
@@ -21,15 +21,14 @@ use Rattle.gh_model.specs.History.{Event, after_event, after_call, after_verdict
 use Rattle.gh_model.specs.Marks.{Made, place_after_mark, found_words, is_entry_end, event_of}
 use Rattle.gh_model.specs.Legal.{FrameIs, is_short}
 use Rattle.gh_model.specs.Program.{next_frame}
-use Rattle.gh_model.specs.Calls.{Called, call_mark, unmade, by_verdict, by_looks, by_shape, next_call, no_looks, after_called}
+use Rattle.gh_model.specs.Calls.{Called, call_mark, unmade, by_verdict, by_looks, by_shape, next_call, no_looks}
 use Rattle.gh_model.proofs.ActLemmas.{Keeps, act_keeps, act_refuses}
 use Rattle.gh_model.proofs.LooksLaw.{fresh, look_all_is, EndsAs, Sees, looks_are, words_are, place_stays, place_after_fresh, grants_are}
 use Rattle.gh_model.proofs.RunLists.{slice_get_left, slice_get_seam}
 
--- a run of one CPU, with the frames and words of its calls
-pub record Solo : Type 0 where
+-- a CPU before its next call: the history with the frames and words of its acts, the state, and the CPU
+pub record Caller : Type 0 where
   pub history : List Event
-  pub made : List Made
   pub plain : State
   pub cpu : CpuRun
 
@@ -50,11 +49,8 @@ events_by called (ends.Entry number) = event_by called ∷ []
 abbrev pub events_of : Called → List Event
 events_of called = events_by called called.mark.end
 
-abbrev pub frame_of : List Line → Solo → Frame
+abbrev pub frame_of : List Line → Caller → Frame
 frame_of lines x = next_frame (x.cpu.number + 1) (drop x.cpu.at lines)
-
-abbrev pub stepped : List Line → Solo → Called → Solo
-stepped lines x called = record { history = x.history ++ events_of called; made = x.made ++ made_of called ∷ []; plain = called.after; cpu = after_called x.cpu lines called }
 
 -- the history is the front of another
 abbrev pub IsFront : List Event → List Event → Type 0
@@ -81,14 +77,14 @@ pub front_behind : (front more whole : List Event) → IsFront (front ++ more) w
 front_behind front more whole (rest, is) = (more ++ rest, is ∙ append_assoc front more rest)
 
 -- a CPU's call without an entry leaves the state
-pub record NoEntry (x : Solo) (called : Called) : Type 0 where
+pub record NoEntry (x : Caller) (called : Called) : Type 0 where
   pub none : events_of called ≡ []
   pub same : called.after ≡ x.plain
   pub place : place_after_mark x.cpu.place (made_of called) ≤ length x.history
   pub not_entry : (number : ℕ) → is_entry_end number called.mark.end ≡ false
 
 -- with one it is the next entry
-pub record OneEntry (x : Solo) (called : Called) : Type 0 where
+pub record OneEntry (x : Caller) (called : Called) : Type 0 where
   pub one : events_of called ≡ event_by called ∷ []
   pub end : called.mark.end ≡ ends.Entry (length x.history + 1)
   pub made : after_event x.plain (event_by called) ≡ called.after
@@ -96,7 +92,7 @@ pub record OneEntry (x : Solo) (called : Called) : Type 0 where
 
 module _ (boot : State) (whole : List Event) (lines : List Line) where
   -- what a call is made upon
-  pub record Here (x : Solo) : Type 0 where
+  pub record Here (x : Caller) : Type 0 where
     pub now : replay boot x.history ≡ x.plain
     pub counted : x.plain.entries ≡ length x.history
     pub no_parts : x.plain.taken ≡ []
@@ -105,7 +101,7 @@ module _ (boot : State) (whole : List Event) (lines : List Line) where
     pub within : x.cpu.place ≤ length x.history
 
   -- the call is legal, and its entry, if it has one, is the next
-  pub record Good (x : Solo) (called : Called) : Type 0 where
+  pub record Good (x : Caller) (called : Called) : Type 0 where
     pub cpu_is : called.mark.cpu ≡ x.cpu.cpu
     pub number_is : called.mark.number ≡ x.cpu.number + 1
     pub section_is : called.mark.section ≡ (if length called.mark.looks == 0 then 0 else 2 * x.cpu.sections + 1)
@@ -113,7 +109,7 @@ module _ (boot : State) (whole : List Event) (lines : List Line) where
     pub legal : IsFront (x.history ++ events_of called) whole → FrameIs boot whole x.cpu.cspace.0 x.cpu.place (call_of called.frame) (made_of called)
     pub entry : NoEntry x called ⊎ OneEntry x called
 
-  pub good_frame : (x : Solo) (errno : Errno) → Here x → call_of (frame_of lines x) ≡ Err errno → Good x (unmade x.plain x.cpu (frame_of lines x) (no_looks x.cpu.place) ends.Frame (refusal errno))
+  pub good_frame : (x : Caller) (errno : Errno) → Here x → call_of (frame_of lines x) ≡ Err errno → Good x (unmade x.plain x.cpu (frame_of lines x) (no_looks x.cpu.place) ends.Frame (refusal errno))
   good_frame x errno here is = record {
     cpu_is = refl;
     number_is = refl;
@@ -123,10 +119,10 @@ module _ (boot : State) (whole : List Event) (lines : List Line) where
     entry = inl (record { none = refl; same = refl; place = here.within; not_entry = λ number. refl });
   }
 
-  abbrev pub looked_of : Solo → Call → Looked
+  abbrev pub looked_of : Caller → Call → Looked
   looked_of x call = fresh x.plain x.cpu.cspace.0 x.cpu.place (needs_of call)
 
-  pub good_refused : (x : Solo) (call : Call) (errno : Errno) → Here x → call_of (frame_of lines x) ≡ Ok call → (looked_of x call).refused ≡ Some errno → Good x (unmade x.plain x.cpu (frame_of lines x) (looked_of x call) ends.Refused (refusal errno))
+  pub good_refused : (x : Caller) (call : Call) (errno : Errno) → Here x → call_of (frame_of lines x) ≡ Ok call → (looked_of x call).refused ≡ Some errno → Good x (unmade x.plain x.cpu (frame_of lines x) (looked_of x call) ends.Refused (refusal errno))
   good_refused x call errno here is refused = record {
     cpu_is = refl;
     number_is = refl;
@@ -146,7 +142,7 @@ module _ (boot : State) (whole : List Event) (lines : List Line) where
   }
 
   -- an act that was refused
-  pub good_act : (x : Solo) (call : Call) (reply : Reply) → Here x → call_of (frame_of lines x) ≡ Ok call → (looked_of x call).refused ≡ None → judge x.plain x.cpu.cpu.0 (frame_of lines x) call (looked_of x call).words ≡ Refused reply → Good x (unmade x.plain x.cpu (frame_of lines x) (looked_of x call) (ends.Act x.plain.entries) reply)
+  pub good_act : (x : Caller) (call : Call) (reply : Reply) → Here x → call_of (frame_of lines x) ≡ Ok call → (looked_of x call).refused ≡ None → judge x.plain x.cpu.cpu.0 (frame_of lines x) call (looked_of x call).words ≡ Refused reply → Good x (unmade x.plain x.cpu (frame_of lines x) (looked_of x call) (ends.Act x.plain.entries) reply)
   good_act x call reply here is open_ judged = record {
     cpu_is = refl;
     number_is = refl;
@@ -175,7 +171,7 @@ module _ (boot : State) (whole : List Event) (lines : List Line) where
   }
 
   -- behind the next entry the state is what it makes
-  pub state_behind : (x : Solo) (event : Event) (new : State) → IsFront (x.history ++ event ∷ []) whole → replay boot x.history ≡ x.plain → after_event x.plain event ≡ new → new.entries ≡ length x.history + 1 → state_at boot whole new.entries ≡ new
+  pub state_behind : (x : Caller) (event : Event) (new : State) → IsFront (x.history ++ event ∷ []) whole → replay boot x.history ≡ x.plain → after_event x.plain event ≡ new → new.entries ≡ length x.history + 1 → state_at boot whole new.entries ≡ new
   state_behind x event new front now made number =
       let count : length (x.history ++ event ∷ []) ≡ length x.history + 1 = length-append x.history (event ∷ []) in
       let within : new.entries ≤ length (x.history ++ event ∷ []) = omega arith in
@@ -186,20 +182,20 @@ module _ (boot : State) (whole : List Event) (lines : List Line) where
       ∙ fold-append after_event boot x.history (event ∷ [])
       ∙ ap (λ (s : State). after_event s event) now ∙ made
 
-  abbrev pub done_call : Solo → Call → State → Reply → Called
+  abbrev pub done_call : Caller → Call → State → Reply → Called
   done_call x call new reply = record { mark = call_mark x.cpu (looked_of x call) (ends.Entry new.entries) reply; frame = frame_of lines x; words = (looked_of x call).words; after = new }
 
-  pub entry_number : (x : Solo) (new : State) → Here x → Keeps x.plain new → new.entries ≡ length x.history + 1
+  pub entry_number : (x : Caller) (new : State) → Here x → Keeps x.plain new → new.entries ≡ length x.history + 1
   entry_number x new here keeps = keeps.entries ∙ ap (λ (n : ℕ). n + 1) here.counted
 
-  pub event_made : (x : Solo) (call : Call) (new : State) (reply : Reply) → call_of (frame_of lines x) ≡ Ok call → (looked_of x call).refused ≡ None → judge x.plain x.cpu.cpu.0 (frame_of lines x) call (looked_of x call).words ≡ Done new reply → after_event x.plain (event_by (done_call x call new reply)) ≡ new
+  pub event_made : (x : Caller) (call : Call) (new : State) (reply : Reply) → call_of (frame_of lines x) ≡ Ok call → (looked_of x call).refused ≡ None → judge x.plain x.cpu.cpu.0 (frame_of lines x) call (looked_of x call).words ≡ Done new reply → after_event x.plain (event_by (done_call x call new reply)) ≡ new
   event_made x call new reply is open_ judged =
       subst (λ (r : Result Call Errno). after_call x.plain x.cpu.cpu.0 (frame_of lines x) r (looked_of x call).words ≡ new) (sym is)
       (rw (grants_are x.plain x.cpu.cspace.0 x.cpu.place (needs_of call) open_)
       (subst (λ (v : Verdict). after_verdict x.plain v ≡ new) (sym judged) refl))
 
   -- an act that was done
-  pub good_done : (x : Solo) (call : Call) (new : State) (reply : Reply) → Here x → call_of (frame_of lines x) ≡ Ok call → (looked_of x call).refused ≡ None → judge x.plain x.cpu.cpu.0 (frame_of lines x) call (looked_of x call).words ≡ Done new reply → Good x (done_call x call new reply)
+  pub good_done : (x : Caller) (call : Call) (new : State) (reply : Reply) → Here x → call_of (frame_of lines x) ≡ Ok call → (looked_of x call).refused ≡ None → judge x.plain x.cpu.cpu.0 (frame_of lines x) call (looked_of x call).words ≡ Done new reply → Good x (done_call x call new reply)
   good_done x call new reply here is open_ judged =
       let keeps : Keeps x.plain new = act_keeps x.plain x.cpu.cpu.0 call (map granted (looked_of x call).words) new reply judged in
       let number : new.entries ≡ length x.history + 1 = entry_number x new here keeps in
@@ -230,24 +226,24 @@ module _ (boot : State) (whole : List Event) (lines : List Line) where
       }
 
   -- the call by its verdict
-  pub good_verdict : (x : Solo) (call : Call) (v : Verdict) → Here x → call_of (frame_of lines x) ≡ Ok call → (looked_of x call).refused ≡ None → judge x.plain x.cpu.cpu.0 (frame_of lines x) call (looked_of x call).words ≡ v → Good x (by_verdict x.plain x.cpu (frame_of lines x) call (looked_of x call) v)
+  pub good_verdict : (x : Caller) (call : Call) (v : Verdict) → Here x → call_of (frame_of lines x) ≡ Ok call → (looked_of x call).refused ≡ None → judge x.plain x.cpu.cpu.0 (frame_of lines x) call (looked_of x call).words ≡ v → Good x (by_verdict x.plain x.cpu (frame_of lines x) call (looked_of x call) v)
   good_verdict x call (Done new reply) here is open_ judged = good_done x call new reply here is open_ judged
   good_verdict x call (Refused reply) here is open_ judged =
       let not_short : is_short call reply ≡ false = (act_refuses x.plain x.cpu.cpu.0 call (map granted (looked_of x call).words) reply judged).not_short in
       subst (λ (short : Bool). Good x (unmade x.plain x.cpu (frame_of lines x) (looked_of x call) (if short then ends.Short x.plain.entries [] else ends.Act x.plain.entries) reply)) (sym not_short) (good_act x call reply here is open_ judged)
 
-  pub good_looks : (x : Solo) (call : Call) (refused : Option Errno) → Here x → call_of (frame_of lines x) ≡ Ok call → (looked_of x call).refused ≡ refused → Good x (by_looks x.plain x.cpu (frame_of lines x) call (looked_of x call) refused)
+  pub good_looks : (x : Caller) (call : Call) (refused : Option Errno) → Here x → call_of (frame_of lines x) ≡ Ok call → (looked_of x call).refused ≡ refused → Good x (by_looks x.plain x.cpu (frame_of lines x) call (looked_of x call) refused)
   good_looks x call (Some errno) here is refused = good_refused x call errno here is refused
   good_looks x call None here is refused = good_verdict x call (judge x.plain x.cpu.cpu.0 (frame_of lines x) call (looked_of x call).words) here is refused refl
 
-  pub good_shape : (x : Solo) (shape : Result Call Errno) → Here x → call_of (frame_of lines x) ≡ shape → Good x (by_shape x.plain x.cpu (frame_of lines x) shape)
+  pub good_shape : (x : Caller) (shape : Result Call Errno) → Here x → call_of (frame_of lines x) ≡ shape → Good x (by_shape x.plain x.cpu (frame_of lines x) shape)
   good_shape x (Err errno) here is = good_frame x errno here is
   good_shape x (Ok call) here is =
       subst (λ (looked : Looked). Good x (by_looks x.plain x.cpu (frame_of lines x) call looked looked.refused)) (sym (look_all_is x.plain x.cpu.cspace.0 x.cpu.place (needs_of call))) (good_looks x call (looked_of x call).refused here is refl)
 
   -- the CPU's next call
-  abbrev pub called_of : Solo → Called
+  abbrev pub called_of : Caller → Called
   called_of x = next_call x.plain x.cpu lines
 
-  pub good_call : (x : Solo) → Here x → Good x (called_of x)
+  pub good_call : (x : Caller) → Here x → Good x (called_of x)
   good_call x here = good_shape x (call_of (frame_of lines x)) here refl

@@ -6,7 +6,6 @@ pub mod Graced
 pub mod History
 pub mod Legal
 pub mod Marks
-pub mod OneVm
 pub mod Program
 pub mod References
 pub mod Registers
