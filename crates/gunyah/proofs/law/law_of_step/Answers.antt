@@ -1,4 +1,4 @@
--- The boot file has one VM, so that the law of its runs holds.
+-- The boot file is one, so that the law of runs holds of it.
 use Rattle.gunyah.proofs.LawLemmas.{legal_under}
 use Rattle.gunyah.proofs.law.law_of_step.Goals as goal
 
