@@ -7,6 +7,7 @@ pub mod History
 pub mod Legal
 pub mod Marks
 pub mod Program
+pub mod Programs
 pub mod References
 pub mod Registers
 pub mod Rows
