@@ -2,11 +2,10 @@
 use Rattle.std.proofs.Common.{◌≡◌, ◌∙◌, sym, ℕ, zero, suc, ◌+◌, ◌-◌, ◌≤◌, ◌<◌, inl, inr, Result, Ok, Err, Bor, get_or, add-one, List, [], ◌∷◌, ◌++◌, length, take, drop, Option, None, Some, refl, ap, arith, rules, append_assoc, length-append}
 use Rattle.std.proofs.Math.Seq.{drop-cons, take-add, take-append-add, take-append_seam}
 use Rattle.std.specs.Io.KnownBytes.{append_known}
-use Rattle.gh_io.specs.Outside.{Asks}
-use Rattle.gh_io.specs.declared.files.LoadErr.{LoadErr}
-use Rattle.gh_io.specs.declared.files.LoadErr.TheVariants as load
-use Rattle.gunyah.specs.CallFile.{texts_of}
-use Rattle.gunyah.specs.Outcome.{TookFirst, AskedFirst}
+use Rattle.gunyah.specs.declared.read_err.ReadErr.{ReadErr}
+use Rattle.gunyah.specs.declared.read_err.ReadErr.TheVariants as stop
+use Rattle.gunyah.specs.Words.{texts_of}
+use Rattle.gunyah.specs.Outcome.{TookFirst, AskedFirst, AsksFor}
 
 -- bytes taken behind others of one output are a longer front part of it
 pub took_more : (known : Option (List ℕ)) (bytes : List ℕ) (count more : ℕ)
@@ -59,14 +58,15 @@ asked_next before mid now names i other within all grew asks =
     (omega (arith, ap length asks, length-append mid ((get_or names i other).now ∷ [])))
 
 -- after a load of the next of these names, only the first of them were asked
-pub asked_with : {T : Type 0} → (result : Result T LoadErr) (before mid now : List (List ℕ)) (names : List (Bor (List ℕ))) (i : ℕ) (other : Bor (List ℕ))
+pub asked_with : {T : Type 0} → (result : Result T ReadErr) (before mid now : List (List ℕ)) (names : List (Bor (List ℕ))) (i : ℕ) (other : Bor (List ℕ))
     → i < length names → mid ++ texts_of (drop i names) ≡ before ++ texts_of names → length before ≤ length mid
-    → Asks result mid now (get_or names i other).now → AskedFirst before now (texts_of names)
+    → AsksFor result mid now (get_or names i other).now → AskedFirst before now (texts_of names)
 asked_with (Ok bytes) before mid now names i other within all grew asks = asked_next before mid now names i other within all grew asks
-asked_with (Err load.Failed) before mid now names i other within all grew asks = asked_next before mid now names i other within all grew asks
-asked_with (Err load.NoMemory) before mid now names i other within all grew (inl same) =
+asked_with (Err stop.Failed) before mid now names i other within all grew asks = asked_next before mid now names i other within all grew asks
+asked_with (Err (stop.Bad fault)) before mid now names i other within all grew asks = asked_next before mid now names i other within all grew asks
+asked_with (Err stop.NoMemory) before mid now names i other within all grew (inl same) =
     asked_first before now (texts_of (drop i names)) (texts_of names) (ap (λ l. l ++ texts_of (drop i names)) same ∙ all) (omega (arith, ap length same))
-asked_with (Err load.NoMemory) before mid now names i other within all grew (inr asks) = asked_next before mid now names i other within all grew asks
+asked_with (Err stop.NoMemory) before mid now names i other within all grew (inr asks) = asked_next before mid now names i other within all grew asks
 
 -- nothing was asked
 pub asked_nothing : (before names : List (List ℕ)) → AskedFirst before before names

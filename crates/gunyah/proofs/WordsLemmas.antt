@@ -1,22 +1,20 @@
 -- The words of a step.
-use Rattle.std.proofs.Common.{◌≡◌, ℕ, true, false, List, [], ◌∷◌, map, codes, string_bytes, String, Global, get_or, arith, ap}
-use Rattle.std.proofs.lemmas.Bool.{false≢true}
+use Rattle.std.proofs.Common.{◌≡◌, ℕ, true, false, List, [], ◌∷◌, map, drop, codes, string_bytes, String, Global, get_or, arith, ap}
+use Rattle.std.proofs.lemmas.Bool.{false≢true, and_parts}
 use Rattle.std.proofs.lemmas.Slice.Eq.{bytes_eq-Decides}
 use Rattle.std.specs.Str.{bytes_eq}
-use Rattle.gunyah.specs.Words.{is_step}
+use Rattle.gunyah.specs.Words.{is_step, words_of}
 
 -- a word that compares as the name of the step command is it
 pub step_verb : (verb : List ℕ) → bytes_eq verb (codes "step") ≡ true → verb ≡ codes "step"
 step_verb verb same = (bytes_eq-Decides verb (codes "step")).0 same
 
--- the words of a step are its name and three more
-pub step_words : (words : List (String Global)) (boot schedule calls : String Global)
+-- the words of a step are its name and those of its files
+pub step_words : (words : List (String Global)) (boot schedule : String Global)
     → is_step (map (λ word. string_bytes word) words) ≡ true
-    → boot ≡ get_or words 1 boot → schedule ≡ get_or words 2 schedule → calls ≡ get_or words 3 calls
-    → map (λ word. string_bytes word) words ≡ codes "step" ∷ string_bytes boot ∷ string_bytes schedule ∷ string_bytes calls ∷ []
-step_words [] boot schedule calls step b s c = absurd (false≢true step)
-step_words (v ∷ []) boot schedule calls step b s c = absurd (false≢true step)
-step_words (v ∷ w ∷ []) boot schedule calls step b s c = absurd (false≢true step)
-step_words (v ∷ w ∷ x ∷ []) boot schedule calls step b s c = absurd (false≢true step)
-step_words (v ∷ w ∷ x ∷ y ∷ []) boot schedule calls step b s c = cc (step_verb (string_bytes v) step)
-step_words (v ∷ w ∷ x ∷ y ∷ z ∷ more) boot schedule calls step b s c = absurd (false≢true step)
+    → boot ≡ get_or words 1 boot → schedule ≡ get_or words 2 schedule
+    → map (λ word. string_bytes word) words ≡ codes "step" ∷ string_bytes boot ∷ string_bytes schedule ∷ words_of (drop 3 words)
+step_words [] boot schedule step b s = absurd (false≢true step)
+step_words (v ∷ []) boot schedule step b s = absurd (false≢true step)
+step_words (v ∷ w ∷ []) boot schedule step b s = absurd (false≢true step)
+step_words (v ∷ w ∷ x ∷ calls) boot schedule step b s = cc (step_verb (string_bytes v) (and_parts _ _ step).0)

@@ -1,5 +1,4 @@
-pub mod BootFile
-pub mod CallFile
+pub mod Input
 pub mod Outcome
 pub mod Status
 pub mod Step

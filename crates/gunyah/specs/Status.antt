@@ -5,6 +5,10 @@ use Rattle.gh_io.specs.declared.files.LoadErr.{LoadErr}
 use Rattle.gh_io.specs.declared.files.LoadErr.TheVariants as load
 use Rattle.gh_io.specs.declared.sink.PutErr.{PutErr}
 use Rattle.gh_io.specs.declared.sink.PutErr.TheVariants as put
+use Rattle.gunyah.specs.declared.read_err.BadFile.{BadFile}
+use Rattle.gunyah.specs.declared.read_err.BadFile.TheVariants as bad
+use Rattle.gunyah.specs.declared.read_err.ReadErr.{ReadErr}
+use Rattle.gunyah.specs.declared.read_err.ReadErr.TheVariants as stop
 use Rattle.gunyah.specs.declared.status.Status.{Status}
 use Rattle.gunyah.specs.declared.status.Status.TheVariants.{Done, Usage, ReadFault, WriteFault, BadBoot, BadCalls, BadSchedule, NoMemory, BadHistory, TooLarge}
 
@@ -35,10 +39,23 @@ status_text NoMemory = codes "no memory"
 status_text (BadHistory line) = codes "history line " ++ decimal line
 status_text (TooLarge file) = codes "file " ++ (decimal file ++ codes " too large")
 
--- the status of a load that gave no file
-abbrev pub status_of_load : LoadErr → Status
-status_of_load load.Failed = ReadFault
-status_of_load load.NoMemory = NoMemory
+-- a load that gave no file
+abbrev pub stop_of_load : LoadErr → ReadErr
+stop_of_load load.Failed = stop.Failed
+stop_of_load load.NoMemory = stop.NoMemory
+
+-- the status of a faulty file
+abbrev pub status_of_fault : BadFile → Status
+status_of_fault (bad.TooLarge file) = TooLarge file
+status_of_fault (bad.Boot line) = BadBoot line
+status_of_fault (bad.Schedule item) = BadSchedule item
+status_of_fault (bad.Calls file line) = BadCalls file line
+
+-- the status where the files weren't read
+abbrev pub status_of_stop : ReadErr → Status
+status_of_stop stop.Failed = ReadFault
+status_of_stop (stop.Bad fault) = status_of_fault fault
+status_of_stop stop.NoMemory = NoMemory
 
 -- the status of a put that took nothing
 abbrev pub status_of_put : PutErr → Status

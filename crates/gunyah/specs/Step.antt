@@ -1,50 +1,43 @@
--- What a step makes of its files: a boot file, a schedule, and call files.
-use Rattle.std.specs.Prelude.{◌==◌, ◌&&◌, ℕ, Bool, false, List, [], ◌∷◌, length, take, drop, map, nat_le}
-use Rattle.std.specs.List.{list_all}
+-- What a step makes of its files: the run of the boot file's VMs by whole calls, and its text.
+use Rattle.std.specs.Prelude.{ℕ, List, [], IfOk, Result, Ok, Err}
 use Rattle.gh_model.specs.declared.running.Running.{Running}
-use Rattle.gh_model.specs.declared.program.Line.{Line}
 use Rattle.gh_model.specs.Calls.{run_of}
 use Rattle.gh_model.specs.Run.{IsRun}
 use Rattle.gh_model.specs.Text.{history_text}
-use Rattle.gunyah.specs.BootFile.{is_boot_file, boot_lines}
-use Rattle.gunyah.specs.CallFile.{is_call_file, calls_of}
+use Rattle.gunyah.specs.Input.{step_input}
+use Rattle.gunyah.specs.declared.input.StepInput.{StepInput}
+use Rattle.gunyah.specs.declared.read_err.BadFile.{BadFile}
 
--- the file has at most 8,388,608 bytes
-abbrev pub is_small : List ℕ → Bool
-is_small text = nat_le (length text) 8388608
-
--- what is loaded of a file: no more than that, and one byte
-abbrev pub loaded : List ℕ → List ℕ
-loaded text = take 8388609 text
-
--- a schedule has no items yet
-abbrev pub is_schedule : List ℕ → Bool
-is_schedule text = length text == 0
-
--- the texts are a boot file, a schedule and one call file
-abbrev pub are_forms : List (List ℕ) → Bool
-are_forms (boot ∷ schedule ∷ calls ∷ []) = is_boot_file boot && is_schedule schedule && is_call_file calls
-are_forms texts = false
-
--- the files of a step are of their forms, and none is too large
-abbrev pub are_step_files : List (List ℕ) → Bool
-are_step_files texts = list_all is_small texts && are_forms texts
-
--- the text of the run by whole calls of these call files
+-- the text of a run
 abbrev pub text_of_run : Running → List ℕ
 text_of_run run = history_text run.entries run.marks run.plain
 
-abbrev pub calls_run : List (List Line) → Running
-calls_run files = run_of boot_lines files
+abbrev pub input_run : StepInput → Running
+input_run input = run_of input.boot input.calls
 
--- the run of a step's files
-abbrev pub step_run : List (List ℕ) → Running
-step_run texts = calls_run (map calls_of (drop 2 texts))
+abbrev pub text_of_input : StepInput → List ℕ
+text_of_input input = text_of_run (input_run input)
+
+-- the output of what was read
+abbrev pub output_of : Result StepInput BadFile → Result (List ℕ) BadFile
+output_of (Ok input) = Ok (text_of_input input)
+output_of (Err fault) = Err fault
+
+abbrev pub step_output : List (List ℕ) → Result (List ℕ) BadFile
+step_output texts = output_of (step_input texts)
+
+-- no output where a file is faulty
+abbrev pub text_or_nothing : Result (List ℕ) BadFile → List ℕ
+text_or_nothing (Ok text) = text
+text_or_nothing (Err fault) = []
 
 -- the output of a step
 abbrev pub step_text : List (List ℕ) → List ℕ
-step_text texts = text_of_run (step_run texts)
+step_text texts = text_or_nothing (step_output texts)
 
--- the run of a step's files is a run: a legal history, graced, and its calls are those of the VM's program
+-- the run of what was read is a run: a legal history, graced, and its calls are those of the VMs' programs
+abbrev pub InputRuns : StepInput → Type 0
+InputRuns input = IsRun input.boot input.calls (input_run input).entries (input_run input).marks (input_run input).plain
+
 abbrev pub StepRuns : List (List ℕ) → Type 0
-StepRuns texts = IsRun boot_lines (map calls_of (drop 2 texts)) (step_run texts).entries (step_run texts).marks (step_run texts).plain
+StepRuns texts = IfOk (step_input texts) InputRuns

@@ -6,7 +6,7 @@ ghost use Rattle.gunyah.specs.Step.{StepRuns};
 
 use gh_io::Files;
 
-/// The run of the files under any names is legal, graced, and by its program. The function does
+/// The run of the files under any names is legal, graced, and by its programs. The function does
 /// nothing; its clause is the law.
 pub fn law_of_step<F: Files>(files: &F)
     ensures { (names : List (List ℕ)) → IfSome (texts_under (F.contents files.now) names) StepRuns }

@@ -1,34 +1,74 @@
 //! Loads the files of a command.
 
-ghost use Rattle.std.specs.Prelude.{◌≡◌, length, map, false, IfOk, IfSome, IsErrOf};
+ghost use Rattle.std.specs.Prelude.{◌≡◌, ◌≤◌, [], length, map, false, IfOk, IfSome, IsErrOf, OnOk};
 ghost use Rattle.gh_io.specs.Outside.{Rose};
-ghost use Rattle.gunyah.specs.CallFile.{texts_of};
-ghost use Rattle.gunyah.specs.Outcome.{AskedFirst};
-ghost use Rattle.gunyah.specs.Step.{loaded};
+ghost use Rattle.gunyah.specs.Input.{sized, sizes_on, ReadsAs, LoadsAs};
+ghost use Rattle.gunyah.specs.Outcome.{AskedFirst, AsksFor};
+ghost use Rattle.gunyah.specs.Words.{texts_of};
 
+use crate::read_err::{BadFile, ReadErr};
 use gh_base::{BOOT_FILE_BYTES, Sequence};
-use gh_io::{Files, LoadErr};
+use gh_io::Files;
 use std::alloc::Global;
 
-/// Loads the files of these names in order. Of each it asks for its limit and one byte more.
+/// A file by its number, where it isn't too large.
+fn sized_file(bytes: Vec<u8>, number: u32) -> Result<Sequence<u8>, ReadErr>
+    ensures { ReadsAs (sized number bytes.items) result }
+{
+    if bytes.len() > BOOT_FILE_BYTES {
+        return Err(ReadErr::Bad(BadFile::TooLarge(number)));
+    }
+    Ok(Sequence::from_vec(bytes))
+}
 
+/// Loads a file by its number. It asks for the limit of a file and one byte more, so that one that is
+/// too large is told.
+fn load_file<F: Files>(
+    alloc: Global,
+    files: &mut F,
+    name: &str,
+    number: u32,
+) -> Result<Sequence<u8>, ReadErr>
+    ensures text { IfSome (F.contents files.old)
+        (λ file. LoadsAs (sized number (file name.now)) result) }
+
+    // A fault has its cause.
+    ensures failed { IsErrOf result ReadErr.Failed → Rose (F.faults files.old) (F.faults files.new) }
+    ensures unsure { IsErrOf result ReadErr.Failed → F.is_sure files.old ≡ false }
+
+    ensures asked { AsksFor result (F.asked files.old) (F.asked files.new) name.now }
+    ensures ok { OnOk result (F.faults files.new ≡ F.faults files.old) }
+
+    // What no call changes.
+    ensures told { F.contents files.new ≡ F.contents files.old }
+    ensures sure { F.is_sure files.new ≡ F.is_sure files.old }
+{
+    match files.load(alloc, name, BOOT_FILE_BYTES + 1) {
+        Err(error) => Err(ReadErr::from(error)),
+        Ok(bytes) => sized_file(bytes, number),
+    }
+}
+
+/// Loads the files of these names in order. The first that is too large ends it.
 pub(crate) fn load_files<F: Files>(
     alloc: Global,
     files: &mut F,
     names: &[&str],
-) -> Result<Sequence<Sequence<u8>>, LoadErr>
-    ensures texts { IfOk result (λ texts. IfSome (F.contents files.old)
-        (λ file. texts ≡ map (λ name. loaded (file name)) (texts_of names.now))) }
+) -> Result<Sequence<Sequence<u8>>, ReadErr>
+    requires { length names.now ≤ 10 }
+    ensures texts { IfSome (F.contents files.old)
+        (λ file. LoadsAs (sizes_on [] (map file (texts_of names.now))) result) }
+    ensures count { IfOk result (λ texts. length texts ≡ length names.now) }
     ensures asked { AskedFirst (F.asked files.old) (F.asked files.new) (texts_of names.now) }
 
     // A fault has its cause.
-    ensures failed { IsErrOf result LoadErr.Failed → Rose (F.faults files.old) (F.faults files.new) }
-    ensures unsure { IsErrOf result LoadErr.Failed → F.is_sure files.old ≡ false }
+    ensures failed { IsErrOf result ReadErr.Failed → Rose (F.faults files.old) (F.faults files.new) }
+    ensures unsure { IsErrOf result ReadErr.Failed → F.is_sure files.old ≡ false }
 {
-    let mut texts = Sequence::with_room(alloc, names.len())?;
+    let mut texts: Sequence<Sequence<u8>> = Sequence::with_room(alloc, names.len())?;
     for name in names {
-        let bytes = files.load(alloc, name, BOOT_FILE_BYTES + 1)?;
-        texts.push(Sequence::from_vec(bytes))?;
+        let text = load_file(alloc, files, name, texts.len() as u32 + 1)?;
+        texts.push(text)?;
     }
     Ok(texts)
 }

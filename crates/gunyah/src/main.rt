@@ -1,14 +1,13 @@
 //! Runs programs on the hypervisor and writes what happened.
 #![tactic(auto)]
 
-mod boot_file;
-mod call_file;
-mod call_line;
 mod command;
 mod command_line;
+mod input;
 mod law;
 mod load;
 mod output;
+mod read_err;
 mod status;
 mod step;
 mod top_call;

@@ -1,6 +1,7 @@
 //! How a command ended.
 
-use gh_io::{LoadErr, PutErr};
+use crate::read_err::{BadFile, ReadErr};
+use gh_io::PutErr;
 use std::fmt;
 
 /// How a command ended. Files, lines and items count from 1.
@@ -14,18 +15,17 @@ pub enum Status {
     ReadFault,
     /// The output couldn't be written. What was written is a front part of it.
     WriteFault,
-    /// The first bad line of the boot file. By now it is always 0, and tells that one of the three
-    /// files isn't of its form.
+    /// The first bad line of the boot file.
     BadBoot(u32),
-    /// A call file and its first bad line. It can't come yet.
+    /// A call file and its first bad line; line 0 where there is no VM for it.
     BadCalls(u32, u32),
-    /// The first bad item of the schedule. It can't come yet.
+    /// The first bad item of the schedule.
     BadSchedule(u32),
     /// Memory ran out. What was written is a front part of the output.
     NoMemory,
     /// The first bad line of a history. It can't come yet.
     BadHistory(u32),
-    /// The first file of more bytes than its limit. It can't come yet.
+    /// The first file of more bytes than its limit.
     TooLarge(u32),
 }
 
@@ -52,16 +52,20 @@ impl Status {
     }
 }
 
-impl From<LoadErr> for Status {
+impl From<ReadErr> for Status {
     ghost use Rattle.std.specs.Prelude.{◌≡◌};
-    ghost use Rattle.gunyah.specs.Status.{status_of_load};
+    ghost use Rattle.gunyah.specs.Status.{status_of_stop};
 
-    ghost from_gives = { λ error status. status ≡ status_of_load error };
+    ghost from_gives = { λ error status. status ≡ status_of_stop error };
 
-    fn from(error: LoadErr) -> Status {
+    fn from(error: ReadErr) -> Status {
         match error {
-            LoadErr::Failed => Status::ReadFault,
-            LoadErr::NoMemory => Status::NoMemory,
+            ReadErr::Failed => Status::ReadFault,
+            ReadErr::NoMemory => Status::NoMemory,
+            ReadErr::Bad(BadFile::TooLarge(file)) => Status::TooLarge(file),
+            ReadErr::Bad(BadFile::Boot(line)) => Status::BadBoot(line),
+            ReadErr::Bad(BadFile::Schedule(item)) => Status::BadSchedule(item),
+            ReadErr::Bad(BadFile::Calls(file, line)) => Status::BadCalls(file, line),
         }
     }
 }

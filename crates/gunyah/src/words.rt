@@ -1,6 +1,6 @@
 //! The words of a command line.
 
-ghost use Rattle.std.specs.Prelude.{◌≡◌, ◌↔◌, ◌∷◌, [], length, string_bytes, true, false, IfOk, OnErr, IsErr};
+ghost use Rattle.std.specs.Prelude.{◌≡◌, ◌↔◌, ◌≤◌, ◌∷◌, length, string_bytes, true, false, IfOk, OnErr, IsErr};
 ghost use Rattle.std.specs.Bool.{OnTrue};
 ghost use Rattle.gunyah.specs.Words.{is_step, step_files, words_of, Spells};
 
@@ -8,35 +8,46 @@ use crate::command::{Command, StepArgs, Usage};
 use gh_base::NoMemory;
 use std::alloc::Global;
 
+/// Words of a command, for it to keep.
+fn copies(alloc: Global, words: &[String]) -> Result<Vec<String>, NoMemory>
+    ensures { IfOk result (λ copies. words_of copies.items ≡ words_of words.now) }
+{
+    let mut copies = Vec::new(alloc);
+    for word in words {
+        copies.push(word.clone()?)?;
+    }
+    Ok(copies)
+}
+
 fn step_args(
     alloc: Global,
     boot: &String,
     schedule: &String,
-    calls: &String,
+    calls: &[String],
 ) -> Result<StepArgs, NoMemory>
     ensures { IfOk result (λ args. step_files args
-        ≡ string_bytes boot.now ∷ string_bytes schedule.now ∷ string_bytes calls.now ∷ []) }
+        ≡ string_bytes boot.now ∷ string_bytes schedule.now ∷ words_of calls.now) }
 {
     Ok(StepArgs {
         boot: boot.clone()?,
         schedule: schedule.clone()?,
-        calls: vec![in alloc; calls.clone()?]?,
+        calls: copies(alloc, calls)?,
     })
 }
 
 /// Whether the words are those of `step`.
 fn is_step(words: &[String]) -> bool
     ensures test { result ≡ is_step (words_of words.now) }
-    ensures count { OnTrue result (length words.now ≡ 4) }
+    ensures count { OnTrue result (3 ≤ length words.now) }
 {
-    match words {
-        [verb, _, _, _] => verb.as_str() == "step",
-        _ => false,
+    match words.split_first() {
+        Some((verb, files)) => verb.as_str() == "step" && files.len() >= 2 && files.len() <= 10,
+        None => false,
     }
 }
 
-/// The command that the words behind the program's name spell. By now it is `step` with exactly one
-/// call file.
+/// The command that the words behind the program's name spell. By now it is `step`, with up to eight
+/// call files.
 pub fn read_words(alloc: Global, words: &[String]) -> Result<Result<Command, Usage>, NoMemory>
     ensures command { IfOk result (λ read.
         IfOk read (Spells (words_of words.now))) }
@@ -47,6 +58,6 @@ pub fn read_words(alloc: Global, words: &[String]) -> Result<Result<Command, Usa
     if !is_step(words) {
         return Ok(Err(Usage));
     }
-    let args = step_args(alloc, &words[1], &words[2], &words[3])?;
+    let args = step_args(alloc, &words[1], &words[2], &words[3..])?;
     Ok(Ok(Command::Step(args)))
 }

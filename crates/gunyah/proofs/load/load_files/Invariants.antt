@@ -1,12 +1,13 @@
-use Rattle.std.proofs.Common.{◌≡◌, ◌≤◌, ◌++◌, length, map, drop, IfSome}
-use Rattle.gunyah.specs.CallFile.{texts_of}
-use Rattle.gunyah.specs.Step.{loaded}
+use Rattle.std.proofs.Common.{◌≡◌, ◌≤◌, ◌++◌, [], length, map, drop, IfSome}
+use Rattle.gunyah.specs.Input.{sizes_on}
+use Rattle.gunyah.specs.Words.{texts_of}
 use Rattle.gunyah.proofs.load.load_files.Given as goal
 
 abbrev pub invariant-loop-name : goal.invariant-loop-name
 invariant-loop-name g l = record {
   texts : IfSome (g.F.Files.contents l.fn.files)
-      (λ file. l.texts ++ map (λ name. loaded (file name)) (texts_of (drop l.name-index l.names)) ≡ map (λ name. loaded (file name)) (texts_of l.names));
+      (λ file. sizes_on l.texts (map file (texts_of (drop l.name-index l.names))) ≡ sizes_on [] (map file (texts_of l.names)));
+  count : length l.texts ≡ l.name-index;
   told : g.F.Files.contents l.files ≡ g.F.Files.contents l.fn.files;
   asked : g.F.Files.asked l.files ++ texts_of (drop l.name-index l.names) ≡ g.F.Files.asked l.fn.files ++ texts_of l.names;
   grew : length (g.F.Files.asked l.fn.files) ≤ length (g.F.Files.asked l.files);

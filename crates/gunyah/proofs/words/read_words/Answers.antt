@@ -4,5 +4,5 @@ use Rattle.gunyah.proofs.words.read_words.Goals as goal
 
 pub returns-clause-command : goal.returns-clause-command
 returns-clause-command c =
-    step_words c.args.words.now c.index-words-1.result c.index-words-2.result c.index-words-3.result (cc) c.index-words-1.is c.index-words-2.is c.index-words-3.is
+    step_words c.args.words.now c.index-words-1.result c.index-words-2.result (cc) c.index-words-1.is c.index-words-2.is
     ∙ ap (λ files. codes "step" ∷ files) (sym c.in_ok-args.ensures)
