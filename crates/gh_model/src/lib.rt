@@ -25,7 +25,7 @@ pub use entry::Entry;
 pub use file_err::FileErr;
 pub use law::run_is_legal;
 pub use plain::{Judged, Plain};
-pub use program::{Line, Step};
+pub use program::{Line, Program, Step};
 pub use rows::{
     BellRow, Borrower, CapabilityRow, CpuRow, ExtentRow, LinkRow, MappingRow, ObjectRow, Parcel,
     ParcelKind, PartitionRow, QueueRow, SetAtRow, TakenSlot,
