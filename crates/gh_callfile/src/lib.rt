@@ -1,0 +1,9 @@
+//! Call files and schedules, and the program that a call file is.
+#![tactic(auto)]
+
+mod law;
+mod vm_program;
+
+pub use gh_model::{FileErr, Line};
+pub use law::program_makes_its_lines;
+pub use vm_program::VmProgram;
