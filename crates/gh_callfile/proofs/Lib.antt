@@ -1,1 +1,3 @@
+mod CallLineLemmas
+mod NumeralLemmas
 mod ProgramLemmas

@@ -1,7 +1,9 @@
 //! Call files and schedules, and the program that a call file is.
 #![tactic(auto)]
 
+mod call_line;
 mod law;
+mod numeral;
 mod vm_program;
 
 pub use gh_model::{FileErr, Line};
