@@ -1,3 +1,4 @@
+mod CallFileLemmas
 mod CallLineLemmas
 mod NumeralLemmas
 mod ProgramLemmas

@@ -1,5 +1,5 @@
 -- The grammar of a call line, word by word.
-use Rattle.std.specs.Prelude.{◌==◌, ◌&&◌, ◌||◌, ◌%◌, not, ℕ, Bool, true, false, List, [], ◌∷◌, length, drop, slice_index, slice_get, count_by, nat_le, nat_lt, Option, Some, None, unwrap_or, map, Result, Ok, Err, if◌then◌else◌}
+use Rattle.std.specs.Prelude.{◌==◌, ◌&&◌, ◌||◌, ◌%◌, not, ℕ, Bool, List, [], ◌∷◌, length, drop, slice_index, slice_get, count_by, nat_le, nat_lt, Option, Some, None, unwrap_or, map, Result, Ok, Err, if◌then◌else◌}
 use Rattle.std.specs.List.{list_all, prefix_len, slice_split, take_while}
 use Rattle.std.specs.Borrow.{Bor}
 use Rattle.std.specs.Char.{digit_value}

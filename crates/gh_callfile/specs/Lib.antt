@@ -1,2 +1,3 @@
+pub mod CallFile
 pub mod Grammar
 pub mod VmProgress

@@ -1,4 +1,4 @@
-use Rattle.std.proofs.Common.{◌≡◌, ◌≢◌, length, arith}
+use Rattle.std.proofs.Common.{◌≢◌, length, arith}
 use Rattle.std.proofs.lemmas.Bool.Decides.{nat_tests}
 use Rattle.gh_callfile.proofs.CallLineLemmas.{no_line_behind}
 use Rattle.gh_callfile.proofs.call_line.line_behind.Goals as goal
