@@ -45,7 +45,7 @@ fn first_line(text: &[u8]) -> Option<(&[u8], &[u8])>
 }
 
 /// The number behind this one. A list of so many lines isn't held in memory.
-fn number_after(number: u32) -> Result<u32, FileErr>
+pub(crate) fn number_after(number: u32) -> Result<u32, FileErr>
     ensures ok { IfOk result (λ next. next ≡ number + 1) }
     ensures err { IfErr result (λ err. err ≡ FileErr.NoMemory) }
 {
