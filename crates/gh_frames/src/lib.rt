@@ -2,7 +2,18 @@
 #![tactic(auto)]
 
 mod capabilities;
+mod cspace;
+mod doorbell;
+mod functions;
+mod manager;
+mod memory;
+mod object;
+mod queue;
 mod read;
+mod refusals;
 
 pub use capabilities::needs;
-pub use read::{BUILT, read_call};
+pub use read::{BUILT, read_call, read_shape};
+
+#[cfg(test)]
+mod tests;

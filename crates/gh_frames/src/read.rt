@@ -1,58 +1,75 @@
 //! Frames by the register table.
 
-ghost use Rattle.std.specs.Prelude.{◌≡◌, ◌%◌, ◌-◌, ◌^◌, Result, Ok, Err, slice_index};
-ghost use Rattle.gh_model.specs.Registers.{call_of, function_number};
+ghost use Rattle.std.specs.Prelude.{◌≡◌, ◌==◌};
+ghost use Rattle.std.specs.List.{list_any};
+ghost use Rattle.gh_model.specs.Registers.{built, call_of, shape_of};
 
+use crate::cspace::{cap_copy, cap_delete, cap_revoke, caps_revoke};
+use crate::doorbell::{bell_receive, bell_reset, bell_send, bell_set_mask};
+use crate::functions::{
+    ACTIVATE, AS_LOOKUP, BELL_RECEIVE, BELL_RESET, BELL_SEND, BELL_SET_MASK, CAP_COPY, CAP_DELETE,
+    CAP_REVOKE, CAPS_REVOKE, CONFIGURE_PARTITION, CONFIGURE_QUEUE, CREATE, DERIVE, DONATE, EXIT,
+    IDENTIFY, MAP, MSGQ_FLUSH, MSGQ_RECV, MSGQ_SEND, RM_ACT, RM_POLL, UNMAP, function,
+};
+use crate::manager::{rm_act, rm_poll};
+use crate::memory::{as_lookup, derive, donate, map, unmap};
+use crate::object::{activate, configure_partition, create};
+use crate::queue::{configure_queue, msgq_flush, msgq_recv, msgq_send};
 use gh_base::{Call, Errno, Frame};
 
 /// The functions that the hypervisor has by now: identify, bell_send and exit. A frame of another is
 /// refused as of no function.
 pub const BUILT: [u64; 3] = [IDENTIFY, BELL_SEND, EXIT];
 
-/// The numbers of identify and bell_send are those of the Linux drivers, that of exit is this
-/// project's own.
-const IDENTIFY: u64 = 0x8000;
-
-const BELL_SEND: u64 = 0x8012;
-
-const EXIT: u64 = 0x8240;
-
-/// A fast 64-bit call of the SMC calling convention to the vendor hypervisor, in the low 32 bits.
-const VENDOR_HYPERVISOR: u64 = 0xc600_0000;
-
-fn function(frame: &Frame) -> u64
-    ensures { result ≡ function_number frame.now }
+fn is_built(number: u64) -> bool
+    ensures { result ≡ list_any (λ built_number. built_number == number) built }
 {
-    (frame.x[0] % 0x1_0000_0000).saturating_sub(VENDOR_HYPERVISOR)
+    BUILT.contains(&number)
 }
 
-fn bell_send(frame: &Frame) -> Result<Call, Errno>
-    requires { function_number frame.now ≡ 0x8012 }
-    ensures { result ≡ call_of frame.now }
-{
-    if frame.x[3] != 0 {
-        return Err(Errno::ArgInval);
-    }
-    let flags = frame.x[2];
-    if flags == 0 {
-        return Err(Errno::ArgInval);
-    }
-    Ok(Call::BellSend {
-        cap: frame.x[1],
-        flags,
-    })
-}
-
-/// The call of a frame. It is refused with -1 where it names no function that is built, then with 1
-/// for a register that must be zero and isn't, then for its shape. Bits of x0 above 31 aren't looked
-/// at. It takes no memory.
-pub fn read_call(frame: &Frame) -> Result<Call, Errno>
-    ensures { result ≡ call_of frame.now }
+/// The call of a frame, whether it is built or not. It is refused with -1 where it names no function,
+/// then with 1 for a register that must be zero and isn't, then for its shape. Bits of x0 above 31
+/// aren't looked at. It takes no memory.
+pub fn read_shape(frame: &Frame) -> Result<Call, Errno>
+    ensures { result ≡ shape_of frame.now }
 {
     match function(frame) {
         IDENTIFY => Ok(Call::Identify),
         BELL_SEND => bell_send(frame),
+        BELL_SET_MASK => bell_set_mask(frame),
+        MSGQ_SEND => msgq_send(frame),
+        MSGQ_RECV => msgq_recv(frame),
+        MAP => map(frame),
+        UNMAP => unmap(frame),
+        DONATE => donate(frame),
+        CREATE => create(frame),
+        CONFIGURE_PARTITION => configure_partition(frame),
+        CONFIGURE_QUEUE => configure_queue(frame),
+        ACTIVATE => activate(frame),
+        CAP_COPY => cap_copy(frame),
+        CAP_DELETE => cap_delete(frame),
+        CAP_REVOKE => cap_revoke(frame),
+        CAPS_REVOKE => caps_revoke(frame),
+        BELL_RECEIVE => bell_receive(frame),
+        BELL_RESET => bell_reset(frame),
+        MSGQ_FLUSH => msgq_flush(frame),
+        DERIVE => derive(frame),
+        AS_LOOKUP => as_lookup(frame),
         EXIT => Ok(Call::Exit),
+        RM_ACT => rm_act(frame),
+        RM_POLL => rm_poll(frame),
         _ => Err(Errno::Unimplemented),
+    }
+}
+
+/// The call of a frame by the functions that are built: -1 where the frame names none of these, and
+/// else what `read_shape` answers. It takes no memory.
+pub fn read_call(frame: &Frame) -> Result<Call, Errno>
+    ensures { result ≡ call_of frame.now }
+{
+    if is_built(function(frame)) {
+        read_shape(frame)
+    } else {
+        Err(Errno::Unimplemented)
     }
 }

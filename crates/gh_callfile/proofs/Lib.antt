@@ -1,0 +1,4 @@
+mod CallFileLemmas
+mod CallLineLemmas
+mod NumeralLemmas
+mod ProgramLemmas

@@ -1,0 +1,4 @@
+pub mod CallFile
+pub mod Grammar
+pub mod Schedule
+pub mod VmProgress
