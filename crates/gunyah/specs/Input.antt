@@ -1,12 +1,11 @@
 -- What the files of a step read as: a boot file and the calls of its VMs, or the first fault.
-use Rattle.std.specs.Prelude.{◌≡◌, ◌+◌, ◌-◌, ⊤, ℕ, Bool, true, false, List, [], ◌∷◌, ◌++◌, length, map, count_by, sum_by, nat_le, nat_lt, Option, Some, None, Result, Ok, Err, if◌then◌else◌}
+use Rattle.std.specs.Prelude.{◌≡◌, ◌+◌, ◌-◌, ⊤, ℕ, Bool, true, false, List, [], ◌∷◌, ◌++◌, length, map, count_by, nat_le, nat_lt, Option, Some, None, Result, Ok, Err, if◌then◌else◌}
 use Rattle.std.specs.List.{position}
 use Rattle.gh_base.specs.declared.ids.CpuNo.{CpuNo}
 use Rattle.gh_bootfile.specs.BootFile.{boot_of, told, told_number}
-use Rattle.gh_callfile.specs.CallFile.{calls_of}
-use Rattle.gh_callfile.specs.Schedule.{schedule_of}
+use Rattle.gh_callfile.specs.CallFile.{Reading, Good, BadAt, reading, calls_of_lines}
+use Rattle.gh_callfile.specs.Schedule.{bad_item, cpus_of, makes_vm, makes_manager}
 use Rattle.gh_model.specs.declared.boot_line.BootLine.{BootLine}
-use Rattle.gh_model.specs.declared.boot_line.BootLine.TheVariants.{Rm, Vm}
 use Rattle.gh_model.specs.declared.program.Line.{Line}
 use Rattle.gunyah.specs.declared.input.StepInput.{StepInput}
 use Rattle.gunyah.specs.declared.read_err.BadFile.{BadFile}
@@ -36,17 +35,13 @@ sizes_on files (text ∷ texts) = and_then (sized (length files + 1) text) (λ f
 
 -- the boot file
 
-abbrev pub is_manager_line : BootLine → Bool
-is_manager_line (Rm cspace space partition) = true
-is_manager_line line = false
-
 -- the resource manager's program isn't built, so a boot file that has one is refused at its line
 abbrev pub refused_at : Option ℕ → List BootLine → Result (List BootLine) BadFile
 refused_at None lines = Ok lines
 refused_at (Some at) lines = Err (bad.Boot (told_number (at + 2)))
 
 abbrev pub without_manager : List BootLine → Result (List BootLine) BadFile
-without_manager lines = refused_at (position is_manager_line lines) lines
+without_manager lines = refused_at (position makes_manager lines) lines
 
 abbrev pub boot_result : Result (List BootLine) ℕ → Result (List BootLine) BadFile
 boot_result (Ok lines) = without_manager lines
@@ -62,43 +57,32 @@ abbrev pub without_items : List CpuNo → Result (List CpuNo) BadFile
 without_items [] = Ok []
 without_items (cpu ∷ cpus) = Err (bad.Schedule 1)
 
-abbrev pub schedule_result : Result (List CpuNo) ℕ → Result (List CpuNo) BadFile
-schedule_result (Ok items) = without_items items
-schedule_result (Err item) = Err (bad.Schedule item)
+abbrev pub schedule_result : Option ℕ → List CpuNo → Result (List CpuNo) BadFile
+schedule_result None cpus = without_items cpus
+schedule_result (Some item) cpus = Err (bad.Schedule item)
 
 abbrev pub schedule_input : List BootLine → List ℕ → Result (List CpuNo) BadFile
-schedule_input lines text = schedule_result (schedule_of lines text)
+schedule_input lines text = schedule_result (bad_item lines text) (cpus_of text)
 
 -- call files
 
-abbrev pub is_vm_line : BootLine → Bool
-is_vm_line (Vm cspace space) = true
-is_vm_line line = false
-
 abbrev pub vm_lines : List BootLine → ℕ
-vm_lines lines = count_by is_vm_line lines
+vm_lines lines = count_by makes_vm lines
 
--- the calls of a call file, repeats counted
-abbrev pub line_calls : Line → ℕ
-line_calls line = line.times
-
-abbrev pub calls_in : List Line → ℕ
-calls_in lines = sum_by line_calls lines
-
-abbrev pub calls_result : ℕ → Result (List Line) ℕ → Result (List Line) BadFile
-calls_result number (Ok lines) = Ok lines
-calls_result number (Err line) = Err (bad.Calls number line)
+abbrev pub calls_result : ℕ → Reading → Result (List Line) BadFile
+calls_result number (Good lines) = Ok lines
+calls_result number (BadAt line) = Err (bad.Calls number line)
 
 -- a call file by its number among all files, with room for so many calls; a VM for which there is none has line 0
 abbrev pub call_file : Bool → ℕ → ℕ → List ℕ → Result (List Line) BadFile
-call_file has_vm number room text = if has_vm then calls_result number (calls_of room text) else Err (bad.Calls number 0)
+call_file has_vm number room text = if has_vm then calls_result number (reading text room) else Err (bad.Calls number 0)
 
 -- call files behind those so far, of VMs in order; the boot file and the schedule are files 1 and 2
 abbrev pub calls_on : ℕ → ℕ → List (List Line) → List (List ℕ) → Result (List (List Line)) BadFile
 calls_on vms room files [] = Ok files
 calls_on vms room files (text ∷ texts) =
     and_then (call_file (nat_lt (length files) vms) (length files + 3) room text)
-    (λ lines. calls_on vms (room - calls_in lines) (files ++ lines ∷ []) texts)
+    (λ lines. calls_on vms (room - calls_of_lines lines) (files ++ lines ∷ []) texts)
 
 -- all files
 

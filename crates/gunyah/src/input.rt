@@ -3,7 +3,9 @@
 ghost use Rattle.std.specs.Prelude.{◌≡◌, ◌<◌, ◌≤◌, ◌+◌, ◌-◌, ◌^◌, ◌∷◌, [], length, IfSome};
 ghost use Rattle.std.specs.List.{position};
 ghost use Rattle.gh_bootfile.specs.BootFile.{told_number};
-ghost use Rattle.gunyah.specs.Input.{ReadsAs, boot_input, without_manager, is_manager_line, schedule_input, without_items, vm_lines, calls_in, call_file, calls_on, input_of};
+ghost use Rattle.gh_callfile.specs.CallFile.{calls_of_lines};
+ghost use Rattle.gh_callfile.specs.Schedule.{makes_manager};
+ghost use Rattle.gunyah.specs.Input.{ReadsAs, boot_input, without_manager, schedule_input, without_items, vm_lines, call_file, calls_on, input_of};
 
 use crate::read_err::{BadFile, ReadErr};
 use gh_base::{CALL_FILE_CALLS, CpuNo, Sequence};
@@ -30,7 +32,7 @@ fn line_number(lines: usize) -> u32
 
 /// Where the line of the resource manager is.
 fn manager_line(lines: &[BootLine]) -> Option<usize>
-    ensures place { result ≡ position is_manager_line lines.now }
+    ensures place { result ≡ position makes_manager lines.now }
     ensures within { IfSome result (λ at. at < length lines.now) }
 {
     lines.iter().position(|line| matches!(line, BootLine::Rm { .. }))
@@ -86,7 +88,7 @@ fn vms(lines: &[BootLine]) -> usize
 
 /// The calls of lines, repeats counted.
 fn count_calls(lines: &[Line]) -> u128
-    ensures { result ≡ calls_in lines.now }
+    ensures { result ≡ calls_of_lines lines.now }
 {
     lines.iter().map(|line| line.times as u128).sum()
 }
@@ -113,7 +115,7 @@ fn calls(
 
 /// The room that these lines leave.
 fn room_left(room: u32, lines: &[Line]) -> u32
-    ensures { result ≡ room - calls_in lines.now }
+    ensures { result ≡ room - calls_of_lines lines.now }
 {
     (room as u128).saturating_sub(count_calls(lines)) as u32
 }
