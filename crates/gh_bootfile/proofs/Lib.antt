@@ -1,0 +1,5 @@
+pub mod FreeBytes
+pub mod LineLaw
+pub mod NumberLaw
+pub mod NumberLemmas
+pub mod PieceLemmas
