@@ -1,5 +1,6 @@
 -- Texts without a byte: what parts a text stands in none of its pieces.
-use Rattle.std.proofs.Common.{◌≡◌, ℕ, ◌<◌, Bool, true, false, not, List, [], ◌∷◌, ◌++◌, All, refl, ◌∙◌, arith}
+use Rattle.std.proofs.Common.{◌≡◌, ℕ, ◌≤◌, ◌&&◌, leb, Bool, true, false, not, List, [], ◌∷◌, ◌++◌, All, refl, ◌∙◌, arith}
+use Rattle.std.specs.Prelude.{nat_le}
 use Rattle.std.specs.List.{list_all, AllByRecursion}
 use Rattle.std.proofs.lemmas.Bool.Decides.{nat_tests}
 use Rattle.std.proofs.lemmas.Bool.{and_parts, and_from, not-true}
@@ -23,12 +24,23 @@ free_each byte (x ∷ xs) free =
 pub free_all : (byte : ℕ) (text : List ℕ) → is_free byte text ≡ true → All (λ here. is_byte_of byte here ≡ false) text
 free_all byte text free = All-from_recursion (λ here. is_byte_of byte here ≡ false) text (free_each byte text free)
 
-not_digit : (byte here : ℕ) → byte < 48 → is_digit here ≡ true → not (is_byte_of byte here) ≡ true
-not_digit byte here small digit = grind (arith, nat_tests)
+-- a byte above all that part a text
+abbrev pub is_letter : ℕ → Bool
+is_letter byte = nat_le 48 byte
 
--- digits have none of the bytes below theirs
-pub digits_free : (byte : ℕ) (text : List ℕ) → byte < 48 → list_all is_digit text ≡ true → is_free byte text ≡ true
-digits_free byte [] small digits = refl
-digits_free byte (x ∷ xs) small digits =
+not_letter : (byte here : ℕ) → byte ≤ 47 → is_letter here ≡ true → not (is_byte_of byte here) ≡ true
+not_letter byte here low letter = grind (arith, nat_tests)
+
+-- letters and digits have none of the bytes below theirs
+pub letters_free : (byte : ℕ) (text : List ℕ) → byte ≤ 47 → list_all is_letter text ≡ true → is_free byte text ≡ true
+letters_free byte [] low letters = refl
+letters_free byte (x ∷ xs) low letters =
+    let parts = and_parts (is_letter x) (list_all is_letter xs) letters in
+    and_from (not (is_byte_of byte x)) (is_free byte xs) (not_letter byte x low parts.0) (letters_free byte xs low parts.1)
+
+pub digits_free : (byte : ℕ) (text : List ℕ) → byte ≤ 47 → list_all is_digit text ≡ true → is_free byte text ≡ true
+digits_free byte [] low digits = refl
+digits_free byte (x ∷ xs) low digits =
     let parts = and_parts (is_digit x) (list_all is_digit xs) digits in
-    and_from (not (is_byte_of byte x)) (is_free byte xs) (not_digit byte x small parts.0) (digits_free byte xs small parts.1)
+    let letter = and_parts (leb 48 x) (leb x 57) parts.0 in
+    and_from (not (is_byte_of byte x)) (is_free byte xs) (not_letter byte x low letter.0) (digits_free byte xs low parts.1)

@@ -1,7 +1,7 @@
 -- The two laws on lines: what is read is the line's text, and a line's text is read.
 use Rattle.std.proofs.Common.{◌≡◌, ℕ, zero, suc, ◌+◌, ◌^◌, ◌<◌, ◌≤◌, Bool, true, false, ◌&&◌, cond, eqb, List, [], ◌∷◌, ◌++◌, length, get_or, map, codes, Option, Some, None, refl, sym, ap, ◌∙◌, append_assoc, length-append, arith, lit<, lit≤}
 use Rattle.std.specs.Fmt.{decimal}
-use Rattle.std.specs.List.{find, join_with_byte, AllByRecursion, range_with_len}
+use Rattle.std.specs.List.{find, flat_map, list_all, join_with_byte, AllByRecursion, range_with_len}
 use Rattle.std.specs.Option.{option_and_then}
 use Rattle.std.proofs.lemmas.Bool.{and_parts, eqb-true, leb-true, cond-true}
 use Rattle.std.proofs.lemmas.Bool.Decides.{nat_tests}
@@ -12,11 +12,11 @@ use Rattle.std.proofs.lemmas.Option.{cond_some, same_Some, option_and_then_some}
 use Rattle.std.proofs.lemmas.Slice.Eq.{bytes_eq-Decides}
 use Rattle.gh_bootfile.specs.declared.keyword.Keyword.{Keyword}
 use Rattle.gh_bootfile.specs.declared.keyword.Keyword.TheVariants as word
-use Rattle.gh_bootfile.specs.Grammar.{spelled, mark_number, line_text, fields_hold}
+use Rattle.gh_bootfile.specs.Grammar.{spaced, spelled, mark_number, line_text, fields_hold}
 use Rattle.gh_bootfile.specs.Reading.{is_byte_of, pieces_at, has_text, keyword_text, keywords, keyword_of, number_count, number_of, with_number, numbers_on, line_made, mark_holds, line_with, line_from, line_of_words, line_of}
 use Rattle.gh_model.specs.declared.boot_line.BootLine.{BootLine}
 use Rattle.gh_model.specs.declared.boot_line.BootLine.TheVariants as boot
-use Rattle.gh_bootfile.proofs.FreeBytes.{is_free, free_all}
+use Rattle.gh_bootfile.proofs.FreeBytes.{is_free, free_append, free_all, is_letter, letters_free}
 use Rattle.gh_bootfile.proofs.NumberLaw.{number_read, number_again, decimal_free}
 
 abbrev pub IsSmall : ℕ → Type 0
@@ -78,7 +78,7 @@ words_again : (first : List ℕ) (ns : List ℕ) → is_free 32 first ≡ true �
 words_again first [] free small = ap (pieces_at 32) (append-nil first) ∙ slice_split_none (is_byte_of 32) first (free_all 32 first free)
 words_again first (n ∷ ns) free small =
     slice_split_at (is_byte_of 32) first 32 (spelled (decimal n) ns) (free_all 32 first free) refl
-    ∙ ap (λ (texts : List (List ℕ)). first ∷ texts) (words_again (decimal n) ns (decimal_free 32 n (lit< tt) small.0) small.1)
+    ∙ ap (λ (texts : List (List ℕ)). first ∷ texts) (words_again (decimal n) ns (decimal_free 32 n (lit≤ tt) small.0) small.1)
 
 -- ---- the keyword
 
@@ -108,20 +108,24 @@ keyword_again word.Vm = refl
 keyword_again word.Rm = refl
 keyword_again word.Link = refl
 
-keyword_free : (keyword : Keyword) → is_free 32 (keyword_text keyword) ≡ true
-keyword_free word.Pages = refl
-keyword_free word.Partition = refl
-keyword_free word.Cspace = refl
-keyword_free word.Addrspace = refl
-keyword_free word.Doorbell = refl
-keyword_free word.RootExtent = refl
-keyword_free word.Extent = refl
-keyword_free word.Msgqueue = refl
-keyword_free word.Map = refl
-keyword_free word.Cap = refl
-keyword_free word.Vm = refl
-keyword_free word.Rm = refl
-keyword_free word.Link = refl
+-- a keyword has only letters
+letters : (keyword : Keyword) → list_all is_letter (keyword_text keyword) ≡ true
+letters word.Pages = refl
+letters word.Partition = refl
+letters word.Cspace = refl
+letters word.Addrspace = refl
+letters word.Doorbell = refl
+letters word.RootExtent = refl
+letters word.Extent = refl
+letters word.Msgqueue = refl
+letters word.Map = refl
+letters word.Cap = refl
+letters word.Vm = refl
+letters word.Rm = refl
+letters word.Link = refl
+
+keyword_free : (byte : ℕ) (keyword : Keyword) → byte ≤ 47 → is_free byte (keyword_text keyword) ≡ true
+keyword_free byte keyword low = letters_free byte (keyword_text keyword) low (letters keyword)
 
 -- ---- the line of a keyword and numbers
 
@@ -192,43 +196,61 @@ line_read text line e =
     let read = words_read (pieces_at 32 text) line e in
     record { text_is = sym whole ∙ read.text_is; fields = read.fields }
 
--- a line is read where its keyword and numbers are
-read_from : (line : BootLine) (keyword : Keyword) (ns : List ℕ) → line_text line ≡ spelled (keyword_text keyword) ns → AllByRecursion IsSmall ns → length ns ≤ 7
-    → line_from keyword ns ≡ Some line → line_of (line_text line) ≡ Some line
-unfolding line_of
-read_from line keyword ns text small few made =
-    let apart : pieces_at 32 (line_text line) ≡ keyword_text keyword ∷ map decimal ns = ap (pieces_at 32) text ∙ words_again (keyword_text keyword) ns (keyword_free keyword) small in
-    let numbers : numbers_on [] (map decimal ns) ≡ Some ns = numbers_again [] ns small (omega arith) in
-    let step : line_of_words (keyword_text keyword ∷ map decimal ns) ≡ line_from keyword ns = rw (keyword_again keyword, numbers) refl in
-    ap line_of_words apart ∙ step ∙ made
+-- the keyword and the numbers that a line is spelled with
+pub record Spelling (line : BootLine) : Type 0 where
+  pub keyword : Keyword
+  pub numbers : List ℕ
+  pub text : line_text line ≡ spelled (keyword_text keyword) numbers
+  pub small : AllByRecursion IsSmall numbers
+  pub few : length numbers ≤ 7
+  pub made : line_from keyword numbers ≡ Some line
+
+spelling : (line : BootLine) → fields_hold line ≡ true → Spelling line
+spelling (boot.Pages count) h =
+    record { keyword = word.Pages; numbers = count ∷ []; text = refl; small = grind (arith, nat_tests); few = lit≤ tt; made = cond-true _ _ _ h }
+spelling (boot.Partition quota) h =
+    record { keyword = word.Partition; numbers = quota ∷ []; text = refl; small = grind (arith, nat_tests); few = lit≤ tt; made = cond-true _ _ _ h }
+spelling (boot.Cspace partition) h =
+    record { keyword = word.Cspace; numbers = partition.0 ∷ []; text = refl; small = grind (arith, nat_tests); few = lit≤ tt; made = cond-true _ _ _ h }
+spelling (boot.Addrspace partition) h =
+    record { keyword = word.Addrspace; numbers = partition.0 ∷ []; text = refl; small = grind (arith, nat_tests); few = lit≤ tt; made = cond-true _ _ _ h }
+spelling (boot.Doorbell partition) h =
+    record { keyword = word.Doorbell; numbers = partition.0 ∷ []; text = refl; small = grind (arith, nat_tests); few = lit≤ tt; made = cond-true _ _ _ h }
+spelling (boot.RootExtent partition) h =
+    record { keyword = word.RootExtent; numbers = partition.0 ∷ []; text = refl; small = grind (arith, nat_tests); few = lit≤ tt; made = cond-true _ _ _ h }
+spelling (boot.Extent partition parent offset count access held_offset held_count) h =
+    record { keyword = word.Extent; numbers = partition.0 ∷ parent.0 ∷ offset ∷ count ∷ access.0 ∷ held_offset ∷ held_count ∷ []; text = refl; small = grind (arith, nat_tests); few = lit≤ tt; made = cond-true _ _ _ h }
+spelling (boot.Msgqueue partition depth size) h =
+    record { keyword = word.Msgqueue; numbers = partition.0 ∷ depth ∷ size ∷ []; text = refl; small = grind (arith, nat_tests); few = lit≤ tt; made = cond-true _ _ _ h }
+spelling (boot.Map space extent base offset count access) h =
+    record { keyword = word.Map; numbers = space.0 ∷ extent.0 ∷ base ∷ offset ∷ count ∷ access.0 ∷ []; text = refl; small = grind (arith, nat_tests); few = lit≤ tt; made = cond-true _ _ _ h }
+spelling (boot.Cap cspace slot object rights true) h =
+    record { keyword = word.Cap; numbers = cspace.0 ∷ slot ∷ object.0 ∷ rights.0 ∷ 1 ∷ []; text = refl; small = grind (arith, nat_tests); few = lit≤ tt; made = cond-true _ _ _ h }
+spelling (boot.Cap cspace slot object rights false) h =
+    record { keyword = word.Cap; numbers = cspace.0 ∷ slot ∷ object.0 ∷ rights.0 ∷ 0 ∷ []; text = refl; small = grind (arith, nat_tests); few = lit≤ tt; made = cond-true _ _ _ h }
+spelling (boot.Vm cspace space) h =
+    record { keyword = word.Vm; numbers = cspace.0 ∷ space.0 ∷ []; text = refl; small = grind (arith, nat_tests); few = lit≤ tt; made = cond-true _ _ _ h }
+spelling (boot.Rm cspace space partition) h =
+    record { keyword = word.Rm; numbers = cspace.0 ∷ space.0 ∷ partition.0 ∷ []; text = refl; small = grind (arith, nat_tests); few = lit≤ tt; made = cond-true _ _ _ h }
+spelling (boot.Link vm extent request reply) h =
+    record { keyword = word.Link; numbers = vm.0 ∷ extent.0 ∷ request.0 ∷ reply.0 ∷ []; text = refl; small = grind (arith, nat_tests); few = lit≤ tt; made = cond-true _ _ _ h }
 
 -- the text of a line is read as that line
 pub line_again : (line : BootLine) → fields_hold line ≡ true → line_of (line_text line) ≡ Some line
-line_again (boot.Pages count) h =
-    read_from (boot.Pages count) word.Pages (count ∷ []) refl (grind (arith, nat_tests)) (lit≤ tt) (cond-true _ _ _ h)
-line_again (boot.Partition quota) h =
-    read_from (boot.Partition quota) word.Partition (quota ∷ []) refl (grind (arith, nat_tests)) (lit≤ tt) (cond-true _ _ _ h)
-line_again (boot.Cspace partition) h =
-    read_from (boot.Cspace partition) word.Cspace (partition.0 ∷ []) refl (grind (arith, nat_tests)) (lit≤ tt) (cond-true _ _ _ h)
-line_again (boot.Addrspace partition) h =
-    read_from (boot.Addrspace partition) word.Addrspace (partition.0 ∷ []) refl (grind (arith, nat_tests)) (lit≤ tt) (cond-true _ _ _ h)
-line_again (boot.Doorbell partition) h =
-    read_from (boot.Doorbell partition) word.Doorbell (partition.0 ∷ []) refl (grind (arith, nat_tests)) (lit≤ tt) (cond-true _ _ _ h)
-line_again (boot.RootExtent partition) h =
-    read_from (boot.RootExtent partition) word.RootExtent (partition.0 ∷ []) refl (grind (arith, nat_tests)) (lit≤ tt) (cond-true _ _ _ h)
-line_again (boot.Extent partition parent offset count access held_offset held_count) h =
-    read_from (boot.Extent partition parent offset count access held_offset held_count) word.Extent (partition.0 ∷ parent.0 ∷ offset ∷ count ∷ access.0 ∷ held_offset ∷ held_count ∷ []) refl (grind (arith, nat_tests)) (lit≤ tt) (cond-true _ _ _ h)
-line_again (boot.Msgqueue partition depth size) h =
-    read_from (boot.Msgqueue partition depth size) word.Msgqueue (partition.0 ∷ depth ∷ size ∷ []) refl (grind (arith, nat_tests)) (lit≤ tt) (cond-true _ _ _ h)
-line_again (boot.Map space extent base offset count access) h =
-    read_from (boot.Map space extent base offset count access) word.Map (space.0 ∷ extent.0 ∷ base ∷ offset ∷ count ∷ access.0 ∷ []) refl (grind (arith, nat_tests)) (lit≤ tt) (cond-true _ _ _ h)
-line_again (boot.Cap cspace slot object rights true) h =
-    read_from (boot.Cap cspace slot object rights true) word.Cap (cspace.0 ∷ slot ∷ object.0 ∷ rights.0 ∷ 1 ∷ []) refl (grind (arith, nat_tests)) (lit≤ tt) (cond-true _ _ _ h)
-line_again (boot.Cap cspace slot object rights false) h =
-    read_from (boot.Cap cspace slot object rights false) word.Cap (cspace.0 ∷ slot ∷ object.0 ∷ rights.0 ∷ 0 ∷ []) refl (grind (arith, nat_tests)) (lit≤ tt) (cond-true _ _ _ h)
-line_again (boot.Vm cspace space) h =
-    read_from (boot.Vm cspace space) word.Vm (cspace.0 ∷ space.0 ∷ []) refl (grind (arith, nat_tests)) (lit≤ tt) (cond-true _ _ _ h)
-line_again (boot.Rm cspace space partition) h =
-    read_from (boot.Rm cspace space partition) word.Rm (cspace.0 ∷ space.0 ∷ partition.0 ∷ []) refl (grind (arith, nat_tests)) (lit≤ tt) (cond-true _ _ _ h)
-line_again (boot.Link vm extent request reply) h =
-    read_from (boot.Link vm extent request reply) word.Link (vm.0 ∷ extent.0 ∷ request.0 ∷ reply.0 ∷ []) refl (grind (arith, nat_tests)) (lit≤ tt) (cond-true _ _ _ h)
+unfolding line_of
+line_again line holds =
+    let s = spelling line holds in
+    let apart : pieces_at 32 (line_text line) ≡ keyword_text s.keyword ∷ map decimal s.numbers = ap (pieces_at 32) s.text ∙ words_again (keyword_text s.keyword) s.numbers (keyword_free 32 s.keyword (lit≤ tt)) s.small in
+    let numbers : numbers_on [] (map decimal s.numbers) ≡ Some s.numbers = numbers_again [] s.numbers s.small (omega (arith, s.few)) in
+    let step : line_of_words (keyword_text s.keyword ∷ map decimal s.numbers) ≡ line_from s.keyword s.numbers = rw (keyword_again s.keyword, numbers) refl in
+    ap line_of_words apart ∙ step ∙ s.made
+
+numbers_free : (ns : List ℕ) → AllByRecursion IsSmall ns → is_free 10 (flat_map spaced ns) ≡ true
+numbers_free [] small = refl
+numbers_free (n ∷ ns) small = free_append 10 (spaced n) (flat_map spaced ns) (decimal_free 10 n (lit≤ tt) small.0) (numbers_free ns small.1)
+
+-- no line feed stands in a line
+pub line_free : (line : BootLine) → fields_hold line ≡ true → is_free 10 (line_text line) ≡ true
+line_free line holds =
+    let s = spelling line holds in
+    ap (is_free 10) s.text ∙ free_append 10 (keyword_text s.keyword) (flat_map spaced s.numbers) (keyword_free 10 s.keyword (lit≤ tt)) (numbers_free s.numbers s.small)

@@ -78,5 +78,5 @@ number_again n small =
     let form : is_decimal (decimal n) ≡ true = decimal_from (decimal n) (decimal_nonempty n (omega arith)) (length-decimal-le 10 n (lit< tt) (omega arith) (omega arith)) (decimal_digits n small) (not_zero_first n small) in
     rw (form, value, lt-ltb n (2 ^ 32) small) refl
 
-pub decimal_free : (byte n : ℕ) → byte < 48 → n < 2 ^ 32 → is_free byte (decimal n) ≡ true
+pub decimal_free : (byte n : ℕ) → byte ≤ 47 → n < 2 ^ 32 → is_free byte (decimal n) ≡ true
 decimal_free byte n low small = digits_free byte (decimal n) low (decimal_digits n small)

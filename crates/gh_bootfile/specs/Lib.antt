@@ -1,2 +1,4 @@
+pub mod BootFile
+pub mod Draft
 pub mod Grammar
 pub mod Reading

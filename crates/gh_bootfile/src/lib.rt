@@ -1,11 +1,16 @@
 //! Boot files: their grammar, and how they are read and written.
 #![tactic(auto)]
 
+mod draft;
 mod keyword;
 mod laws;
 mod line;
 mod number;
 mod pieces;
+mod read;
+mod write;
 
 pub use gh_model::FileErr;
 pub use laws::{read_line_is_its_text, text_of_line_is_read};
+pub use read::read_boot;
+pub use write::write_boot;
