@@ -34,7 +34,7 @@ onto true x texts = record { first = []; others = texts; are = refl }
 onto false x [] = record { first = x ∷ []; others = []; are = refl }
 onto false x (text ∷ texts) = record { first = x ∷ text; others = texts; are = refl }
 
-pieces : (byte : ℕ) (text : List ℕ) → Pieces (pieces_at byte text)
+pub pieces : (byte : ℕ) (text : List ℕ) → Pieces (pieces_at byte text)
 pieces byte [] = record { first = []; others = []; are = refl }
 pieces byte (x ∷ xs) = onto (is_byte_of byte x) x (pieces_at byte xs)
 
@@ -99,12 +99,12 @@ pub record Lines (before : List BootLine) (texts : List (List ℕ)) (all : List 
   pub texts_are : texts ≡ map line_text more ++ [] ∷ []
   pub fields : list_all fields_hold more ≡ true
 
-with_line_read : (before more : List BootLine) (o : Option BootLine) → with_line before o ≡ Ok more → (line : BootLine) × (o ≡ Some line) × (more ≡ before ++ line ∷ [])
+pub with_line_read : (before more : List BootLine) (o : Option BootLine) → with_line before o ≡ Ok more → (line : BootLine) × (o ≡ Some line) × (more ≡ before ++ line ∷ [])
 unfolding with_line
 with_line_read before more None e = absurd cc
 with_line_read before more (Some line) e = (line, refl, sym (chosen_ok (next_fits before line) (next_number before) (before ++ line ∷ []) more e))
 
-when_ok : {A : Type 0} (b : Bool) (n : ℕ) (x y : A) → cond b (Ok x) (Err n) ≡ Ok y → b ≡ true
+pub when_ok : {A : Type 0} (b : Bool) (n : ℕ) (x y : A) → cond b (Ok x) (Err n) ≡ Ok y → b ≡ true
 when_ok true n x y e = refl
 when_ok false n x y e = absurd cc
 

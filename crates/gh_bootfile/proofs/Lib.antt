@@ -1,3 +1,4 @@
+pub mod BadLineLaw
 pub mod FileLaw
 pub mod FreeBytes
 pub mod LineLaw

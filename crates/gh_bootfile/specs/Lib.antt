@@ -1,3 +1,4 @@
+pub mod BadLine
 pub mod BootFile
 pub mod Draft
 pub mod Grammar

@@ -1,8 +1,9 @@
 //! The laws that join the grammar of boot files and the reader. Each is the contract of a function
 //! that does nothing.
 
-ghost use Rattle.std.specs.Prelude.{◌≡◌, ℕ, List, Some, Ok, true};
+ghost use Rattle.std.specs.Prelude.{◌≡◌, ℕ, List, Some, Ok, Err, true};
 ghost use Rattle.std.specs.List.{list_all};
+ghost use Rattle.gh_bootfile.specs.BadLine.{IsFirstBad};
 ghost use Rattle.gh_bootfile.specs.BootFile.{boot_of};
 ghost use Rattle.gh_bootfile.specs.Grammar.{boot_text, fields_hold, line_text};
 ghost use Rattle.gh_bootfile.specs.Reading.{line_of};
@@ -34,4 +35,9 @@ pub fn read_file_is_its_text()
 pub fn text_of_file_is_read()
     ensures { (lines : List BootLine) → boot_fits lines ≡ true → list_all fields_hold lines ≡ true
         → boot_of (boot_text lines) ≡ Ok lines }
+{}
+
+/// A bad line that is told is the first bad line.
+pub fn bad_line_is_the_first()
+    ensures { (text : List ℕ) (number : ℕ) → boot_of text ≡ Err number → IsFirstBad text number }
 {}

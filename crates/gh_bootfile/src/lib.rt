@@ -12,7 +12,8 @@ mod write;
 
 pub use gh_model::FileErr;
 pub use laws::{
-    read_file_is_its_text, read_line_is_its_text, text_of_file_is_read, text_of_line_is_read,
+    bad_line_is_the_first, read_file_is_its_text, read_line_is_its_text, text_of_file_is_read,
+    text_of_line_is_read,
 };
 pub use read::read_boot;
 pub use write::write_boot;
