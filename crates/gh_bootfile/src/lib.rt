@@ -1,0 +1,6 @@
+//! The boot file as text.
+#![tactic(auto)]
+
+mod draft;
+mod tables;
+mod tables_lines;
