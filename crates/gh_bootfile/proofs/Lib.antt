@@ -1,2 +1,4 @@
+pub mod DraftLemmas
+pub mod TablesFacts
 pub mod TablesLemmas
 pub mod TablesShows

@@ -98,3 +98,11 @@ pub record CanTake (t : Tables) (line : BootLine) : Type 0 where
   pub state : State
   pub shows : Shows t state
   pub fits : line_fits state line ≡ true
+
+-- the line takes memory of its own
+abbrev pub takes_memory : BootLine → Bool
+takes_memory (Map space extent base offset count access) = true
+takes_memory (Vm cspace space) = true
+takes_memory (Rm cspace space partition) = true
+takes_memory (Link vm extent request reply) = true
+takes_memory _ = false

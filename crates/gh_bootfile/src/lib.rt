@@ -2,5 +2,7 @@
 #![tactic(auto)]
 
 mod draft;
+mod draft_reads;
 mod tables;
+mod tables_line;
 mod tables_lines;
