@@ -1,26 +1,23 @@
 -- What a line that fits says of the tables that show the state.
-use Rattle.std.proofs.Common.{◌≡◌, ℕ, ◌+◌, ◌*◌, ◌<◌, ◌≤◌, ◌^◌, ltb, Bool, true, false, List, Option, None, Some, length, refl, sym, ap, ◌∙◌, arith, subst, IsTrue}
-use Rattle.std.specs.Prelude.{◌&&◌, find, nat_le, nat_lt}
-use Rattle.std.proofs.lemmas.Bool.{false≢true, leb-true, ltb-true}
+use Rattle.std.proofs.Common.{◌≡◌, ℕ, ◌+◌, ◌<◌, ◌≤◌, Bool, true, Option, None, Some, length, refl, ap, arith, subst}
+use Rattle.std.proofs.lemmas.Bool.{false≢true, leb-true}
 use Rattle.std.specs.Option.{option_map_or}
 use Rattle.gh_base.specs.declared.access.Access.{Access}
 use Rattle.gh_base.specs.declared.ids.Rights.{Rights}
 use Rattle.gh_base.specs.declared.ids.Serial.{Serial}
-use Rattle.gh_base.specs.declared.ids.VmId.{VmId}
 use Rattle.gh_base.specs.declared.kind.Kind.{Kind}
 use Rattle.gh_base.specs.declared.kind.Kind.TheVariants as kind
 use Rattle.gh_model.specs.declared.boot_line.BootLine.{BootLine}
 use Rattle.gh_model.specs.declared.boot_line.BootLine.TheVariants.{Pages, Partition, Cspace, Addrspace, Doorbell, RootExtent, Extent, Msgqueue, Map, Cap, Vm, Rm, Link}
-use Rattle.gh_model.specs.declared.rows.CpuRow.{CpuRow}
 use Rattle.gh_model.specs.declared.rows.ExtentRow.{ExtentRow}
 use Rattle.gh_model.specs.declared.rows.ObjectRow.{ObjectRow}
 use Rattle.gh_model.specs.declared.state.State.{State}
-use Rattle.gh_model.specs.Boot.{line_fits, link_fits, after_line, has_units, is_kind, is_of_kind, rights_fit_kind, may_attach, is_free_slot, queue_cost, cpu_cspace, cpu_vms, kind_count, first_page, serial_of}
+use Rattle.gh_model.specs.Boot.{line_fits, link_fits, after_line, has_units, is_kind, is_of_kind, rights_fit_kind, may_attach, is_free_slot, queue_cost, cpu_vms, first_page}
 use Rattle.gh_model.specs.Rows.{object_row}
 use Rattle.gh_model.specs.Units.{rest_units}
 use Rattle.gh_model.proofs.Tests.{and-first, and-second}
 use Rattle.gh_bootfile.specs.declared.tables.Tables.{Tables}
-use Rattle.gh_bootfile.specs.Tables.{places, units_at, object_key, slot_place, Shows, HasRoom}
+use Rattle.gh_bootfile.specs.Tables.{places, object_key, slot_place, Shows, HasRoom}
 use Rattle.gh_bootfile.specs.TablesLines.{with_line, span_start, CanMake, CanTake}
 use Rattle.gh_bootfile.proofs.TablesLemmas.{found-place, found-used}
 use Rattle.gh_bootfile.proofs.TablesShows.{Shows-partition, Shows-cspace, Shows-space, Shows-bell, Shows-root, Shows-extent, Shows-queue, Shows-mapping, Shows-capability, Shows-cpu, Shows-manager, Shows-link}
@@ -106,9 +103,9 @@ module _ (t : Tables) (s : State) (shows : Shows t s) (room : HasRoom t) where
       Shows-mapping t s shows room _ (kind-place kind.Space space.0 (and-first _ _ fits))
   Shows-line (Cap cspace slot object rights master) fits =
       Shows-capability t s shows room cspace.0 slot object.0 rights.0 master
-        (kind-place kind.Cspace cspace.0 (and-first _ _ (and-first _ _ (and-first _ _ fits))))
-        (slot-small cspace.0 slot (and-second _ _ (and-first _ _ (and-first _ _ fits))))
-        (rights-place rights.0 object.0 (and-second _ _ (and-first _ _ fits)))
+      (kind-place kind.Cspace cspace.0 (and-first _ _ (and-first _ _ (and-first _ _ fits))))
+      (slot-small cspace.0 slot (and-second _ _ (and-first _ _ (and-first _ _ fits))))
+      (rights-place rights.0 object.0 (and-second _ _ (and-first _ _ fits)))
   Shows-line (Vm cspace space) fits =
       rw (ap cpu_vms shows.cpus) (Shows-cpu t s shows room (cpu_vms s.cpus + 1) cspace.0 space.0 (attached-place cspace.0 space.0 (and-first _ _ (and-first _ _ fits))))
   Shows-line (Rm cspace space partition) fits =

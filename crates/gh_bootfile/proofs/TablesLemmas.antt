@@ -1,10 +1,10 @@
 -- What stands in a table once a row is added to the list that it shows.
-use Rattle.std.proofs.Common.{◌≡◌, ◌≢◌, ℕ, ◌+◌, ◌*◌, ◌<◌, ◌≤◌, ltb, Bool, true, false, List, [], ◌∷◌, ◌++◌, Option, None, Some, length, get_or, set, replicate, refl, sym, ap, ◌∙◌, arith, inl, inr, cond, eqb, eq-eqb, ne_eqb, subst}
+use Rattle.std.proofs.Common.{◌≡◌, ◌≢◌, ℕ, ◌+◌, ◌<◌, ltb, Bool, true, false, List, [], ◌∷◌, ◌++◌, Option, None, Some, length, get_or, set, replicate, refl, sym, ap, ◌∙◌, arith, inl, inr, cond, eqb, eq-eqb, ne_eqb}
 use Rattle.std.specs.Prelude.{◌&&◌, ◌||◌, find, filter, map, sum_by, count_by}
 use Rattle.std.specs.List.{list_any}
 use Rattle.std.specs.Option.{option_or}
 use Rattle.std.proofs.lemmas.Bool.{cases_Bool, cases_lt, cases_eq, lt-ltb, le-ltb, or_right, and_left, and_right}
-use Rattle.std.proofs.lemmas.List.{get_or-replicate, get_or_past, length-replicate, length-set, get_or-set_same, get_or-set_other, map-append, append-nil}
+use Rattle.std.proofs.lemmas.List.{get_or-replicate, get_or_past, length-replicate, get_or-set_same, get_or-set_other, map-append, append-nil}
 use Rattle.std.proofs.lemmas.List.Elements.{filter-append}
 use Rattle.std.proofs.lemmas.List.Folds.{find-append, list_any-append}
 use Rattle.std.proofs.lemmas.List.Sums.{sum_by-append, sum_by-cons}
@@ -18,7 +18,7 @@ use Rattle.gh_model.specs.declared.rows.PartitionRow.{PartitionRow}
 use Rattle.gh_model.specs.Boot.{is_row_of}
 use Rattle.gh_model.specs.Rows.{fills}
 use Rattle.gh_model.specs.Units.{lives_in, is_given_by, object_cost, partition_quota, used_by, given_by}
-use Rattle.gh_bootfile.specs.Tables.{row_at, units_at, mark_at, mappings_at, slot_place, slot_at, IsUnused, ShowsRows, ShowsUnits, ShowsMarks, ShowsMappings, objects_of}
+use Rattle.gh_bootfile.specs.Tables.{units_at, mappings_at, slot_place, slot_at, ShowsRows, ShowsUnits, ShowsMarks, ShowsMappings, objects_of}
 use Rattle.gh_bootfile.specs.TablesLines.{marked_if}
 
 -- a blank table has the same everywhere
@@ -82,9 +82,9 @@ module _ {R : Type 0} (key : R → ℕ) (next : ℕ) (table : List (Option R)) (
   found-used n row is =
       elim (cases_lt 0 n) [
         | inl some ↦ elim (cases_lt n next) [
-            | inl below ↦ (some, below)
-            | inr above ↦ absurd (none-some row (sym (shown.unused n (λ _. above)) ∙ is))
-          ]
+          | inl below ↦ (some, below)
+          | inr above ↦ absurd (none-some row (sym (shown.unused n (λ _. above)) ∙ is))
+        ]
         | inr none ↦ absurd (none-some row (sym (shown.unused n (λ some. absurd (omega arith))) ∙ is))
       ]
 
@@ -164,14 +164,15 @@ module _ (slots : List Bool) (caps : List CapabilityRow) (row : CapabilityRow) (
   slots-put shown in_space at_slot small within cspace slot =
       elim (cases_eq cspace k) [
         | inl here ↦ elim (cases_eq slot j) [
-            | inl it ↦ rw (here, it) (filled ∙ sym (more_slots k j ∙ rw (eq-eqb row.cspace.0 k in_space, eq-eqb row.slot j at_slot) (or_right (list_any (fills k j) caps) true refl)))
-            | inr apart ↦ another (λ numbered same. apart ((slot_places cspace slot k j numbered small same).1)) (and_right (eqb row.cspace.0 cspace) (eqb row.slot slot) (ne_eqb row.slot slot (λ same. apart (sym same ∙ at_slot))))
-          ]
+          | inl it ↦ rw (here, it) (filled ∙ sym (more_slots k j ∙ rw (eq-eqb row.cspace.0 k in_space, eq-eqb row.slot j at_slot) (or_right (list_any (fills k j) caps) true refl)))
+          | inr apart ↦ another (λ numbered same. apart ((slot_places cspace slot k j numbered small same).1)) (and_right (eqb row.cspace.0 cspace) (eqb row.slot slot) (ne_eqb row.slot slot (λ same. apart (sym same ∙ at_slot))))
+        ]
         | inr apart ↦ another (λ numbered same. apart ((slot_places cspace slot k j numbered small same).0)) (and_left (eqb row.cspace.0 cspace) (eqb row.slot slot) (ne_eqb row.cspace.0 cspace (λ same. apart (sym same ∙ in_space))))
       ]
     where
       filled : slot_at (set slots (slot_place k j) true) k j ≡ true
       filled = rw (lt-ltb j 128 small) (get_or-set_same slots (slot_place k j) true false within)
+
       another : (slot < 128 → slot_place cspace slot ≢ slot_place k j) → fills cspace slot row ≡ false → slot_at (set slots (slot_place k j) true) cspace slot ≡ list_any (fills cspace slot) (caps ++ row ∷ [])
       another apart fails =
           slots-other slots (slot_place k j) cspace slot apart ∙ shown cspace slot ∙ sym (more_slots cspace slot ∙ rw fails (or-none (list_any (fills cspace slot) caps)))
@@ -188,12 +189,12 @@ ShowsMappings-put table mappings row at shown is within n =
     ]
 
 -- what the rows of one address space say of all
-pub any_of_space : (test : MappingRow → Bool) (space : ℕ) (mappings : List MappingRow) → list_any (λ (row : MappingRow). is_row_of space row && test row) (filter (is_row_of space) mappings) ≡ list_any (λ (row : MappingRow). is_row_of space row && test row) mappings
-any_of_space test space [] = refl
-any_of_space test space (row ∷ mappings) =
+pub any_of_space : (test : MappingRow → Bool) (space : ℕ) → ((row : MappingRow) → is_row_of space row ≡ false → test row ≡ false) → (mappings : List MappingRow) → list_any test (filter (is_row_of space) mappings) ≡ list_any test mappings
+any_of_space test space fails [] = refl
+any_of_space test space fails (row ∷ mappings) =
     elim (cases_Bool (is_row_of space row)) [
-      | inl here ↦ rw here (ap (λ (b : Bool). (is_row_of space row && test row) || b) (any_of_space test space mappings) ∙ rw here refl)
-      | inr other ↦ rw other (any_of_space test space mappings)
+      | inl here ↦ rw here (ap (λ (b : Bool). test row || b) (any_of_space test space fails mappings))
+      | inr other ↦ rw (other, fails row other) (any_of_space test space fails mappings)
     ]
 
 pub count_of_space : (space : ℕ) (mappings : List MappingRow) → length (filter (is_row_of space) mappings) ≡ count_by (is_row_of space) mappings

@@ -1,6 +1,6 @@
 -- The tables show the state after each kind of line.
-use Rattle.std.proofs.Common.{◌≡◌, ◌≢◌, ℕ, ◌+◌, ◌*◌, ◌<◌, ◌≤◌, ltb, Bool, true, false, List, [], ◌∷◌, ◌++◌, Option, None, Some, length, get_or, set, replicate, refl, sym, ap, ◌∙◌, arith, inl, inr, cond, eqb, subst, length-append}
-use Rattle.std.specs.Prelude.{◌&&◌, find, nat_le, nat_lt}
+use Rattle.std.proofs.Common.{◌≡◌, ℕ, ◌+◌, ◌*◌, ◌<◌, ◌≤◌, ltb, Bool, true, false, List, [], ◌∷◌, ◌++◌, Option, None, Some, length, get_or, set, refl, sym, ap, ◌∙◌, arith, inl, inr, cond, eqb, subst, length-append}
+use Rattle.std.specs.Prelude.{◌&&◌, find, nat_le}
 use Rattle.std.specs.Option.{option_map_or, option_or}
 use Rattle.std.proofs.lemmas.Bool.{cases_Bool, lt-ltb}
 use Rattle.std.proofs.lemmas.List.{length-set}
@@ -14,18 +14,16 @@ use Rattle.gh_model.specs.declared.rows.CpuRow.{CpuRow}
 use Rattle.gh_model.specs.declared.rows.ExtentRow.{ExtentRow}
 use Rattle.gh_model.specs.declared.rows.LinkRow.{LinkRow}
 use Rattle.gh_model.specs.declared.rows.MappingRow.{MappingRow}
-use Rattle.gh_model.specs.declared.rows.ObjectRow.{ObjectRow}
 use Rattle.gh_model.specs.declared.rows.PartitionRow.{PartitionRow}
-use Rattle.gh_model.specs.declared.rows.QueueRow.{QueueRow}
 use Rattle.gh_model.specs.declared.state.State.{State}
-use Rattle.gh_model.specs.Boot.{after_line, empty_state, boot_object, cpu_cspace, cpu_vms, is_small_queue, is_master_of, queue_cost, serial_of, span_first}
+use Rattle.gh_model.specs.Boot.{after_line, empty_state, boot_object, cpu_cspace, is_small_queue, is_master_of, queue_cost, serial_of}
 use Rattle.gh_model.specs.Boot.{with_object as state_with_object, with_partition as state_with_partition, with_bell as state_with_bell, with_root as state_with_root, with_extent as state_with_extent, with_queue as state_with_queue, with_mapping as state_with_mapping, with_capability as state_with_capability, with_cpu as state_with_cpu, with_link as state_with_link}
 use Rattle.gh_model.specs.Rows.{is_partition}
 use Rattle.gh_model.specs.Units.{row_quota}
 use Rattle.gh_bootfile.specs.declared.tables.Tables.{Tables}
-use Rattle.gh_bootfile.specs.Tables.{places, row_at, units_at, slot_place, object_key, partition_key, extent_key, objects_of, Shows, ShowsRows, ShowsObjects, ShowsPartitions, ShowsExtents, ShowsMarks, ShowsCapabilities, HasRoom}
+use Rattle.gh_bootfile.specs.Tables.{places, units_at, slot_place, object_key, partition_key, extent_key, Shows, ShowsObjects, ShowsPartitions, ShowsExtents, HasRoom}
 use Rattle.gh_bootfile.specs.TablesLines.{blank_tables, new_object, with_object, with_partition, with_cspace, with_root, with_extent, with_queue, with_mapping, with_slot, with_capability, with_cpu, with_link, with_line, marked_if, span_start}
-use Rattle.gh_bootfile.proofs.TablesLemmas.{blank-at, find-other, ShowsRows-put, ShowsRows-pass, ShowsUnits-put, given_by-more, objects_of-more, ShowsMarks-pass, ShowsMarks-put, slots-put, ShowsMappings-put}
+use Rattle.gh_bootfile.proofs.TablesLemmas.{blank-at, ShowsRows-put, ShowsRows-pass, ShowsUnits-put, given_by-more, objects_of-more, ShowsMarks-pass, ShowsMarks-put, slots-put, ShowsMappings-put}
 
 -- blank tables show the state behind the line of pages
 pub blank_shows : (size pages : ℕ) → Shows (blank_tables size pages) (after_line empty_state (Pages pages))
@@ -355,7 +353,7 @@ Shows-manager t s shows room cspace space partition within =
 -- two slots of a capability space for the queues of a link
 pair-shows : (t : Tables) (s : State) → Shows t s → HasRoom t → (cspace vm request reply : ℕ) (row : LinkRow) → cspace < places → vm ≤ 8
     → Shows (record (with_slot (with_slot t cspace (2 * vm)) cspace (2 * vm + 1)) { links = t.links ++ row ∷ [] })
-        (record (state_with_capability (state_with_capability s cspace (2 * vm) request 2 false) cspace (2 * vm + 1) reply 1 false) { links = s.links ++ row ∷ [] })
+    (record (state_with_capability (state_with_capability s cspace (2 * vm) request 2 false) cspace (2 * vm + 1) reply 1 false) { links = s.links ++ row ∷ [] })
 pair-shows t s shows room cspace vm request reply row within small =
     let first : Shows (with_slot t cspace (2 * vm)) (state_with_capability s cspace (2 * vm) request 2 false) = Shows-slot t s shows room cspace (2 * vm) request 2 within (omega arith) in
     let first_room : HasRoom (with_slot t cspace (2 * vm)) = HasRoom-same t (with_slot t cspace (2 * vm)) (simp length-set) room in

@@ -3,7 +3,6 @@ use Rattle.std.specs.Prelude.{◌≡◌, ℕ, ◌+◌, ◌*◌, ◌<◌, ◌≤�
 use Rattle.gh_base.specs.declared.kind.Kind.{Kind}
 use Rattle.gh_base.specs.declared.kind.Kind.TheVariants as kind
 use Rattle.gh_base.specs.declared.kind.Stage.TheVariants.{Active}
-use Rattle.gh_base.specs.declared.ids.Serial.{Serial}
 use Rattle.gh_model.specs.declared.boot_line.BootLine.{BootLine}
 use Rattle.gh_model.specs.declared.boot_line.BootLine.TheVariants.{Pages, Partition, Cspace, Addrspace, Doorbell, RootExtent, Extent, Msgqueue, Map, Cap, Vm, Rm, Link}
 use Rattle.gh_model.specs.declared.rows.ExtentRow.{ExtentRow}
@@ -11,7 +10,6 @@ use Rattle.gh_model.specs.declared.rows.MappingRow.{MappingRow}
 use Rattle.gh_model.specs.declared.rows.ObjectRow.{ObjectRow}
 use Rattle.gh_model.specs.declared.state.State.{State}
 use Rattle.gh_model.specs.Boot.{serial_of, move_pages, queue_cost, cpu_vms, cpu_cspace, line_fits}
-use Rattle.gh_model.specs.Rows.{is_extent}
 use Rattle.std.specs.Option.{option_map_or}
 use Rattle.gh_bootfile.specs.Tables.{places, row_at, units_at, mappings_at, slot_place, HasRoom, Shows}
 use Rattle.gh_bootfile.specs.declared.tables.Tables.{Tables}

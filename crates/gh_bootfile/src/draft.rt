@@ -1,7 +1,7 @@
 //! The lines of a boot file as they are read, each of which fits behind those before it.
 
-ghost use Rattle.std.specs.Prelude.{◌≡◌, ◌<◌, ◌++◌, ◌∷◌, [], true, length, OnOk, OnErr};
-ghost use Rattle.gh_bootfile.specs.Draft.{first_fits, next_fits, is_whole};
+ghost use Rattle.std.specs.Prelude.{◌≡◌, ◌==◌, ◌<◌, ◌++◌, ◌∷◌, [], true, length, OnOk, OnErr};
+ghost use Rattle.gh_bootfile.specs.Draft.{next_fits, is_whole};
 
 use crate::tables::Tables;
 use gh_base::NoMemory;
@@ -31,16 +31,6 @@ impl Model for Draft {
     ghost invariant = { λ draft. IsDraft draft.lines.items draft.tables };
 }
 
-/// Whether it is a line of 1 to 1,024 pages.
-fn first_fits(line: &BootLine) -> bool
-    ensures { result ≡ first_fits line.now }
-{
-    match *line {
-        BootLine::Pages { count } => 1 <= count && count <= 1024,
-        _ => false,
-    }
-}
-
 impl Draft {
     /// No line yet.
     pub fn new(alloc: Global) -> Draft
@@ -50,6 +40,12 @@ impl Draft {
             lines: Vec::new(alloc),
             tables: Tables::new(alloc),
         }
+    }
+
+    pub fn is_empty(&self) -> bool
+        ensures { result ≡ (length self.now == 0) }
+    {
+        self.lines.is_empty()
     }
 
     /// Adds a line that may be added. Without memory the draft stays as it was.
@@ -91,5 +87,13 @@ impl Draft {
                 Err(error)
             }
         }
+    }
+
+    /// The boot file, once it is complete.
+    pub fn into_boot(self) -> Boot
+        requires { is_whole self ≡ true }
+        ensures { result ≡ self }
+    {
+        Boot::new(self.lines)
     }
 }

@@ -1,12 +1,12 @@
 //! What a draft's tables say of the state that its lines make.
 
-ghost use Rattle.std.specs.Prelude.{◌≡◌, ◌==◌, find, filter, length, count_by};
+ghost use Rattle.std.specs.Prelude.{◌≡◌, ◌==◌, find, filter, length, count_by, nat_lt};
 ghost use Rattle.std.specs.List.{list_any};
 ghost use Rattle.gh_base.specs.declared.kind.Kind.TheVariants as kind;
 ghost use Rattle.gh_model.specs.Boot.{boot_state, is_kind, kind_count, is_row_of, is_master_of, is_small_queue, overlaps};
 ghost use Rattle.gh_model.specs.Rows.{object_row, is_extent, is_partition, fills};
-ghost use Rattle.gh_model.specs.Units.{free_units, row_quota, used_by};
-ghost use Rattle.gh_bootfile.specs.Tables.{mark_at};
+ghost use Rattle.gh_model.specs.Units.{free_units, row_quota};
+ghost use Rattle.gh_bootfile.specs.Tables.{mark_at, units_at};
 
 use crate::draft::Draft;
 use crate::tables::SLOT_PLACES;
@@ -37,19 +37,12 @@ impl Draft {
         }
     }
 
-    /// Units that the objects of a partition cost.
-    fn used(&self, partition: Serial) -> u16
-        ensures { result ≡ used_by (boot_state self.now).objects partition.0 }
-    {
-        let used = self.tables.used.as_slice();
-        used.get(partition.0 as usize).copied().unwrap_or(0)
-    }
-
     /// Units that a partition has left.
     pub fn free(&self, partition: Serial) -> u16
         ensures { result ≡ free_units (boot_state self.now) partition.0 }
     {
-        self.quota(partition).saturating_sub(self.used(partition))
+        let used = units_at(self.tables.used.as_slice(), partition);
+        self.quota(partition).saturating_sub(used)
     }
 
     pub fn next_serial(&self) -> u32
@@ -68,6 +61,12 @@ impl Draft {
         ensures { result ≡ kind_count (boot_state self.now) kind.Cspace }
     {
         self.tables.cspace_count
+    }
+
+    pub fn has_extent(&self) -> bool
+        ensures { result ≡ nat_lt 0 (length (boot_state self.now).extents) }
+    {
+        self.tables.is_rooted
     }
 
     pub fn has_no_extent(&self) -> bool
@@ -140,6 +139,13 @@ impl Draft {
     }
 }
 
+/// Units of a serial; 0 past the table's end.
+fn units_at(table: &[u16], serial: Serial) -> u16
+    ensures { result ≡ units_at table.now serial.0 }
+{
+    table.get(serial.0 as usize).copied().unwrap_or(0)
+}
+
 /// A mark; none past the end.
 fn is_marked(marks: &[bool], at: usize) -> bool
     ensures { result ≡ mark_at marks.now at }
@@ -151,8 +157,10 @@ fn is_marked(marks: &[bool], at: usize) -> bool
 fn overlaps(mappings: &[MappingRow], space: Serial, base: u16, count: u16) -> bool
     ensures { result ≡ list_any (overlaps space.0 base count) mappings.now }
 {
-    let (first, past) = (base as u64, base as u64 + count as u64);
-    mappings
-        .iter()
-        .any(|row| row.space == space && first < row.base + row.count && row.base < past)
+    let (first, past) = (base as u128, base as u128 + count as u128);
+    mappings.iter().any(|row| {
+        row.space == space
+            && first < row.base as u128 + row.count as u128
+            && (row.base as u128) < past
+    })
 }

@@ -2,6 +2,7 @@
 #![tactic(auto)]
 
 mod draft;
+mod draft_fits;
 mod draft_reads;
 mod tables;
 mod tables_line;

@@ -1,7 +1,7 @@
 use Rattle.std.proofs.Common.{◌≡◌, List, Option, ap, ◌∙◌, arith}
 use Rattle.gh_model.specs.declared.rows.ExtentRow.{ExtentRow}
 use Rattle.gh_bootfile.specs.TablesLines.{span_start}
-use Rattle.gh_bootfile.proofs.TablesFacts.{take-at, take-partition, take-cspace, take-space, take-bell, take-root, take-queue, take-extent, extent-within, extent-small, extent-held, take-slot, take-master}
+use Rattle.gh_bootfile.proofs.TablesFacts.{take-at, take-cspace, take-space, take-bell, take-root, take-queue, take-extent, extent-within, extent-small, extent-held, take-slot, take-master}
 use Rattle.gh_bootfile.proofs.tables.Tables.write.Goals as goal
 
 pub add_cspace-requires-clause-object : goal.add_cspace-requires-clause-object
