@@ -3,3 +3,5 @@ pub mod BootFile
 pub mod Draft
 pub mod Grammar
 pub mod Reading
+pub mod Tables
+pub mod TablesLines

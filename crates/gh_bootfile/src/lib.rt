@@ -2,12 +2,17 @@
 #![tactic(auto)]
 
 mod draft;
+mod draft_fits;
+mod draft_reads;
 mod keyword;
 mod laws;
 mod line;
 mod number;
 mod pieces;
 mod read;
+mod tables;
+mod tables_line;
+mod tables_lines;
 mod write;
 
 pub use gh_model::FileErr;
