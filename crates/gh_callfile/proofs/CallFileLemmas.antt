@@ -1,13 +1,14 @@
 -- How a text is read line by line.
-use Rattle.std.proofs.Common.{◌≡◌, ℕ, ◌+◌, ◌-◌, ◌<◌, ◌≤◌, ◌==◌, Bool, true, false, not, nat_lt, List, [], ◌∷◌, ◌++◌, Some, None, length, take, drop, ap, append-nil, arith, refl, if◌then◌else◌}
+use Rattle.std.proofs.Common.{◌≡◌, ℕ, ◌+◌, ◌-◌, ◌<◌, ◌≤◌, ◌==◌, Bool, true, false, not, nat_le, nat_lt, List, [], ◌∷◌, ◌++◌, Option, Some, None, length, take, drop, ap, append-nil, arith, refl, if◌then◌else◌}
 use Rattle.std.specs.List.{position, position_or_len, slice_split}
 use Rattle.std.proofs.lemmas.List.Splits.{length-slice_split, slice_split_first, slice_split_none}
-use Rattle.std.proofs.lemmas.List.Sums.{prefix_len_passes}
+use Rattle.std.proofs.lemmas.List.Sums.{prefix_len_passes, sum_by-cons}
+use Rattle.std.proofs.lemmas.Bool.{leb-true}
 use borrow.Author.Tests.{ltb-true, ltb-false}
 use Rattle.std.proofs.lemmas.Grind.{common_steps}
 use Rattle.gh_model.specs.declared.program.Line.{Line}
 use Rattle.gh_callfile.specs.Grammar.{line_of}
-use Rattle.gh_callfile.specs.CallFile.{Reading, Good, BadAt, is_line_feed, calls_of, line_then, with_lines, read_from}
+use Rattle.gh_callfile.specs.CallFile.{Reading, Good, BadAt, calls_of_lines, is_line_feed, calls_of, line_then, with_lines, read_from}
 
 -- a place that is found is the first, and lies within the list
 found_at : (first count at : ℕ) → (if nat_lt first count then Some first else None) ≡ Some at → (at ≡ first) × (first < count)
@@ -61,3 +62,33 @@ with_lines_twice lines more (BadAt number) = refl
 pub read_to_end : (lines : List Line) (number room : ℕ) (rest : List ℕ) → slice_split is_line_feed rest ≡ rest ∷ [] → (length rest == 0) ≡ true → with_lines lines (read_from number room (slice_split is_line_feed rest)) ≡ Good lines
 unfolding read_from
 read_to_end lines number room rest one none = rw (one, none) (ap Good (append-nil lines))
+
+-- a line that is good has room, and so have those behind it
+within_step : (number room : ℕ) (found : Option Line) (later : Reading) (lines : List Line)
+    → ((more : List Line) → later ≡ Good more → calls_of_lines more ≤ room - calls_of found)
+    → line_then number room found later ≡ Good lines → calls_of_lines lines ≤ room
+within_step number room None later lines behind good = cc
+within_step number room (Some line) later lines behind good = go (nat_le line.times room) refl good where
+  whole : (read : Reading) → line.times ≤ room → ((more : List Line) → read ≡ Good more → calls_of_lines more ≤ room - line.times)
+      → with_lines (line ∷ []) read ≡ Good lines → calls_of_lines lines ≤ room
+  whole (Good more) fits rest said =
+      let same : lines ≡ line ∷ more = cc in
+      let small : calls_of_lines more ≤ room - line.times = rest more refl in
+      let sum : calls_of_lines (line ∷ more) ≡ line.times + calls_of_lines more = sum_by-cons (λ (one : Line). one.times) line more in
+      rw (same, sum) (omega arith)
+  whole (BadAt at) fits rest said = cc
+  go : (b : Bool) → nat_le line.times room ≡ b
+      → (if b then with_lines (line ∷ []) later else BadAt number) ≡ Good lines → calls_of_lines lines ≤ room
+  go true fits said = whole later (leb-true line.times room fits) behind said
+  go false fits said = cc
+
+-- the calls of a good file are within the room
+pub calls_within : (number room : ℕ) (pieces : List (List ℕ)) (lines : List Line) → read_from number room pieces ≡ Good lines → calls_of_lines lines ≤ room
+unfolding read_from
+calls_within number room [] lines good = let same : lines ≡ [] = cc in rw same (omega arith)
+calls_within number room (last ∷ []) lines good = go (length last == 0) good where
+  go : (b : Bool) → (if b then Good [] else BadAt number) ≡ Good lines → calls_of_lines lines ≤ room
+  go true said = let same : lines ≡ [] = cc in rw same (omega arith)
+  go false said = cc
+calls_within number room (text ∷ (next ∷ pieces)) lines good =
+    within_step number room (line_of text) _ lines (calls_within (number + 1) (room - calls_of (line_of text)) (next ∷ pieces)) good

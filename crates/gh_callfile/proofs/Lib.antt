@@ -2,3 +2,4 @@ mod CallFileLemmas
 mod CallLineLemmas
 mod NumeralLemmas
 mod ProgramLemmas
+mod WorkedLemmas

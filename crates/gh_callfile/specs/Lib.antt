@@ -2,3 +2,4 @@ pub mod CallFile
 pub mod Grammar
 pub mod Schedule
 pub mod VmProgress
+pub mod WorkedBoot

@@ -4,7 +4,7 @@ ghost use Rattle.std.specs.Prelude.{◌≡◌, ◌+◌, ◌<◌, ◌≤◌, ◌�
 ghost use Rattle.std.specs.List.{position, slice_split};
 ghost use Rattle.gh_model.specs.declared.program.Line.{Line};
 ghost use Rattle.gh_callfile.specs.Grammar.{line_of};
-ghost use Rattle.gh_callfile.specs.CallFile.{Reading, Good, IsErrorOf, is_line_feed, line_then, read_from, reading, with_lines};
+ghost use Rattle.gh_callfile.specs.CallFile.{Reading, Good, IsErrorOf, calls_of_lines, is_line_feed, line_then, read_from, reading, with_lines};
 
 use crate::call_line::call_line;
 use gh_base::Sequence;
@@ -100,6 +100,7 @@ fn read_line(
 #[tactic(auto, using(crate::proofs::CallFileLemmas::read_last))]
 pub fn read_calls(alloc: Global, text: &[u8], room: u32) -> Result<Vec<Line>, FileErr>
     ensures ok { IfOk result (λ lines. reading text.now room ≡ Good lines.items) }
+    ensures room { IfOk result (λ lines. calls_of_lines lines.items ≤ room) }
     ensures bad { IfErr result (IsErrorOf (reading text.now room)) }
 {
     let mut lines = Sequence::new(alloc);

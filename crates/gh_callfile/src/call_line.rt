@@ -79,10 +79,7 @@ fn repeat(word: &[u8]) -> Option<u32>
 fn is_bytes(word: &[u8]) -> bool
     ensures { result ≡ is_bytes word.now }
 {
-    2 <= word.len()
-        && word.len() <= BYTES_DIGITS
-        && word.len() % 2 == 0
-        && all_digits(word, 16)
+    2 <= word.len() && word.len() <= BYTES_DIGITS && word.len() % 2 == 0 && all_digits(word, 16)
 }
 
 /// The bytes that a word writes; none where it isn't of their form.

@@ -13,3 +13,6 @@ pub use gh_model::{FileErr, Line};
 pub use law::program_makes_its_lines;
 pub use schedule::read_schedule;
 pub use vm_program::VmProgram;
+
+#[cfg(test)]
+mod tests;

@@ -59,12 +59,7 @@ fn is_item(cpus: Cpus, byte: u8) -> bool
 }
 
 /// Puts the item's CPU behind those that were read, and gives the number of the next item.
-fn read_item(
-    items: &mut Sequence<CpuNo>,
-    cpus: Cpus,
-    byte: u8,
-    number: u32,
-) -> Result<u32, FileErr>
+fn read_item(items: &mut Sequence<CpuNo>, cpus: Cpus, byte: u8, number: u32) -> Result<u32, FileErr>
     ensures good { IfOk result (λ _. is_item_among cpus.manager cpus.vms byte ≡ true) }
     ensures items { IfOk result (λ _. items.new ≡ items.old ++ cpu_of byte ∷ []) }
     ensures number { IfOk result (λ next. next ≡ number + 1) }

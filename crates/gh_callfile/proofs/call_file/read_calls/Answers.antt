@@ -1,17 +1,18 @@
 use Rattle.std.proofs.Common.{◌≡◌, ◌∷◌, [], rules, sym, ◌∙◌, ap}
 use Rattle.std.specs.List.{slice_split}
-use Rattle.gh_callfile.specs.CallFile.{is_line_feed, Good}
-use Rattle.gh_callfile.proofs.CallFileLemmas.{read_to_end}
+use Rattle.gh_callfile.specs.CallFile.{is_line_feed, Good, reading}
+use Rattle.gh_callfile.proofs.CallFileLemmas.{calls_within, read_to_end}
 use Rattle.gh_callfile.proofs.call_file.read_calls.Goals as goal
 
 pub returns-in_err-next-clause-bad : goal.returns-in_err-next-clause-bad
 returns-in_err-next-clause-bad c =
-  let split : slice_split is_line_feed c.loop-line.rest.now ≡ c.in-Some.line.now ∷ slice_split is_line_feed c.in-Some.behind.now = search rules in
-  let bad = c.in_err-next.ensures.bad c.in-Some.behind.now in
-  rw (← c.loop-line.invariant, split) (search rules)
+    let split : slice_split is_line_feed c.loop-line.rest.now ≡ c.in-Some.line.now ∷ slice_split is_line_feed c.in-Some.behind.now = search rules in
+    let bad = c.in_err-next.ensures.bad c.in-Some.behind.now in
+    rw (← c.loop-line.invariant, split) (search rules)
 
-pub returns-then-is_empty-clause-ok : goal.returns-then-is_empty-clause-ok
-returns-then-is_empty-clause-ok c =
-  let split : slice_split is_line_feed c.loop-line.rest.now ≡ c.loop-line.rest.now ∷ [] = search rules in
-  let whole = read_to_end c.loop-line.lines c.loop-line.next.number c.loop-line.next.room c.loop-line.rest.now split (search rules) in
-  sym c.loop-line.invariant ∙ whole ∙ ap Good (sym c.into_vec.ensures)
+pub returns-then-is_empty : goal.returns-then-is_empty
+returns-then-is_empty c =
+    let split : slice_split is_line_feed c.loop-line.rest.now ≡ c.loop-line.rest.now ∷ [] = search rules in
+    let whole = read_to_end c.loop-line.lines c.loop-line.next.number c.loop-line.next.room c.loop-line.rest.now split (search rules) in
+    let good : reading c.args.text.now c.args.room ≡ Good c.into_vec.result.items = sym c.loop-line.invariant ∙ whole ∙ ap Good (sym c.into_vec.ensures) in
+    record { ok = good; room = calls_within 1 c.args.room _ _ good; bad = search rules }

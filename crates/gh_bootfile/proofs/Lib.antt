@@ -1,0 +1,11 @@
+pub mod BadLineLaw
+pub mod DraftLemmas
+pub mod FileLaw
+pub mod FreeBytes
+pub mod LineLaw
+pub mod NumberLaw
+pub mod NumberLemmas
+pub mod PieceLemmas
+pub mod TablesFacts
+pub mod TablesLemmas
+pub mod TablesShows

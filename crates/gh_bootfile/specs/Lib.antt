@@ -1,0 +1,7 @@
+pub mod BadLine
+pub mod BootFile
+pub mod Draft
+pub mod Grammar
+pub mod Reading
+pub mod Tables
+pub mod TablesLines

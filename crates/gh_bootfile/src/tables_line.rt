@@ -1,0 +1,124 @@
+//! A line of a boot file is taken into the tables.
+
+ghost use Rattle.std.specs.Prelude.{◌≡◌, false, OnOk, OnErr};
+ghost use Rattle.gh_bootfile.specs.Tables.{row_at};
+ghost use Rattle.gh_bootfile.specs.TablesLines.{span_start, takes_memory, with_line, CanTake};
+
+use crate::tables::Tables;
+use crate::tables_lines::Span;
+use gh_base::{Kind, NoMemory, Serial};
+use gh_model::{BootLine, ExtentRow, LinkRow, MappingRow};
+
+/// The row of a serial; none past the table's end.
+pub(crate) fn row_at<R: Copy>(table: &[Option<R>], serial: Serial) -> Option<R>
+    ensures { result ≡ row_at table.now serial.0 }
+{
+    table.get(serial.0 as usize).copied().flatten()
+}
+
+/// The first machine page of the span of an extent; 0 where there is none.
+fn span_start(extents: &[Option<ExtentRow>], extent: Serial) -> u16
+    ensures { result ≡ span_start extents.now extent.0 }
+{
+    match row_at(extents, extent) {
+        None => 0,
+        Some(row) => row.first.0,
+    }
+}
+
+impl Tables {
+    /// Takes a line that fits behind those before it.
+    pub fn add(&mut self, line: BootLine) -> Result<(), NoMemory>
+        requires { CanTake self.old line }
+        ensures ok { OnOk result (self.new ≡ with_line self.old line) }
+        ensures no_memory { OnErr result (self.new ≡ self.old) }
+    {
+        match line {
+            BootLine::Map {
+                space,
+                extent,
+                base,
+                offset,
+                count,
+                access,
+            } => self.add_mapping(MappingRow {
+                space,
+                extent,
+                base: base as u64,
+                offset: offset as u64,
+                count: count as u64,
+                access,
+                handle: 0,
+            }),
+            BootLine::Vm { cspace, space } => self.add_vm(cspace, space),
+            BootLine::Rm {
+                cspace,
+                space,
+                partition: _,
+            } => self.add_manager(cspace, space),
+            BootLine::Link {
+                vm,
+                extent,
+                request,
+                reply,
+            } => self.add_link(LinkRow {
+                vm,
+                extent,
+                request,
+                reply,
+            }),
+            _ => {
+                self.write(line);
+                Ok(())
+            }
+        }
+    }
+
+    /// Takes a line that needs no memory.
+    fn write(&mut self, line: BootLine)
+        requires take { CanTake self.old line }
+        requires no_memory { takes_memory line ≡ false }
+        ensures { self.new ≡ with_line self.old line }
+    {
+        match line {
+            BootLine::Partition { quota } => self.add_partition(quota),
+            BootLine::Cspace { partition } => self.add_cspace(partition),
+            BootLine::Addrspace { partition } => self.add_object(Kind::Space, partition, 4),
+            BootLine::Doorbell { partition } => self.add_object(Kind::Bell, partition, 1),
+            BootLine::RootExtent { partition } => self.add_root(partition),
+            BootLine::Extent {
+                partition,
+                parent,
+                offset,
+                count,
+                access,
+                held_offset,
+                held_count,
+            } => {
+                let first = span_start(self.extents.as_slice(), parent) + offset;
+                let span = Span {
+                    parent,
+                    first,
+                    count,
+                    access,
+                    held: first + held_offset,
+                    held_count,
+                };
+                self.add_extent(partition, span)
+            }
+            BootLine::Msgqueue {
+                partition,
+                depth,
+                size,
+            } => self.add_queue(partition, depth, size),
+            BootLine::Cap {
+                cspace,
+                slot,
+                object,
+                rights: _,
+                master,
+            } => self.add_capability(cspace, slot, object, master),
+            _ => unreachable!(),
+        }
+    }
+}
