@@ -26,7 +26,7 @@ lines_fit-more s [] line fit fits = rw fits refl
 lines_fit-more s (first ∷ lines) line fit fits =
     rw (and-first (line_fits s first) (lines_fit (after_line s first) lines) fit) (lines_fit-more (after_line s first) lines line (and-second _ _ fit) fits)
 
-all_fit-more : (lines : List BootLine) (line : BootLine) → 0 < length lines → all_fit lines ≡ true → next_fits lines line ≡ true → all_fit (lines ++ line ∷ []) ≡ true
+pub all_fit-more : (lines : List BootLine) (line : BootLine) → 0 < length lines → all_fit lines ≡ true → next_fits lines line ≡ true → all_fit (lines ++ line ∷ []) ≡ true
 all_fit-more [] line some fit fits = absurd (omega arith)
 all_fit-more (first ∷ lines) line some fit fits =
     rw (and-first (first_fits first) (lines_fit (after_line empty_state first) lines) fit) (lines_fit-more (after_line empty_state first) lines line (and-second _ _ fit) fits)

@@ -68,11 +68,11 @@ ended : (texts : List (List ℕ)) → Pieces (texts ++ [] ∷ [])
 ended [] = record { first = []; others = []; are = refl }
 ended (text ∷ texts) = record { first = text; others = texts ++ [] ∷ []; are = refl }
 
-chosen : {A : Type 0} (b : Bool) (read : Result A ℕ) (y : A) → cond b read (Err 1) ≡ Ok y → (b ≡ true) × (read ≡ Ok y)
+pub chosen : {A : Type 0} (b : Bool) (read : Result A ℕ) (y : A) → cond b read (Err 1) ≡ Ok y → (b ≡ true) × (read ≡ Ok y)
 chosen true read y e = (refl, e)
 chosen false read y e = absurd cc
 
-chosen_ok : {A : Type 0} (b : Bool) (n : ℕ) (x y : A) → cond b (Ok x) (Err n) ≡ Ok y → x ≡ y
+pub chosen_ok : {A : Type 0} (b : Bool) (n : ℕ) (x y : A) → cond b (Ok x) (Err n) ≡ Ok y → x ≡ y
 chosen_ok true n x y e = cc
 chosen_ok false n x y e = absurd cc
 
@@ -108,7 +108,7 @@ pub when_ok : {A : Type 0} (b : Bool) (n : ℕ) (x y : A) → cond b (Ok x) (Err
 when_ok true n x y e = refl
 when_ok false n x y e = absurd cc
 
-and_then_ok : {A B : Type 0} (read : Result A ℕ) (next : A → Result B ℕ) (y : B) → and_then read next ≡ Ok y → (x : A) × (read ≡ Ok x) × (next x ≡ Ok y)
+pub and_then_ok : {A B : Type 0} (read : Result A ℕ) (next : A → Result B ℕ) (y : B) → and_then read next ≡ Ok y → (x : A) × (read ≡ Ok x) × (next x ≡ Ok y)
 and_then_ok (Ok x) next y e = (x, refl, e)
 and_then_ok (Err n) next y e = absurd cc
 

@@ -23,12 +23,15 @@ pub fn text_of_line_is_read()
     ensures { (line : BootLine) → fields_hold line ≡ true → line_of (line_text line) ≡ Some line }
 {}
 
-/// What is read as a boot file is the text of its lines, each byte of it.
+/// What is read as a boot file is the text of its lines, each byte of it, and they meet the conditions
+/// of boot files.
 pub fn read_file_is_its_text()
     ensures spelled { (text : List ℕ) (lines : List BootLine) →
         boot_of text ≡ Ok lines → text ≡ boot_text lines }
     ensures fields { (text : List ℕ) (lines : List BootLine) →
         boot_of text ≡ Ok lines → list_all fields_hold lines ≡ true }
+    ensures fits { (text : List ℕ) (lines : List BootLine) →
+        boot_of text ≡ Ok lines → boot_fits lines ≡ true }
 {}
 
 /// The text of a boot file is read as its lines.

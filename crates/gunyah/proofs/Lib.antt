@@ -1,3 +1,4 @@
+pub mod LawLemmas
 pub mod OutcomeLemmas
 pub mod StepLemmas
 pub mod WordsLemmas
