@@ -1,11 +1,11 @@
 -- Files as they are loaded: no more than their limit and one byte more.
-use Rattle.std.proofs.Common.{◌≡◌, ◌∙◌, ◌+◌, ◌≤◌, ◌&&◌, nat_le, take, sym, ℕ, Bool, true, false, List, [], ◌∷◌, Option, None, Some, IfSome, is_some, length, map, refl, ap, arith, get_or, String, Global, string_bytes}
+use Rattle.std.proofs.Common.{◌≡◌, ◌∙◌, ◌+◌, ◌≤◌, nat_le, take, sym, ℕ, Bool, true, false, List, [], ◌∷◌, Option, None, Some, IfSome, is_some, length, map, refl, ap, arith, get_or, String, Global, string_bytes}
 use Rattle.std.proofs.lemmas.Bool.{leb-true}
 use Rattle.std.proofs.lemmas.Bool.Decides.{nat_tests}
 use Rattle.std.proofs.lemmas.List.{length-take, take_all}
 use Rattle.std.specs.List.{list_all}
 use Rattle.gunyah.specs.Outcome.{texts_under}
-use Rattle.gunyah.specs.Step.{is_small, loaded, are_forms, are_step_files, step_text}
+use Rattle.gunyah.specs.Step.{is_small, loaded, are_step_files, step_text}
 use Rattle.gunyah.specs.Words.{words_of}
 
 -- a front part with room for one byte more is above a limit where the whole is

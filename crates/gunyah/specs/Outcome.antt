@@ -1,5 +1,5 @@
 -- What a command does to its files and its sink.
-use Rattle.std.specs.Prelude.{◌≡◌, ◌-◌, ◌++◌, ⊤, ℕ, zero, suc, Bool, true, false, List, length, take, map, Option, None, Some, IfSome}
+use Rattle.std.specs.Prelude.{◌≡◌, ◌-◌, ◌++◌, ⊤, ℕ, zero, suc, Bool, true, false, List, length, take, map, Option, IfSome}
 use Rattle.std.specs.Option.{option_map, option_map_or}
 use Rattle.std.specs.Io.KnownBytes.{append_known}
 use Rattle.gunyah.specs.Step.{are_step_files, step_text}
