@@ -1,4 +1,4 @@
-//! The worked runs over files in memory, planned faults, and files that aren't of their forms.
+//! The worked runs over files in memory, planned faults, and files with faults of their own.
 
 ghost use Rattle.std.specs.Prelude.{None, true};
 
@@ -145,35 +145,133 @@ fn other_words_give_the_usage(rt: HostRuntime) -> Result<(), Fail> {
     Ok(())
 }
 
-/// Whether the step of these files ends at a bad boot file and writes nothing.
-fn is_bad<R: Threads + Wait + Sync>(
+/// Whether the step of these files ends so and writes nothing.
+fn is_refused<R: Threads + Wait + Sync>(
     rt: &R,
     alloc: Global,
     boot: &str,
     schedule: &str,
     calls: &str,
+    status: Status,
 ) -> Result<bool, AllocError> {
     let mut files = SureFiles::new(entries(alloc, boot, schedule, calls)?);
     let mut out = SureSink::new(alloc);
-    let status = step(rt, alloc, &mut files, &mut out)?;
-    Ok(status == Status::BadBoot(0) && out.bytes().is_empty())
+    let ended = step(rt, alloc, &mut files, &mut out)?;
+    Ok(ended == status && out.bytes().is_empty())
 }
 
 #[test]
-fn files_of_other_forms_are_bad(rt: HostRuntime) -> Result<(), Fail> {
+fn faulty_files_are_told_by_their_place(rt: HostRuntime) -> Result<(), Fail> {
     let alloc = rt.alloc();
-    assert!(rt; is_bad(&rt, alloc, "gunyah 1\npages 0\n", "", calls())?);
-    assert!(rt; is_bad(&rt, alloc, boot(), "1", calls())?);
-    for calls in [
-        "C6008000\n",
-        "c6008012 7 05\n",
-        "c6008012 7 0\n",
-        "c6008000",
-        "c6008000\n\n",
-        "c6008012 7 12345678123456789\n",
-    ] {
-        assert!(rt; is_bad(&rt, alloc, boot(), "", calls)?, "{calls}");
-    }
+    let no_pages = "gunyah 1\npages 0\n";
+    assert!(rt; is_refused(&rt, alloc, no_pages, "", calls(), Status::BadBoot(2))?);
+    assert!(rt; is_refused(&rt, alloc, boot(), "12", calls(), Status::BadSchedule(2))?);
+    assert!(rt; is_refused(&rt, alloc, boot(), "1", calls(), Status::BadSchedule(1))?);
+    assert!(rt; is_refused(&rt, alloc, boot(), "", "C6008000\n", Status::BadCalls(3, 1))?);
+    assert!(rt; is_refused(&rt, alloc, boot(), "", "c6008000", Status::BadCalls(3, 1))?);
+    Ok(())
+}
+
+#[test]
+fn a_call_file_needs_a_vm(rt: HostRuntime) -> Result<(), Fail> {
+    let alloc = rt.alloc();
+    let mut files = SureFiles::new(entries(alloc, boot(), "", "")?);
+    let mut out = SureSink::new(alloc);
+    let words = ["step", "boot", "schedule", "vm1", "vm2"];
+    assert_eq!(rt; status_of(&rt, alloc, &words, &mut files, &mut out)?, Status::BadCalls(4, 0));
+    assert!(rt; out.bytes().is_empty());
+    Ok(())
+}
+
+#[test]
+fn a_large_file_is_told(rt: HostRuntime) -> Result<(), Fail> {
+    let alloc = rt.alloc();
+    let mut entries = entries(alloc, boot(), "", "")?;
+    entries.push((String::from_str(alloc, "large")?, vec![in alloc; b'0'; 8_388_609]?))?;
+    let mut files = SureFiles::new(entries);
+    let mut out = SureSink::new(alloc);
+    let words = ["step", "boot", "schedule", "large"];
+    assert_eq!(rt; status_of(&rt, alloc, &words, &mut files, &mut out)?, Status::TooLarge(3));
+    assert!(rt; out.bytes().is_empty());
+    Ok(())
+}
+
+/// Frames that are refused at once or at a look, of functions that aren't built, of none, and with
+/// high bits in x0.
+fn refused_calls() -> &'static str {
+    "c6008012 1 0\nc6008012 7 1 9\nc6008012 1 1\nc6008012 0 1\nc6008012 8 1\n\
+     c600801b 7 1 0 0 : 00\nc6009999\nc6008065 7\n1c6008000\n"
+}
+
+fn refused_text() -> &'static str {
+    "history 2\n1 act 1 9\n2 act 1 10\ncalls 10\n\
+     call 1 1 0 frame = 1 0 0 0\ncall 1 2 0 frame = 1 0 0 0\n\
+     call 1 3 1 look 1 0 refused = 32 0 0 0\ncall 1 4 3 look 0 0 refused = 32 0 0 0\n\
+     call 1 5 5 look 8 0 refused = 35 0 0 0\n\
+     call 1 6 0 frame = ffffffffffffffff 0 0 0\ncall 1 7 0 frame = ffffffffffffffff 0 0 0\n\
+     call 1 8 0 frame = ffffffffffffffff 0 0 0\ncall 1 9 0 entry 1 = 8001 46 0 0\n\
+     call 1 10 0 entry 2 = 0 0 0 0\nstate\nunits 1 11 29 0\nend\n"
+}
+
+#[test]
+fn refusals_have_their_numbers(rt: HostRuntime) -> Result<(), Fail> {
+    let alloc = rt.alloc();
+    assert!(rt; writes(&rt, alloc, boot(), refused_calls(), refused_text())?);
+    Ok(())
+}
+
+/// Eight VMs that may ring one doorbell.
+fn boot_of_eight() -> &'static str {
+    "gunyah 1\npages 8\npartition 128\nrootextent 1\ndoorbell 1\n\
+     cspace 1\naddrspace 1\ncspace 1\naddrspace 1\ncspace 1\naddrspace 1\ncspace 1\naddrspace 1\n\
+     cspace 1\naddrspace 1\ncspace 1\naddrspace 1\ncspace 1\naddrspace 1\ncspace 1\naddrspace 1\n\
+     cap 4 7 3 1 0\ncap 6 7 3 1 0\ncap 8 7 3 1 0\ncap 10 7 3 1 0\n\
+     cap 12 7 3 1 0\ncap 14 7 3 1 0\ncap 16 7 3 1 0\ncap 18 7 3 1 0\n\
+     vm 4 5\nvm 6 7\nvm 8 9\nvm 10 11\nvm 12 13\nvm 14 15\nvm 16 17\nvm 18 19\n"
+}
+
+/// Each VM rings with a flag of its own in the first round, and exits in the second.
+fn text_of_eight() -> &'static str {
+    "history 16\n1 act 1 1\n2 act 2 1\n3 act 3 1\n4 act 4 1\n\
+     5 act 5 1\n6 act 6 1\n7 act 7 1\n8 act 8 1\n\
+     9 act 1 2\n10 act 2 2\n11 act 3 2\n12 act 4 2\n\
+     13 act 5 2\n14 act 6 2\n15 act 7 2\n16 act 8 2\n\
+     calls 16\n\
+     call 1 1 1 look 7 0 entry 1 = 0 0 0 0\ncall 1 2 0 entry 9 = 0 0 0 0\n\
+     call 2 1 1 look 7 0 entry 2 = 0 1 0 0\ncall 2 2 0 entry 10 = 0 0 0 0\n\
+     call 3 1 1 look 7 0 entry 3 = 0 3 0 0\ncall 3 2 0 entry 11 = 0 0 0 0\n\
+     call 4 1 1 look 7 0 entry 4 = 0 7 0 0\ncall 4 2 0 entry 12 = 0 0 0 0\n\
+     call 5 1 1 look 7 0 entry 5 = 0 f 0 0\ncall 5 2 0 entry 13 = 0 0 0 0\n\
+     call 6 1 1 look 7 0 entry 6 = 0 1f 0 0\ncall 6 2 0 entry 14 = 0 0 0 0\n\
+     call 7 1 1 look 7 0 entry 7 = 0 3f 0 0\ncall 7 2 0 entry 15 = 0 0 0 0\n\
+     call 8 1 1 look 7 0 entry 8 = 0 7f 0 0\ncall 8 2 0 entry 16 = 0 0 0 0\n\
+     state\nunits 1 67 61 0\nend\n"
+}
+
+/// The files of eight VMs: `boot`, `schedule`, and a call file for each VM.
+fn entries_of_eight(alloc: Global) -> Result<Vec<(String, Vec<u8>)>, AllocError> {
+    let mut entries = Vec::new(alloc);
+    entries.push(entry(alloc, "boot", boot_of_eight())?)?;
+    entries.push(entry(alloc, "schedule", "")?)?;
+    entries.push(entry(alloc, "1", "c6008012 7 1\n")?)?;
+    entries.push(entry(alloc, "2", "c6008012 7 2\n")?)?;
+    entries.push(entry(alloc, "3", "c6008012 7 4\n")?)?;
+    entries.push(entry(alloc, "4", "c6008012 7 8\n")?)?;
+    entries.push(entry(alloc, "5", "c6008012 7 10\n")?)?;
+    entries.push(entry(alloc, "6", "c6008012 7 20\n")?)?;
+    entries.push(entry(alloc, "7", "c6008012 7 40\n")?)?;
+    entries.push(entry(alloc, "8", "c6008012 7 80\n")?)?;
+    Ok(entries)
+}
+
+#[test]
+fn eight_vms_take_turns(rt: HostRuntime) -> Result<(), Fail> {
+    let alloc = rt.alloc();
+    let mut files = SureFiles::new(entries_of_eight(alloc)?);
+    let mut out = SureSink::new(alloc);
+    let words = ["step", "boot", "schedule", "1", "2", "3", "4", "5", "6", "7", "8"];
+    assert_eq!(rt; status_of(&rt, alloc, &words, &mut files, &mut out)?, Status::Done);
+    assert!(rt; out.bytes() == text_of_eight().as_bytes());
     Ok(())
 }
 
