@@ -2,8 +2,13 @@
 #![tactic(auto)]
 
 mod draft;
+mod draft_cpus;
+mod draft_extents;
 mod draft_fits;
+mod draft_objects;
 mod draft_reads;
 mod tables;
+mod tables_cpus;
+mod tables_extents;
 mod tables_line;
-mod tables_lines;
+mod tables_objects;

@@ -1,30 +1,12 @@
 //! A line of a boot file is taken into the tables.
 
 ghost use Rattle.std.specs.Prelude.{◌≡◌, false, OnOk, OnErr};
-ghost use Rattle.gh_bootfile.specs.Tables.{row_at};
-ghost use Rattle.gh_bootfile.specs.TablesLines.{span_start, takes_memory, with_line, CanTake};
+ghost use Rattle.gh_bootfile.specs.TablesLines.{takes_memory, with_line, CanTake};
 
 use crate::tables::Tables;
-use crate::tables_lines::Span;
-use gh_base::{Kind, NoMemory, Serial};
-use gh_model::{BootLine, ExtentRow, LinkRow, MappingRow};
-
-/// The row of a serial; none past the table's end.
-pub(crate) fn row_at<R: Copy>(table: &[Option<R>], serial: Serial) -> Option<R>
-    ensures { result ≡ row_at table.now serial.0 }
-{
-    table.get(serial.0 as usize).copied().flatten()
-}
-
-/// The first machine page of the span of an extent; 0 where there is none.
-fn span_start(extents: &[Option<ExtentRow>], extent: Serial) -> u16
-    ensures { result ≡ span_start extents.now extent.0 }
-{
-    match row_at(extents, extent) {
-        None => 0,
-        Some(row) => row.first.0,
-    }
-}
+use crate::tables_extents::{Span, span_start};
+use gh_base::{Kind, NoMemory};
+use gh_model::{BootLine, LinkRow, MappingRow};
 
 impl Tables {
     /// Takes a line that fits behind those before it.
