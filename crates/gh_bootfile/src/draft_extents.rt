@@ -5,7 +5,7 @@ ghost use Rattle.std.specs.List.{list_all};
 ghost use Rattle.gh_model.specs.Boot.{boot_state, line_fits, is_access, access_fits, extent_fits, mapping_fits};
 
 use crate::draft::Draft;
-use crate::tables_extents::first_page;
+use crate::tables_extents::{NewExtent, first_page};
 use gh_base::{Access, Kind, Serial};
 use gh_model::{BootLine, ExtentRow};
 
@@ -31,17 +31,6 @@ fn all_held(holders: &[Serial], extent: Serial, first: usize, count: usize) -> b
     holders[first..first + count]
         .iter()
         .all(|holder| *holder == extent)
-}
-
-/// What an extent line says but for its partition: where its extent lies in its parent's span.
-#[derive(Clone, Copy)]
-pub(crate) struct NewExtent {
-    pub parent: Serial,
-    pub offset: u16,
-    pub count: u16,
-    pub access: Access,
-    pub held_offset: u16,
-    pub held_count: u16,
 }
 
 /// What a mapping line says but for its address space.

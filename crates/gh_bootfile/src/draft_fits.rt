@@ -2,11 +2,13 @@
 
 ghost use Rattle.std.specs.Prelude.{◌≡◌, true};
 ghost use Rattle.gh_model.specs.Boot.{boot_state, line_fits};
-ghost use Rattle.gh_bootfile.specs.Draft.{first_fits, makes_object, next_fits, is_whole};
+ghost use Rattle.gh_bootfile.specs.Draft.{first_fits, next_fits, is_whole};
+ghost use Rattle.gh_bootfile.specs.TablesLines.{makes_cpu, makes_object};
 
 use crate::draft::Draft;
-use crate::draft_extents::{NewExtent, NewMapping};
+use crate::draft_extents::NewMapping;
 use crate::tables_cpus::vm_count;
+use crate::tables_extents::NewExtent;
 use gh_model::BootLine;
 
 /// Whether it is a line of 1 to 1,024 pages.
@@ -59,6 +61,28 @@ impl Draft {
         }
     }
 
+    /// Whether a line that makes or links a CPU fits behind the line of pages.
+    fn cpu_line_fits(&self, line: &BootLine) -> bool
+        requires { makes_cpu line.now ≡ true }
+        ensures { result ≡ line_fits (boot_state self.now) line.now }
+    {
+        match *line {
+            BootLine::Vm { cspace, space } => self.vm_fits(cspace, space),
+            BootLine::Rm {
+                cspace,
+                space,
+                partition,
+            } => self.manager_fits(cspace, space, partition),
+            BootLine::Link {
+                vm,
+                extent,
+                request,
+                reply,
+            } => self.link_fits(vm, extent, request, reply),
+            _ => unreachable!(),
+        }
+    }
+
     /// Whether a line fits behind the line of pages.
     fn line_fits(&self, line: &BootLine) -> bool
         ensures { result ≡ line_fits (boot_state self.now) line.now }
@@ -89,18 +113,9 @@ impl Draft {
                 rights,
                 master,
             } => self.capability_fits(cspace, slot, object, rights, master),
-            BootLine::Vm { cspace, space } => self.vm_fits(cspace, space),
-            BootLine::Rm {
-                cspace,
-                space,
-                partition,
-            } => self.manager_fits(cspace, space, partition),
-            BootLine::Link {
-                vm,
-                extent,
-                request,
-                reply,
-            } => self.link_fits(vm, extent, request, reply),
+            BootLine::Vm { .. } | BootLine::Rm { .. } | BootLine::Link { .. } => {
+                self.cpu_line_fits(line)
+            }
             _ => self.object_line_fits(line),
         }
     }

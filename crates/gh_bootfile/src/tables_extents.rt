@@ -30,20 +30,21 @@ pub(crate) fn first_page(extent: Option<ExtentRow>) -> u16
 }
 
 /// The first machine page of the span of an extent; 0 where there is none.
-pub(crate) fn span_start(extents: &[Option<ExtentRow>], extent: Serial) -> u16
+fn span_start(extents: &[Option<ExtentRow>], extent: Serial) -> u16
     ensures { result ≡ span_start extents.now extent.0 }
 {
     first_page(row_at(extents, extent))
 }
 
-/// An extent line's span and what it takes over, in machine pages.
+/// What an extent line says but for its partition: where its extent lies in its parent's span, and
+/// which of these pages it takes over.
 #[derive(Clone, Copy)]
-pub(crate) struct Span {
+pub(crate) struct NewExtent {
     pub parent: Serial,
-    pub first: u16,
+    pub offset: u16,
     pub count: u16,
     pub access: Access,
-    pub held: u16,
+    pub held_offset: u16,
     pub held_count: u16,
 }
 
@@ -73,31 +74,31 @@ impl Tables {
     }
 
     /// An extent with a parent, whose pages it takes over.
-    pub fn add_extent(&mut self, partition: Serial, span: Span)
+    pub fn add_extent(&mut self, partition: Serial, new: NewExtent)
         requires object { CanMake self.old partition.0 1 }
-        requires held { span.held + span.held_count ≤ length self.old.holders }
-        ensures { self.new ≡ with_extent self.old partition.0 span.parent.0 span.first span.count
-            span.access.0 span.held span.held_count }
+        requires small { span_start self.old.extents new.parent.0 + new.offset + new.count ≤ 1024 }
+        requires within { span_start self.old.extents new.parent.0 + new.offset + new.count
+            ≤ length self.old.holders }
+        requires held { new.held_offset + new.held_count ≤ new.count }
+        ensures { self.new ≡ with_extent self.old partition.0 new.parent.0 new.offset new.count
+            new.access.0 new.held_offset new.held_count }
     {
         let serial = Serial(self.next_serial);
+        let first = span_start(self.extents.as_slice(), new.parent) + new.offset;
         self.add_object(Kind::Extent, partition, 1);
         self.extents.set(
             serial.0 as usize,
             Some(ExtentRow {
                 serial,
-                parent: span.parent,
-                first: PageNo(span.first),
-                count: span.count,
-                access: span.access,
+                parent: new.parent,
+                first: PageNo(first),
+                count: new.count,
+                access: new.access,
                 parcel: false,
             }),
         );
-        move_run(
-            &mut self.holders,
-            span.held as usize,
-            span.held_count as usize,
-            serial,
-        );
+        let held = first as usize + new.held_offset as usize;
+        move_run(&mut self.holders, held, new.held_count as usize, serial);
         self.is_rooted = true;
     }
 
