@@ -62,9 +62,10 @@ impl Draft {
         match parent {
             None => false,
             Some(row) => {
+                let past = new.offset as u32 + new.count as u32;
                 let held = row.first.0 as usize + new.offset as usize + new.held_offset as usize;
                 1 <= new.count
-                    && new.offset as u32 + new.count as u32 <= row.count as u32
+                    && past <= row.count as u32
                     && is_access(new.access)
                     && access_fits(new.access, row.access)
                     && all_held(self.holders(), new.parent, held, new.held_count as usize)

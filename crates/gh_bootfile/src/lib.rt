@@ -7,6 +7,8 @@ mod draft_extents;
 mod draft_fits;
 mod draft_objects;
 mod draft_reads;
+#[cfg(test)]
+mod draft_tests;
 mod tables;
 mod tables_cpus;
 mod tables_extents;
