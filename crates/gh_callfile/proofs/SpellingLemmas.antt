@@ -1,5 +1,5 @@
 -- What is read as a line is spelled by its words, and each well written line is read as what it means.
-use Rattle.std.proofs.Common.{◌≡◌, ℕ, ◌+◌, ◌-◌, ◌<◌, ◌≤◌, ◌==◌, ◌&&◌, Bool, true, false, not, nat_le, nat_lt, List, [], ◌∷◌, ◌++◌, Option, Some, None, is_some, length, take, drop, ap, sym, ◌∙◌, arith, refl, zero, suc, count_by, slice_index_or, length-append, if◌then◌else◌}
+use Rattle.std.proofs.Common.{◌≡◌, ℕ, ◌+◌, ◌<◌, ◌≤◌, ◌&&◌, Bool, true, false, nat_le, List, [], ◌∷◌, ◌++◌, Option, Some, None, is_some, length, take, drop, ap, sym, ◌∙◌, arith, refl, zero, suc, count_by, slice_index_or, length-append}
 use Rattle.std.specs.List.{join_with_byte, list_all, prefix_len, slice_split, All}
 use Rattle.std.proofs.lemmas.Bool.{eqb-true, leb-true, le-leb}
 use Rattle.std.proofs.lemmas.List.Splits.{length-slice_split, slice_split_at, slice_split_none, join_with_byte-slice_split}
@@ -8,7 +8,7 @@ use Rattle.std.proofs.lemmas.List.Folds.{length-prefix_len}
 use Rattle.std.proofs.lemmas.List.Sums.{AllPass-from_list_all}
 use Rattle.std.proofs.Math.Seq.{take-append_seam, drop-append_seam}
 use Rattle.gh_model.specs.declared.program.Line.{Line}
-use Rattle.gh_callfile.specs.Grammar.{is_space, is_digit, is_numeral, is_register, is_bytes, bytes_of, repeat_of, is_mark, bytes_written, times_written, registers_of, line_of, line_of_words, line_behind, line_with, one_part, two_parts, tail_of, Tail}
+use Rattle.gh_callfile.specs.Grammar.{is_space, is_digit, is_numeral, is_register, is_bytes, bytes_of, repeat_of, is_mark, bytes_written, times_written, registers_of, line_of, line_of_words, line_behind, line_with, one_part, two_parts, tail_of}
 use Rattle.gh_callfile.specs.Spelling.{Written, marked, words_of, spelled, IsWellWritten, meant, Spells}
 
 -- both sides of an && hold

@@ -2,7 +2,7 @@
 use Rattle.std.specs.Prelude.{◌≡◌, ◌≤◌, ◌++◌, ℕ, true, List, [], ◌∷◌, length, Option, Some, None, is_some}
 use Rattle.std.specs.List.{join_with_byte, list_all}
 use Rattle.gh_model.specs.declared.program.Line.{Line}
-use Rattle.gh_callfile.specs.Grammar.{is_register, bytes_written, times_written, registers_of, line_of, line_with}
+use Rattle.gh_callfile.specs.Grammar.{is_register, bytes_written, times_written, registers_of, line_with}
 
 -- the words that a line is written with: its registers, and the words of its bytes and of its repeat where it has them
 pub record Written : Type 0 where
