@@ -118,16 +118,6 @@ module _ (t : Tables) (s : State) (shows : Shows t s) (room : HasRoom t) where
 pub take-at : (t : Tables) (line other : BootLine) → line ≡ other → CanTake t line → CanTake t other
 take-at t line other is take = subst (λ (l : BootLine). CanTake t l) is take
 
-pub take-partition : (t : Tables) (quota : ℕ) → CanTake t (Partition quota) → CanMake t t.next_serial 1
-take-partition t quota take =
-    let few : take.state.next_serial ≤ 1024 = leb-true _ _ (and-second _ _ take.fits) in
-    record {
-      room = take.room;
-      serial = omega (arith, few, take.shows.next);
-      home = omega (arith, few, take.shows.next);
-      units = omega (arith, take.shows.objects.units.found t.next_serial, take.shows.objects.units.unused t.next_serial (λ _. omega (arith, take.shows.next)));
-    }
-
 pub take-cspace : (t : Tables) (partition : Serial) → CanTake t (Cspace partition) → CanMake t partition.0 4
 take-cspace t partition take = units-made t take.state take.shows take.room partition.0 4 (and-first _ _ take.fits) (omega arith)
 

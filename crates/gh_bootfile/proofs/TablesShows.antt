@@ -22,7 +22,7 @@ use Rattle.gh_model.specs.Rows.{is_partition}
 use Rattle.gh_model.specs.Units.{row_quota}
 use Rattle.gh_bootfile.specs.declared.tables.Tables.{Tables}
 use Rattle.gh_bootfile.specs.Tables.{places, units_at, slot_place, object_key, partition_key, extent_key, Shows, ShowsObjects, ShowsPartitions, ShowsExtents, HasRoom}
-use Rattle.gh_bootfile.specs.TablesLines.{blank_tables, new_object, with_object, with_partition, with_cspace, with_root, with_extent, with_queue, with_mapping, with_slot, with_capability, with_cpu, with_link, with_line, marked_if, span_start}
+use Rattle.gh_bootfile.specs.TablesLines.{blank_tables, new_object, with_object, with_partition, with_cspace, with_root, with_extent, with_queue, with_mapping, with_slot, with_capability, with_cpu, with_link, with_line, marked_if}
 use Rattle.gh_bootfile.proofs.TablesLemmas.{blank-at, ShowsRows-put, ShowsRows-pass, ShowsUnits-put, given_by-more, objects_of-more, ShowsMarks-pass, ShowsMarks-put, slots-put, ShowsMappings-put}
 
 -- blank tables show the state behind the line of pages
@@ -186,7 +186,7 @@ module _ (t : Tables) (s : State) (shows : Shows t s) (room : HasRoom t) where
       manager = shows.manager;
     })
 
-    pub Shows-extent : (parent offset count access held_offset held_count : ℕ) → Shows (with_extent t partition parent (span_start t.extents parent + offset) count access (span_start t.extents parent + offset + held_offset) held_count) (state_with_extent s partition parent offset count access held_offset held_count)
+    pub Shows-extent : (parent offset count access held_offset held_count : ℕ) → Shows (with_extent t partition parent offset count access held_offset held_count) (state_with_extent s partition parent offset count access held_offset held_count)
     Shows-extent parent offset count access held_offset held_count = rw (shows.next, shows.holders, shows.extents.rows.found parent) (record {
       next = refl;
       first = omega arith;

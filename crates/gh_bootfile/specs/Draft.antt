@@ -3,7 +3,7 @@ use Rattle.std.specs.Prelude.{◌≡◌, ◌==◌, ◌&&◌, ℕ, ◌<◌, Bool,
 use Rattle.std.specs.List.{list_any}
 use Rattle.gh_base.specs.declared.kind.Kind.TheVariants as kind
 use Rattle.gh_model.specs.declared.boot_line.BootLine.{BootLine}
-use Rattle.gh_model.specs.declared.boot_line.BootLine.TheVariants.{Pages, Partition, Cspace, Addrspace, Doorbell, RootExtent, Extent, Msgqueue}
+use Rattle.gh_model.specs.declared.boot_line.BootLine.TheVariants.{Pages}
 use Rattle.gh_model.specs.declared.rows.LinkRow.{LinkRow}
 use Rattle.gh_model.specs.declared.state.State.{State}
 use Rattle.gh_model.specs.Boot.{empty_state, after_line, boot_state, line_fits, lines_fit, is_complete, is_kind, is_linked_queue, is_small_queue}
@@ -24,17 +24,6 @@ may_link s vm extent request reply =
     && is_kind s request kind.Queue && is_kind s reply kind.Queue && not (request == reply)
     && not (list_any (is_linked_queue request) s.links) && not (list_any (is_linked_queue reply) s.links)
     && list_any (is_small_queue request) s.queues
-
--- the line makes an object
-abbrev pub makes_object : BootLine → Bool
-makes_object (Partition quota) = true
-makes_object (Cspace partition) = true
-makes_object (Addrspace partition) = true
-makes_object (Doorbell partition) = true
-makes_object (RootExtent partition) = true
-makes_object (Extent partition parent offset count access held_offset held_count) = true
-makes_object (Msgqueue partition depth size) = true
-makes_object _ = false
 
 -- the line may come behind these lines
 abbrev pub next_fits : List BootLine → BootLine → Bool

@@ -31,13 +31,13 @@ with_cspace t partition = record (with_object t kind.Cspace partition 4) { cspac
 abbrev pub with_root : Tables → ℕ → Tables
 with_root t partition = record (with_object t kind.Extent partition 1) { extents = slice_set t.extents t.next_serial (Some (record { serial = serial_of t.next_serial; parent = serial_of 0; first = record { 0 = 0 }; count = length t.holders; access = record { 0 = 7 }; parcel = false })); holders = replicate (length t.holders) (serial_of t.next_serial); is_rooted = true }
 
--- an extent whose span begins at this machine page
-abbrev pub with_extent : Tables → ℕ → ℕ → ℕ → ℕ → ℕ → ℕ → ℕ → Tables
-with_extent t partition parent first count access held held_count = record (with_object t kind.Extent partition 1) { extents = slice_set t.extents t.next_serial (Some (record { serial = serial_of t.next_serial; parent = serial_of parent; first = record { 0 = first }; count = count; access = record { 0 = access }; parcel = false })); holders = move_pages held held_count (serial_of t.next_serial) t.holders; is_rooted = true }
-
 -- the first machine page of the span of an extent
 abbrev pub span_start : List (Option ExtentRow) → ℕ → ℕ
 span_start extents extent = option_map_or (λ (row : ExtentRow). row.first.0) (row_at extents extent) 0
+
+-- an extent in its parent's span, which holds what it takes over
+abbrev pub with_extent : Tables → ℕ → ℕ → ℕ → ℕ → ℕ → ℕ → ℕ → Tables
+with_extent t partition parent offset count access held_offset held_count = record (with_object t kind.Extent partition 1) { extents = slice_set t.extents t.next_serial (Some (record { serial = serial_of t.next_serial; parent = serial_of parent; first = record { 0 = span_start t.extents parent + offset }; count = count; access = record { 0 = access }; parcel = false })); holders = move_pages (span_start t.extents parent + offset + held_offset) held_count (serial_of t.next_serial) t.holders; is_rooted = true }
 
 -- a mark that is set where a test passes
 abbrev pub marked_if : Bool → List Bool → ℕ → List Bool
@@ -71,7 +71,7 @@ with_line t (Cspace partition) = with_cspace t partition.0
 with_line t (Addrspace partition) = with_object t kind.Space partition.0 4
 with_line t (Doorbell partition) = with_object t kind.Bell partition.0 1
 with_line t (RootExtent partition) = with_root t partition.0
-with_line t (Extent partition parent offset count access held_offset held_count) = with_extent t partition.0 parent.0 (span_start t.extents parent.0 + offset) count access.0 (span_start t.extents parent.0 + offset + held_offset) held_count
+with_line t (Extent partition parent offset count access held_offset held_count) = with_extent t partition.0 parent.0 offset count access.0 held_offset held_count
 with_line t (Msgqueue partition depth size) = with_queue t partition.0 depth size
 with_line t (Map space extent base offset count access) = with_mapping t (record { space = space; extent = extent; base = base; offset = offset; count = count; access = access; handle = 0 })
 with_line t (Cap cspace slot object rights master) = with_capability t cspace.0 slot object.0 master
@@ -97,10 +97,20 @@ pub record CanTake (t : Tables) (line : BootLine) : Type 0 where
   pub shows : Shows t state
   pub fits : line_fits state line ≡ true
 
--- the line takes memory of its own
-abbrev pub takes_memory : BootLine → Bool
-takes_memory (Map space extent base offset count access) = true
-takes_memory (Vm cspace space) = true
-takes_memory (Rm cspace space partition) = true
-takes_memory (Link vm extent request reply) = true
-takes_memory _ = false
+-- the line makes an object
+abbrev pub makes_object : BootLine → Bool
+makes_object (Partition quota) = true
+makes_object (Cspace partition) = true
+makes_object (Addrspace partition) = true
+makes_object (Doorbell partition) = true
+makes_object (RootExtent partition) = true
+makes_object (Extent partition parent offset count access held_offset held_count) = true
+makes_object (Msgqueue partition depth size) = true
+makes_object _ = false
+
+-- the line makes a CPU, or links one
+abbrev pub makes_cpu : BootLine → Bool
+makes_cpu (Vm cspace space) = true
+makes_cpu (Rm cspace space partition) = true
+makes_cpu (Link vm extent request reply) = true
+makes_cpu _ = false

@@ -9,8 +9,7 @@ ghost use Rattle.gh_model.specs.Units.{free_units, row_quota};
 ghost use Rattle.gh_bootfile.specs.Tables.{mark_at, units_at};
 
 use crate::draft::Draft;
-use crate::tables::SLOT_PLACES;
-use crate::tables_line::row_at;
+use crate::tables::{SLOT_PLACES, row_at};
 use gh_base::Serial;
 use gh_model::{CpuRow, ExtentRow, LinkRow, MappingRow, ObjectRow, PartitionRow};
 
@@ -29,7 +28,8 @@ impl Draft {
 
     /// Units of a partition's quota; 0 where there is no such partition.
     fn quota(&self, partition: Serial) -> u16
-        ensures { result ≡ row_quota (find (is_partition partition.0) (boot_state self.now).partitions) }
+        ensures { result ≡ row_quota
+            (find (is_partition partition.0) (boot_state self.now).partitions) }
     {
         match row_at(self.tables.partitions.as_slice(), partition) {
             None => 0,

@@ -2,7 +2,10 @@
 #![tactic(auto)]
 
 mod draft;
+mod draft_cpus;
+mod draft_extents;
 mod draft_fits;
+mod draft_objects;
 mod draft_reads;
 mod keyword;
 mod laws;
@@ -11,8 +14,10 @@ mod number;
 mod pieces;
 mod read;
 mod tables;
+mod tables_cpus;
+mod tables_extents;
 mod tables_line;
-mod tables_lines;
+mod tables_objects;
 mod write;
 
 pub use gh_model::FileErr;
@@ -23,5 +28,7 @@ pub use laws::{
 pub use read::read_boot;
 pub use write::write_boot;
 
+#[cfg(test)]
+mod draft_tests;
 #[cfg(test)]
 mod tests;

@@ -2,7 +2,7 @@
 
 ghost use Rattle.std.specs.Prelude.{◌≡◌, ◌*◌, ◌≤◌, [], replicate, IfOk};
 ghost use Rattle.gh_model.specs.Boot.{after_line, empty_state};
-ghost use Rattle.gh_bootfile.specs.Tables.{Shows, HasRoom};
+ghost use Rattle.gh_bootfile.specs.Tables.{Shows, HasRoom, row_at};
 ghost use Rattle.gh_bootfile.specs.TablesLines.{blank_tables};
 
 use gh_base::{NoMemory, Sequence, Serial};
@@ -66,6 +66,13 @@ fn no_mappings(alloc: Global, count: usize) -> Result<Sequence<Sequence<MappingR
     Ok(table)
 }
 
+/// The row of a serial; none past the table's end.
+pub(crate) fn row_at<R: Copy>(table: &[Option<R>], serial: Serial) -> Option<R>
+    ensures { result ≡ row_at table.now serial.0 }
+{
+    table.get(serial.0 as usize).copied().flatten()
+}
+
 /// Tables of so many places in which nothing stands yet.
 fn blank(alloc: Global, places: usize, pages: u16) -> Result<Tables, NoMemory>
     requires { places ≤ 1025 }
@@ -116,7 +123,8 @@ impl Tables {
 
     /// The tables behind the line of pages.
     pub fn of_pages(alloc: Global, pages: u16) -> Result<Tables, NoMemory>
-        ensures shows { IfOk result (λ tables. Shows tables (after_line empty_state (BootLine.Pages pages))) }
+        ensures shows { IfOk result (λ tables.
+            Shows tables (after_line empty_state (BootLine.Pages pages))) }
         ensures room { IfOk result HasRoom }
     {
         let tables = blank(alloc, PLACES, pages)?;

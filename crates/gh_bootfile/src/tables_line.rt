@@ -1,30 +1,12 @@
 //! A line of a boot file is taken into the tables.
 
-ghost use Rattle.std.specs.Prelude.{◌≡◌, false, OnOk, OnErr};
-ghost use Rattle.gh_bootfile.specs.Tables.{row_at};
-ghost use Rattle.gh_bootfile.specs.TablesLines.{span_start, takes_memory, with_line, CanTake};
+ghost use Rattle.std.specs.Prelude.{◌≡◌, true, OnOk, OnErr};
+ghost use Rattle.gh_bootfile.specs.TablesLines.{makes_cpu, makes_object, with_line, CanTake};
 
 use crate::tables::Tables;
-use crate::tables_lines::Span;
-use gh_base::{Kind, NoMemory, Serial};
-use gh_model::{BootLine, ExtentRow, LinkRow, MappingRow};
-
-/// The row of a serial; none past the table's end.
-pub(crate) fn row_at<R: Copy>(table: &[Option<R>], serial: Serial) -> Option<R>
-    ensures { result ≡ row_at table.now serial.0 }
-{
-    table.get(serial.0 as usize).copied().flatten()
-}
-
-/// The first machine page of the span of an extent; 0 where there is none.
-fn span_start(extents: &[Option<ExtentRow>], extent: Serial) -> u16
-    ensures { result ≡ span_start extents.now extent.0 }
-{
-    match row_at(extents, extent) {
-        None => 0,
-        Some(row) => row.first.0,
-    }
-}
+use crate::tables_extents::NewExtent;
+use gh_base::{Kind, NoMemory};
+use gh_model::{BootLine, LinkRow, MappingRow};
 
 impl Tables {
     /// Takes a line that fits behind those before it.
@@ -50,6 +32,33 @@ impl Tables {
                 access,
                 handle: 0,
             }),
+            BootLine::Cap {
+                cspace,
+                slot,
+                object,
+                rights: _,
+                master,
+            } => {
+                self.add_capability(cspace, slot, object, master);
+                Ok(())
+            }
+            BootLine::Vm { .. } | BootLine::Rm { .. } | BootLine::Link { .. } => {
+                self.add_cpu_line(line)
+            }
+            _ => {
+                self.add_object_line(line);
+                Ok(())
+            }
+        }
+    }
+
+    fn add_cpu_line(&mut self, line: BootLine) -> Result<(), NoMemory>
+        requires take { CanTake self.old line }
+        requires cpu { makes_cpu line ≡ true }
+        ensures ok { OnOk result (self.new ≡ with_line self.old line) }
+        ensures no_memory { OnErr result (self.new ≡ self.old) }
+    {
+        match line {
             BootLine::Vm { cspace, space } => self.add_vm(cspace, space),
             BootLine::Rm {
                 cspace,
@@ -67,17 +76,13 @@ impl Tables {
                 request,
                 reply,
             }),
-            _ => {
-                self.write(line);
-                Ok(())
-            }
+            _ => unreachable!(),
         }
     }
 
-    /// Takes a line that needs no memory.
-    fn write(&mut self, line: BootLine)
+    fn add_object_line(&mut self, line: BootLine)
         requires take { CanTake self.old line }
-        requires no_memory { takes_memory line ≡ false }
+        requires object { makes_object line ≡ true }
         ensures { self.new ≡ with_line self.old line }
     {
         match line {
@@ -95,29 +100,21 @@ impl Tables {
                 held_offset,
                 held_count,
             } => {
-                let first = span_start(self.extents.as_slice(), parent) + offset;
-                let span = Span {
+                let new = NewExtent {
                     parent,
-                    first,
+                    offset,
                     count,
                     access,
-                    held: first + held_offset,
+                    held_offset,
                     held_count,
                 };
-                self.add_extent(partition, span)
+                self.add_extent(partition, new)
             }
             BootLine::Msgqueue {
                 partition,
                 depth,
                 size,
             } => self.add_queue(partition, depth, size),
-            BootLine::Cap {
-                cspace,
-                slot,
-                object,
-                rights: _,
-                master,
-            } => self.add_capability(cspace, slot, object, master),
             _ => unreachable!(),
         }
     }

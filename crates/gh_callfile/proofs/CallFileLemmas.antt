@@ -77,6 +77,7 @@ within_step number room (Some line) later lines behind good = go (nat_le line.ti
       let sum : calls_of_lines (line ∷ more) ≡ line.times + calls_of_lines more = sum_by-cons (λ (one : Line). one.times) line more in
       rw (same, sum) (omega arith)
   whole (BadAt at) fits rest said = cc
+
   go : (b : Bool) → nat_le line.times room ≡ b
       → (if b then with_lines (line ∷ []) later else BadAt number) ≡ Good lines → calls_of_lines lines ≤ room
   go true fits said = whole later (leb-true line.times room fits) behind said

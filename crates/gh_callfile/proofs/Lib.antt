@@ -2,4 +2,5 @@ mod CallFileLemmas
 mod CallLineLemmas
 mod NumeralLemmas
 mod ProgramLemmas
+mod SpellingLemmas
 mod WorkedLemmas

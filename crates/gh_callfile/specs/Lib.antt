@@ -1,5 +1,6 @@
 pub mod CallFile
 pub mod Grammar
 pub mod Schedule
+pub mod Spelling
 pub mod VmProgress
 pub mod WorkedBoot

@@ -1,8 +1,11 @@
-//! What the program of a call file makes.
+//! How call lines are spelled, and what the program of a call file makes.
 
-ghost use Rattle.std.specs.Prelude.{◌≡◌, None};
+ghost use Rattle.std.specs.Prelude.{◌≡◌, None, Some};
+ghost use Rattle.gh_model.specs.declared.program.Line.{Line};
 ghost use Rattle.gh_model.specs.Program.{program_frames};
 ghost use Rattle.gh_model.specs.Programs.{frames_made};
+ghost use Rattle.gh_callfile.specs.Grammar.{line_of};
+ghost use Rattle.gh_callfile.specs.Spelling.{IsWellWritten, Spells, Written, meant, spelled};
 ghost use Rattle.gh_callfile.specs.VmProgress.{fresh, vm_after, vm_answer};
 
 use gh_base::Reply;
@@ -15,4 +18,20 @@ pub fn program_makes_its_lines(lines: &[Line], replies: &[Reply])
 {
     let _ = lines;
     let _ = replies;
+}
+
+/// A text that reads as a line is spelled by words of the grammar that mean this line. The function
+/// does nothing; its clause is the law.
+pub fn line_read_is_spelled(text: &[u8])
+    ensures { (line : Line) → line_of text.now ≡ Some line → Spells text.now line }
+{
+    let _ = text;
+}
+
+/// A line that is well written reads as what its words mean. The function does nothing; its clause is
+/// the law.
+pub fn line_spelled_is_read(text: &[u8])
+    ensures { (written : Written) → spelled written ≡ text.now → IsWellWritten written → line_of text.now ≡ meant written }
+{
+    let _ = text;
 }

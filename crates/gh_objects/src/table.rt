@@ -111,12 +111,15 @@ fn no_objects(alloc: Global, count: usize) -> Result<Vec<Option<Object>>, NoMemo
     Ok(objects)
 }
 
-/// Puts one serial in the place of another, where there are such.
+/// Puts one serial in the place of another, where there are such. A list that is to stay isn't touched.
 fn relist(list: &mut Rising, old: Option<Serial>, new: Option<Serial>)
     requires listed { IfSome old (Contains list.old) }
     requires room { length list.old < OBJECT_INDICES + length (option_to_list old) }
     ensures { Relists old new list.old list.new }
 {
+    if old == new {
+        return;
+    }
     if let Some(serial) = old {
         list.remove(serial);
     }

@@ -1,0 +1,45 @@
+//! The operations by name.
+
+use crate::checksum::checksum;
+use crate::{cspace, doorbell, msgqueue, objects, pagetable, partition, rcu};
+use gh_base::NoMemory;
+use std::alloc::Global;
+
+/// The checksum of an operation that is done so many times; none where there is no such operation.
+/// `empty` does nothing.
+pub fn answer(alloc: Global, operation: &str, count: u64) -> Result<Option<u64>, NoMemory> {
+    let sum = match operation {
+        "empty" => checksum(count, |turn| turn),
+        "partition_take" => partition::take(count),
+        "partition_give" => partition::give(count),
+        "objects_insert" => objects::insert(alloc, count)?,
+        "objects_add_ref" => objects::add_ref(alloc, count)?,
+        "objects_doom" => objects::doom(alloc, count)?,
+        "objects_doom_among_many" => objects::doom_among_many(alloc, count)?,
+        "objects_doomed" => objects::doomed(alloc, count)?,
+        "objects_header" => objects::header(alloc, count)?,
+        "objects_set_stage" => objects::set_stage(alloc, count)?,
+        "cspace_insert" => cspace::insert(count),
+        "cspace_get" => cspace::get(count),
+        "cspace_free_slot" => cspace::free_slot(count),
+        "cspace_copy" => cspace::copy(count),
+        "cspace_revoke" => cspace::revoke(count),
+        "doorbell_send" => doorbell::send(count),
+        "doorbell_receive" => doorbell::receive(count),
+        "msgqueue_send_receive" => msgqueue::send_and_receive(alloc, count)?,
+        "msgqueue_first" => msgqueue::first(alloc, count)?,
+        "rcu_note" => rcu::note(count),
+        "rcu_passed" => rcu::passed(count),
+        "pagetable_set_one" => pagetable::set_one(alloc, count)?,
+        "pagetable_clear_one" => pagetable::clear_one(alloc, count)?,
+        "pagetable_split_and_join" => pagetable::split_and_join(alloc, count)?,
+        "pagetable_set_all" => pagetable::set_all(alloc, count)?,
+        "pagetable_clear_all" => pagetable::clear_all(alloc, count)?,
+        "pagetable_set_most" => pagetable::set_most(alloc, count)?,
+        "pagetable_clear_most" => pagetable::clear_most(alloc, count)?,
+        "pagetable_get" => pagetable::get(alloc, count)?,
+        "pagetable_tables" => pagetable::tables(alloc, count)?,
+        _ => return Ok(None),
+    };
+    Ok(Some(sum))
+}
