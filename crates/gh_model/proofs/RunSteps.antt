@@ -28,7 +28,7 @@ use Rattle.gh_model.specs.Program.{next_frame, is_exit, frames_from, start}
 use Rattle.gh_model.specs.Calls.{Called, after_called, after_mark, after_call_reply, stays}
 use Rattle.gh_model.proofs.ActLemmas.{Keeps}
 use Rattle.gh_model.proofs.RunLists.{snoc_cases, in_turn_snoc, count_snoc, last_or_snoc, position_after, position_snoc, frames_snoc, more_frames, after_more, position_of, moves}
-use Rattle.gh_model.proofs.RunLaw.{Caller, made_of, event_by, events_of, called_of, IsFront, front_length, front_state, front_item, front_behind, take_all, NoEntry, OneEntry, Here, Good, good_call}
+use Rattle.gh_model.proofs.RunLaw.{Caller, made_of, event_by, events_of, called_of, IsFront, front_length, front_state, front_item, take_all, NoEntry, OneEntry, Here, Good}
 
 -- a slot that no entry set
 pub unset_by : (named : Bool) (s : State) (cspace slot : ℕ) → s.set_at ≡ [] → (if◌then◌else◌ {A = Word} named (record { row = find (fills cspace slot) s.caps; set_at = setting s cspace slot }) (record { row = None; set_at = 0 })).set_at ≡ 0

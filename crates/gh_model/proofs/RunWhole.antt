@@ -1,5 +1,5 @@
 -- A whole run: every CPU ends, and the run is legal, graced and by the programs.
-use Rattle.std.proofs.Common.{◌≡◌, ◌≢◌, ◌==◌, ◌+◌, ◌-◌, ◌<◌, ◌≤◌, ◌∙◌, ℕ, zero, suc, Bool, true, false, List, [], ◌∷◌, ◌++◌, ◌⊎◌, inl, inr, length, drop, refl, subst, sym, ap, arith, Option, Some, None, Result, Ok, Err, slice_get, map, fold, find, IsTrue, IsSome, if◌then◌else◌, append_assoc, eq-eqb}
+use Rattle.std.proofs.Common.{◌≡◌, ◌≢◌, ◌==◌, ◌+◌, ◌<◌, ◌≤◌, ◌∙◌, ℕ, zero, suc, Bool, true, false, List, [], ◌∷◌, ◌++◌, ◌⊎◌, inl, inr, length, drop, refl, subst, sym, ap, arith, Option, Some, None, Result, Ok, Err, slice_get, map, fold, find, IsTrue, IsSome, if◌then◌else◌, append_assoc, eq-eqb}
 use Rattle.std.specs.Prelude.{slice_set, count_by, nat_lt}
 use Rattle.std.proofs.lemmas.List.{append-nil, map-append, length-set}
 use Rattle.std.proofs.lemmas.List.Elements.{filter-append}
