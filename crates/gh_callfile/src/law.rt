@@ -1,4 +1,4 @@
-//! How call lines are spelled, what the program of a call file makes, and which CPUs a schedule names.
+//! How call lines are spelled, what a call file's program makes, and which CPUs a schedule names.
 
 ghost use Rattle.std.specs.Prelude.{◌≡◌, ℕ, None, Some, is_some};
 ghost use Rattle.gh_model.specs.declared.program.Line.{Line};
@@ -17,7 +17,8 @@ use gh_model::{Boot, Line};
 /// Whatever replies come, the frames that a call file's program makes are those that its lines say.
 /// The function does nothing; its clause is the law.
 pub fn program_makes_its_lines(lines: &[Line], replies: &[Reply])
-    ensures { frames_made vm_answer vm_after (fresh lines.now) None replies.now ≡ program_frames lines.now replies.now }
+    ensures { frames_made vm_answer vm_after (fresh lines.now) None replies.now
+        ≡ program_frames lines.now replies.now }
 {
     let _ = lines;
     let _ = replies;
@@ -31,10 +32,11 @@ pub fn line_read_is_spelled(text: &[u8])
     let _ = text;
 }
 
-/// A line that is well written reads as what its words mean. The function does nothing; its clause is
-/// the law.
+/// A line that is well written reads as what its words mean. The function does nothing; its clause
+/// is the law.
 pub fn line_spelled_is_read(text: &[u8])
-    ensures { (written : Written) → spelled written ≡ text.now → IsWellWritten written → line_of text.now ≡ meant written }
+    ensures { (written : Written) → spelled written ≡ text.now → IsWellWritten written
+        → line_of text.now ≡ meant written }
 {
     let _ = text;
 }
