@@ -1,5 +1,6 @@
 mod CallFileLemmas
 mod CallLineLemmas
+mod CpuLemmas
 mod NumeralLemmas
 mod ProgramLemmas
 mod SpellingLemmas

@@ -83,10 +83,13 @@ fn read_line(
     next: Next,
 ) -> Result<Next, FileErr>
     ensures ok { (rest : List ℕ) → IfOk result (λ after.
-        with_lines lines.old (read_from next.number next.room (text.now ∷ slice_split is_line_feed rest))
-        ≡ with_lines lines.new (read_from after.number after.room (slice_split is_line_feed rest))) }
+        with_lines lines.old
+        (read_from next.number next.room (text.now ∷ slice_split is_line_feed rest))
+        ≡ with_lines lines.new
+        (read_from after.number after.room (slice_split is_line_feed rest))) }
     ensures bad { (rest : List ℕ) → IfErr result (IsErrorOf
-        (with_lines lines.old (read_from next.number next.room (text.now ∷ slice_split is_line_feed rest)))) }
+        (with_lines lines.old
+        (read_from next.number next.room (text.now ∷ slice_split is_line_feed rest)))) }
 {
     let line = good_line(alloc, text, next)?;
     let room = next.room - line.times;
@@ -95,8 +98,8 @@ fn read_line(
     Ok(Next { number, room })
 }
 
-/// Reads a call file that may have calls for this room, repeats counted. `Bad` carries its first line
-/// that is outside the grammar or takes the calls over the room.
+/// Reads a call file that may have calls for this room, repeats counted. `Bad` carries its first
+/// line that is outside the grammar or takes the calls over the room.
 #[tactic(auto, using(crate::proofs::CallFileLemmas::read_last))]
 pub fn read_calls(alloc: Global, text: &[u8], room: u32) -> Result<Vec<Line>, FileErr>
     ensures ok { IfOk result (λ lines. reading text.now room ≡ Good lines.items) }

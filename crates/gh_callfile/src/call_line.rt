@@ -155,7 +155,8 @@ fn line_with_two(
     star: &[u8],
     times: &[u8],
 ) -> Result<Option<Line>, NoMemory>
-    ensures { IfOk result (λ line. line ≡ line_behind x (two_parts colon.now bytes.now star.now times.now)) }
+    ensures { IfOk result (λ line.
+        line ≡ line_behind x (two_parts colon.now bytes.now star.now times.now)) }
 {
     if is_mark(colon, b':') && is_mark(star, b'*') {
         line_with_bytes(alloc, x, bytes, repeat(times))

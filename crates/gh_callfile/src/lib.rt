@@ -10,7 +10,9 @@ mod vm_program;
 
 pub use call_file::read_calls;
 pub use gh_model::{FileErr, Line};
-pub use law::{line_read_is_spelled, line_spelled_is_read, program_makes_its_lines};
+pub use law::{
+    cpus_have_rows, line_read_is_spelled, line_spelled_is_read, program_makes_its_lines,
+};
 pub use schedule::read_schedule;
 pub use vm_program::VmProgram;
 

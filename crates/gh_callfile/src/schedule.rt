@@ -63,7 +63,8 @@ fn read_item(items: &mut Sequence<CpuNo>, cpus: Cpus, byte: u8, number: u32) -> 
     ensures good { IfOk result (λ _. is_item_among cpus.manager cpus.vms byte ≡ true) }
     ensures items { IfOk result (λ _. items.new ≡ items.old ++ cpu_of byte ∷ []) }
     ensures number { IfOk result (λ next. next ≡ number + 1) }
-    ensures bad { IsErrOf result (FileErr.Bad number) → is_item_among cpus.manager cpus.vms byte ≡ false }
+    ensures bad { IsErrOf result (FileErr.Bad number)
+        → is_item_among cpus.manager cpus.vms byte ≡ false }
     ensures err { IfErr result (λ err. (err ≡ FileErr.NoMemory) ⊎ (err ≡ FileErr.Bad number)) }
 {
     if !is_item(cpus, byte) {

@@ -105,7 +105,8 @@ fn asks_again(reply: &Reply) -> bool
 /// The place after the reply to a line.
 fn after_line(lines: &[Line], place: Place, reply: &Reply) -> Place
     requires { place.at ≤ length lines.now }
-    ensures position { position_at lines.now result ≡ after_line_reply (drop place.at lines.now) place.tries reply.now }
+    ensures position { position_at lines.now result
+        ≡ after_line_reply (drop place.at lines.now) place.tries reply.now }
     ensures within { result.at ≤ length lines.now }
 {
     match lines.get(place.at) {
@@ -135,7 +136,8 @@ fn after_line(lines: &[Line], place: Place, reply: &Reply) -> Place
 /// Where the program stands once the reply to its last call has come.
 fn place_now(lines: &[Line], place: Place, made: u32, last: Option<&Reply>) -> Place
     requires { place.at ≤ length lines.now }
-    ensures position { position_at lines.now result ≡ position_now (progress_at made lines.now place) (told last.entry) }
+    ensures position { position_at lines.now result
+        ≡ position_now (progress_at made lines.now place) (told last.entry) }
     ensures within { result.at ≤ length lines.now }
     ensures unasked { is_some last.entry ≡ false → result ≡ place }
 {

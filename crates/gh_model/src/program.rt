@@ -38,8 +38,9 @@ pub trait Program {
     /// It has made a call, and goes on by the reply to it.
     ghost wants_reply: { Self → Bool };
 
-    /// What the program does next. `last` is the reply to its last call, and none at the first call
-    /// and after an answer `Idle`. So `Idle` is answered only to a reply, and a call comes after it.
+    /// What the program does next. `last` is the reply to its last call, and none at the first
+    /// call and after an answer `Idle`. So `Idle` is answered only to a reply, and a call comes
+    /// after it.
     fn next(&mut self, alloc: Global, last: Option<&Reply>) -> Result<Step, NoMemory>
         requires { is_some last ≡ wants_reply self.old }
         ensures answer { IfOk result (λ step. step ≡ answer self.old (told last.entry)) }
