@@ -1,7 +1,7 @@
 -- The two laws on whole files: what is read is the file's text, and the text of a boot file is read.
-use Rattle.std.proofs.Common.{◌≡◌, ℕ, zero, suc, ◌+◌, ◌^◌, ◌<◌, ◌≤◌, Bool, true, false, ◌&&◌, cond, eqb, leb, List, [], ◌∷◌, ◌++◌, length, map, Option, Some, None, Result, Ok, Err, refl, sym, ap, subst, ◌∙◌, append_assoc, length-append, arith}
+use Rattle.std.proofs.Common.{◌≡◌, ℕ, ◌+◌, Bool, true, false, ◌&&◌, cond, eqb, leb, List, [], ◌∷◌, ◌++◌, length, map, Option, Some, None, Result, Ok, Err, refl, sym, ap, subst, ◌∙◌, append_assoc, length-append}
 use Rattle.std.specs.Prelude.{IfOk}
-use Rattle.std.specs.List.{flat_map, fold, join_with_byte, list_all, slice_split, onto_first}
+use Rattle.std.specs.List.{flat_map, fold, join_with_byte, list_all, onto_first}
 use Rattle.std.specs.Str.{bytes_eq}
 use Rattle.std.proofs.lemmas.Bool.{and_parts, and_from, eqb-true}
 use Rattle.std.proofs.lemmas.List.{append-nil, nil_from_length}
@@ -14,11 +14,11 @@ use Rattle.gh_model.specs.declared.file_err.FileErr.{FileErr}
 use Rattle.gh_model.specs.declared.file_err.FileErr.TheVariants as errors
 use Rattle.gh_model.specs.declared.state.State.{State}
 use Rattle.gh_model.specs.Boot.{after_line, boot_fits, boot_state, empty_state, is_complete, line_fits, lines_fit}
-use Rattle.gh_bootfile.specs.BootFile.{Answers, Fails, and_then, at_end, boot_of, file_of, lines_on, next_number, told, with_line}
+use Rattle.gh_bootfile.specs.BootFile.{Answers, Fails, and_then, at_end, boot_of, file_of, lines_on, next_number, with_line}
 use Rattle.gh_bootfile.specs.Draft.{next_fits, is_whole}
 use Rattle.gh_bootfile.specs.Grammar.{boot_text, ended_line, fields_hold, format_line, line_text}
 use Rattle.gh_bootfile.specs.Reading.{is_byte_of, pieces_at, line_of}
-use Rattle.gh_bootfile.proofs.FreeBytes.{is_free, free_all}
+use Rattle.gh_bootfile.proofs.FreeBytes.{free_all}
 use Rattle.gh_bootfile.proofs.LineLaw.{line_read, line_again, line_free}
 
 -- ---- one line after the other, as the reader goes

@@ -9,10 +9,9 @@ use Rattle.gh_model.specs.declared.boot_line.BootLine.{BootLine}
 use Rattle.gh_model.specs.declared.program.Line.{Line}
 use Rattle.gh_model.specs.Boot.{boot_fits}
 use Rattle.gh_model.proofs.RunWhole.{run_is_run}
-use Rattle.gunyah.specs.Input.{and_then, sizes_on, refused_at, without_manager, boot_result, boot_input, schedule_input, vm_lines, calls_on, input_with, input_of, step_input}
+use Rattle.gunyah.specs.Input.{and_then, sizes_on, refused_at, boot_result, boot_input, schedule_input, vm_lines, calls_on, input_with, input_of}
 use Rattle.gunyah.specs.Outcome.{texts_under}
 use Rattle.gunyah.specs.Step.{InputRuns, StepRuns}
-use Rattle.gunyah.specs.declared.input.StepInput.{StepInput}
 use Rattle.gunyah.specs.declared.read_err.BadFile.{BadFile}
 
 -- what holds of whatever a second reading gives holds of both

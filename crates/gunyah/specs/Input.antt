@@ -1,5 +1,5 @@
 -- What the files of a step read as: a boot file and the calls of its VMs, or the first fault.
-use Rattle.std.specs.Prelude.{◌≡◌, ◌+◌, ◌-◌, ⊤, ℕ, Bool, true, false, List, [], ◌∷◌, ◌++◌, length, map, count_by, nat_le, nat_lt, Option, Some, None, Result, Ok, Err, if◌then◌else◌}
+use Rattle.std.specs.Prelude.{◌≡◌, ◌+◌, ◌-◌, ⊤, ℕ, Bool, List, [], ◌∷◌, ◌++◌, length, count_by, nat_le, nat_lt, Option, Some, None, Result, Ok, Err, if◌then◌else◌}
 use Rattle.std.specs.List.{position}
 use Rattle.gh_base.specs.declared.ids.CpuNo.{CpuNo}
 use Rattle.gh_bootfile.specs.BootFile.{boot_of, told, told_number}

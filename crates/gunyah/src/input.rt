@@ -35,7 +35,9 @@ fn manager_line(lines: &[BootLine]) -> Option<usize>
     ensures place { result ≡ position makes_manager lines.now }
     ensures within { IfSome result (λ at. at < length lines.now) }
 {
-    lines.iter().position(|line| matches!(line, BootLine::Rm { .. }))
+    lines
+        .iter()
+        .position(|line| matches!(line, BootLine::Rm { .. }))
 }
 
 /// By now a boot file has no resource manager.
@@ -83,7 +85,10 @@ fn schedule(alloc: Global, text: &[u8], boot: &Boot) -> Result<Sequence<CpuNo>, 
 fn vms(lines: &[BootLine]) -> usize
     ensures { result ≡ vm_lines lines.now }
 {
-    lines.iter().filter(|line| matches!(line, BootLine::Vm { .. })).count()
+    lines
+        .iter()
+        .filter(|line| matches!(line, BootLine::Vm { .. }))
+        .count()
 }
 
 /// The calls of lines, repeats counted.

@@ -178,7 +178,10 @@ fn a_call_file_needs_a_vm(rt: HostRuntime) -> Result<(), Fail> {
     let mut files = SureFiles::new(entries(alloc, boot(), "", "")?);
     let mut out = SureSink::new(alloc);
     let words = ["step", "boot", "schedule", "vm1", "vm2"];
-    assert_eq!(rt; status_of(&rt, alloc, &words, &mut files, &mut out)?, Status::BadCalls(4, 0));
+    assert_eq!(rt;
+        status_of(&rt, alloc, &words, &mut files, &mut out)?,
+        Status::BadCalls(4, 0)
+    );
     assert!(rt; out.bytes().is_empty());
     Ok(())
 }
@@ -187,11 +190,17 @@ fn a_call_file_needs_a_vm(rt: HostRuntime) -> Result<(), Fail> {
 fn a_large_file_is_told(rt: HostRuntime) -> Result<(), Fail> {
     let alloc = rt.alloc();
     let mut entries = entries(alloc, boot(), "", "")?;
-    entries.push((String::from_str(alloc, "large")?, vec![in alloc; b'0'; 8_388_609]?))?;
+    entries.push((
+        String::from_str(alloc, "large")?,
+        vec![in alloc; b'0'; 8_388_609]?,
+    ))?;
     let mut files = SureFiles::new(entries);
     let mut out = SureSink::new(alloc);
     let words = ["step", "boot", "schedule", "large"];
-    assert_eq!(rt; status_of(&rt, alloc, &words, &mut files, &mut out)?, Status::TooLarge(3));
+    assert_eq!(rt;
+        status_of(&rt, alloc, &words, &mut files, &mut out)?,
+        Status::TooLarge(3)
+    );
     assert!(rt; out.bytes().is_empty());
     Ok(())
 }
@@ -269,8 +278,13 @@ fn eight_vms_take_turns(rt: HostRuntime) -> Result<(), Fail> {
     let alloc = rt.alloc();
     let mut files = SureFiles::new(entries_of_eight(alloc)?);
     let mut out = SureSink::new(alloc);
-    let words = ["step", "boot", "schedule", "1", "2", "3", "4", "5", "6", "7", "8"];
-    assert_eq!(rt; status_of(&rt, alloc, &words, &mut files, &mut out)?, Status::Done);
+    let words = [
+        "step", "boot", "schedule", "1", "2", "3", "4", "5", "6", "7", "8",
+    ];
+    assert_eq!(rt;
+        status_of(&rt, alloc, &words, &mut files, &mut out)?,
+        Status::Done
+    );
     assert!(rt; out.bytes() == text_of_eight().as_bytes());
     Ok(())
 }

@@ -1,9 +1,8 @@
-use Rattle.std.proofs.Common.{◌≡◌, Err, true, false, [], ap, subst, sym, ◌∙◌}
+use Rattle.std.proofs.Common.{◌≡◌, true, false, ap, subst, sym, ◌∙◌}
 use Rattle.std.specs.Str.{bytes_eq}
 use Rattle.std.proofs.lemmas.Bool.{cond-true, cond-false}
-use Rattle.gh_bootfile.specs.BootFile.{Answers, lines_on, boot_of, told}
+use Rattle.gh_bootfile.specs.BootFile.{Answers, told}
 use Rattle.gh_bootfile.specs.Grammar.{format_line}
-use Rattle.gh_bootfile.specs.Reading.{pieces_at}
 use Rattle.gh_bootfile.proofs.FileLaw.{file_step, file_end}
 use Rattle.gh_bootfile.proofs.read.read.Goals as goal
 

@@ -1,4 +1,4 @@
-use Rattle.std.proofs.Common.{◌≡◌, ◌+◌, Ok, [], length, arith, ap, subst, sym, ◌∙◌}
+use Rattle.std.proofs.Common.{◌≡◌, ◌+◌, [], length, arith, ap, subst, sym, ◌∙◌}
 use Rattle.std.proofs.lemmas.Result.{err_from_is_err_and}
 use Rattle.gh_bootfile.specs.BootFile.{Answers, Fails, and_then, at_end, lines_on, with_line}
 use Rattle.gh_bootfile.specs.Reading.{line_of, pieces_at}

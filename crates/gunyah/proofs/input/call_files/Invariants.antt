@@ -1,4 +1,4 @@
-use Rattle.std.proofs.Common.{◌≡◌, ◌≤◌, [], length, drop}
+use Rattle.std.proofs.Common.{◌≡◌, [], length, drop}
 use Rattle.gunyah.specs.Input.{calls_on}
 use Rattle.gunyah.proofs.input.call_files.Given as goal
 

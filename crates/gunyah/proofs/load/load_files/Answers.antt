@@ -1,5 +1,4 @@
 use Rattle.gunyah.proofs.OutcomeLemmas.{asked_with}
-use Rattle.gunyah.proofs.StepLemmas.{stops_there, goes_on}
 use Rattle.gunyah.proofs.load.load_files.Goals as goal
 
 pub returns-in_err-text-clause-asked : goal.returns-in_err-text-clause-asked
