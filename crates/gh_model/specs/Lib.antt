@@ -8,6 +8,7 @@ pub mod Legal
 pub mod Marks
 pub mod Program
 pub mod Programs
+pub mod Reads
 pub mod References
 pub mod Registers
 pub mod Rows

@@ -11,6 +11,7 @@ mod law;
 mod lookup;
 mod plain;
 mod program;
+mod reads;
 mod references;
 mod rows;
 mod running;
