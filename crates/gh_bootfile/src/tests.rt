@@ -189,8 +189,11 @@ fn misfit_tables() -> [&'static str; 18] {
 }
 
 /// Several lines behind the twelve, and the number of the first that is bad.
-fn misfit_runs() -> [(&'static str, u32); 15] {
+fn misfit_runs() -> [(&'static str, u32); 18] {
     [
+        ("partition 3\ncspace 9", 14),
+        ("partition 3\naddrspace 9", 14),
+        ("partition 1\nextent 9 4 4 2 7 0 0", 14),
         ("msgqueue 1 64 1024\nmsgqueue 1 64 1024", 14),
         ("extent 1 4 4 2 4 0 2\nextent 1 9 0 1 6 0 0", 14),
         ("extent 1 4 4 2 4 0 2\nmap 3 9 0 0 1 6", 14),
@@ -244,7 +247,7 @@ fn misfit_links() -> [(&'static str, u32); 14] {
 }
 
 /// Whole texts, and the number of the first bad line.
-fn whole_texts() -> [(&'static str, u32); 12] {
+fn whole_texts() -> [(&'static str, u32); 14] {
     [
         ("", 1),
         ("\n", 1),
@@ -255,6 +258,11 @@ fn whole_texts() -> [(&'static str, u32); 12] {
         ("gunyah 1\npages 1025\n", 2),
         ("gunyah 1\npartition 40\n", 2),
         ("gunyah 1\npages 8\n", 3),
+        ("gunyah 1\npages 8\npartition 1\nrootextent 1\n", 4),
+        (
+            "gunyah 1\npages 8\npartition 40\ncspace 1\nrootextent 2\n",
+            5,
+        ),
         ("gunyah 1\npages 8\npartition 40\nrootextent 1\n", 5),
         (
             "gunyah 1\npages 8\npartition 40\ncspace 1\naddrspace 1\nvm 2 3\n",
