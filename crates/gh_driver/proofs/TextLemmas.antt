@@ -1,8 +1,13 @@
 -- Pages one after the other, and the runs that they make.
-use Rattle.std.proofs.Common.{◌≡◌, ◌+◌, ◌-◌, ◌<◌, ◌≤◌, ◌++◌, ◌∙◌, ℕ, Bool, true, false, suc, List, [], ◌∷◌, Option, Some, None, refl, sym, ap, arith, append_assoc, if◌then◌else◌}
+use Rattle.std.proofs.Common.{◌≡◌, ◌+◌, ◌-◌, ◌<◌, ◌≤◌, ◌++◌, ◌∙◌, ℕ, Bool, true, false, suc, List, [], ◌∷◌, Option, Some, None, refl, sym, ap, arith, append_assoc, find, if◌then◌else◌}
+use Rattle.std.specs.Prelude.{◌&&◌, ◌||◌, filter}
+use Rattle.std.specs.List.{list_any}
+use Rattle.gh_driver.specs.Mapped.{maps_page}
+use Rattle.gh_model.specs.declared.rows.MappingRow.{MappingRow}
+use Rattle.gh_model.specs.Boot.{is_row_of}
 use Rattle.gh_model.specs.declared.access.PageRun.{PageRun}
 use Rattle.gh_model.specs.declared.state.State.{State}
-use Rattle.gh_model.specs.Access.{access_at}
+use Rattle.gh_model.specs.Access.{access_at, covers}
 use Rattle.gh_model.specs.Text.{pages_from, runs_from, ended_run, open_run, goes_on, goes_on_with, longer, new_run}
 
 pub pages_none : (page : ℕ) → pages_from page 0 ≡ []
@@ -47,3 +52,19 @@ page_step s space run page count found goes next old out all within is_found is_
 pub page_end : (s : State) (space : ℕ) (run : PageRun) (page count : ℕ) (old out all : List ℕ) → count ≤ page → out ≡ old ++ ended_run space run false → old ++ runs_from s space run (pages_from page (count - page)) ≡ all → out ≡ all
 page_end s space run page count old out all past put rest =
     put ∙ ap (λ (text : List ℕ). old ++ text) (sym (runs_none s space run page count past)) ∙ rest
+
+-- no row maps the page where none of the space's own does
+unmapped_by : (own maps any : Bool) (row : MappingRow) (found : Option MappingRow) → (if own then (maps || any) else any) ≡ false → (any ≡ false → found ≡ None) → (if (own && maps) then Some row else found) ≡ None
+unmapped_by true true any row found none others = absurd (let never : ⊥ = cc in never)
+unmapped_by true false any row found none others = others none
+unmapped_by false maps any row found none others = others none
+
+any_own : (own : Bool) (p : MappingRow → Bool) (row : MappingRow) (rows : List MappingRow) → list_any p (if own then row ∷ rows else rows) ≡ (if own then (p row || list_any p rows) else list_any p rows)
+any_own true p row rows = refl
+any_own false p row rows = refl
+
+pub unmapped : (space page : ℕ) (rows : List MappingRow) → list_any (maps_page page) (filter (is_row_of space) rows) ≡ false → find (covers space page) rows ≡ None
+unmapped space page [] none = refl
+unmapped space page (row ∷ rows) none =
+    unmapped_by (is_row_of space row) (maps_page page row) (list_any (maps_page page) (filter (is_row_of space) rows)) row (find (covers space page) rows)
+    (sym (any_own (is_row_of space row) (maps_page page) row (filter (is_row_of space) rows)) ∙ none) (λ others. unmapped space page rows others)

@@ -1,12 +1,15 @@
 //! The history text.
 
 ghost use Rattle.std.specs.Prelude.{◌≡◌, ◌+◌, ◌<◌, ◌^◌, ◌++◌, ℕ, OnOk, IfOk, string_bytes, filter};
-ghost use Rattle.std.specs.List.{flat_map, enumerate_from};
+ghost use Rattle.std.specs.List.{flat_map, enumerate_from, list_any};
+ghost use Rattle.gh_driver.specs.Mapped.{maps_page};
+ghost use Rattle.gh_model.specs.Access.{access_at};
+ghost use Rattle.gh_model.specs.Boot.{is_row_of};
 ghost use Rattle.gh_model.specs.Text.{spaced, spaced_register, byte_text, entry_words, entry_line, look_words, held_words, end_words, bytes_words, reply_words, call_head, call_line, cpu_lines, units_line, run_line, ended_run, open_run, goes_on_with, runs_from, space_lines, entries_part, calls_part, state_part, is_partition_row, is_space_row, no_run, pages_from, history_text as text_of};
 
 use crate::run::{Finished, cpus};
 use gh_base::{CpuNo, End, Held, Kind, Look, Mark, NoMemory, Reply, Serial};
-use gh_model::{CpuRow, Entry, ObjectRow, PageRun, State};
+use gh_model::{CpuRow, Entry, MappingRow, ObjectRow, PageRun, State};
 use std::alloc::Global;
 
 /// The pages of an address space.
@@ -351,25 +354,80 @@ fn after_page(run: PageRun, page: u16, found: Option<(u128, u8)>) -> PageRun
     }
 }
 
-/// The longest runs of pages of an address space.
-fn put_space(out: &mut String, state: &State, space: Serial) -> Result<(), NoMemory>
+/// The mapping rows of an address space.
+fn rows_of(alloc: Global, rows: &[MappingRow], space: Serial) -> Result<Vec<MappingRow>, NoMemory>
+    ensures { IfOk result (λ own. own.items ≡ filter (is_row_of space.0) rows.now) }
+{
+    let own = rows.iter().copied().filter(|row| row.space == space);
+    Ok(own.collect(alloc)?)
+}
+
+/// Whether the row maps the page.
+fn maps_page(row: &MappingRow, page: u16) -> bool
+    ensures { result ≡ maps_page page row.now }
+{
+    let end = row.base as u128 + row.count as u128;
+    row.base <= page as u64 && end > page as u128
+}
+
+fn any_maps(rows: &[MappingRow], page: u16) -> bool
+    ensures { result ≡ list_any (maps_page page) rows.now }
+{
+    rows.iter().any(|row| maps_page(row, page))
+}
+
+/// The access at a page of an address space with these rows of its own. Those of other spaces are
+/// walked only where it is mapped.
+#[tactic(auto, using(crate::proofs::TextLemmas::unmapped))]
+fn access(state: &State, own: &[MappingRow], space: Serial, page: u16) -> Option<(u128, u8)>
+    requires { own.now ≡ filter (is_row_of space.0) state.now.mappings }
+    ensures { result ≡ access_at state.now space.0 page }
+{
+    if any_maps(own, page) {
+        state.access(space, page)
+    } else {
+        None
+    }
+}
+
+/// The longest runs of pages of an address space with these rows of its own.
+fn put_pages(
+    out: &mut String,
+    state: &State,
+    own: &[MappingRow],
+    space: Serial,
+) -> Result<(), NoMemory>
+    requires { own.now ≡ filter (is_row_of space.0) state.now.mappings }
     ensures { OnOk result (string_bytes out.new ≡ string_bytes out.old ++ runs_from state.now space.0 no_run (pages_from 0 4096)) }
 {
     let mut run = PageRun::NONE;
     for page in 0..PAGES {
-        let found = state.access(space, page);
+        let found = access(state, own, space, page);
         put_ended(out, space, &run, continues(&run, found))?;
         run = after_page(run, page, found);
     }
     put_ended(out, space, &run, false)
 }
 
-fn put_spaces(out: &mut String, state: &State, rows: &[ObjectRow]) -> Result<(), NoMemory>
+/// The longest runs of pages of an address space.
+fn put_space(alloc: Global, out: &mut String, state: &State, space: Serial) -> Result<(), NoMemory>
+    ensures { OnOk result (string_bytes out.new ≡ string_bytes out.old ++ runs_from state.now space.0 no_run (pages_from 0 4096)) }
+{
+    let own = rows_of(alloc, state.mappings.as_slice(), space)?;
+    put_pages(out, state, own.as_slice(), space)
+}
+
+fn put_spaces(
+    alloc: Global,
+    out: &mut String,
+    state: &State,
+    rows: &[ObjectRow],
+) -> Result<(), NoMemory>
     ensures { OnOk result (string_bytes out.new ≡ string_bytes out.old ++ flat_map (space_lines state.now) (filter is_space_row rows.now)) }
 {
     for row in rows {
         if row.kind == Kind::Space {
-            put_space(out, state, row.serial)?;
+            put_space(alloc, out, state, row.serial)?;
         }
     }
     Ok(())
@@ -394,12 +452,12 @@ fn put_calls(alloc: Global, out: &mut String, marks: &[Mark], state: &State) -> 
     put_cpus(out, marks, rows.as_slice())
 }
 
-fn put_state(out: &mut String, state: &State) -> Result<(), NoMemory>
+fn put_state(alloc: Global, out: &mut String, state: &State) -> Result<(), NoMemory>
     ensures { OnOk result (string_bytes out.new ≡ string_bytes out.old ++ state_part state.now) }
 {
     out.push_str("state\n")?;
     put_partitions(out, state, state.objects.as_slice())?;
-    put_spaces(out, state, state.objects.as_slice())?;
+    put_spaces(alloc, out, state, state.objects.as_slice())?;
     out.push_str("end\n")?;
     Ok(())
 }
@@ -411,6 +469,6 @@ pub fn history_text(alloc: Global, done: &Finished) -> Result<String, NoMemory>
     let mut out = String::new(alloc);
     put_history(&mut out, done.history.as_slice())?;
     put_calls(alloc, &mut out, done.marks.as_slice(), done.state.state())?;
-    put_state(&mut out, done.state.state())?;
+    put_state(alloc, &mut out, done.state.state())?;
     Ok(out)
 }

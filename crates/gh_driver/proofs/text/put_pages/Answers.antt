@@ -1,7 +1,7 @@
 -- A page's step, and the run that the last page leaves.
 use Rattle.std.proofs.lemmas.Result.{on_ok_weaker}
 use Rattle.gh_driver.proofs.TextLemmas.{open_run-count, page_step, page_end}
-use Rattle.gh_driver.proofs.text.put_space.Goals as goal
+use Rattle.gh_driver.proofs.text.put_pages.Goals as goal
 
 pub loop-page-preserved : goal.loop-page-preserved
 loop-page-preserved c = record {

@@ -1,7 +1,7 @@
 -- What is written so far and what the rest writes make the whole.
 use Rattle.std.proofs.Common.{◌≡◌, ◌-◌, ◌≤◌, ◌++◌, string_bytes}
 use Rattle.gh_model.specs.Text.{runs_from, no_run, pages_from}
-use Rattle.gh_driver.proofs.text.put_space.Given as goal
+use Rattle.gh_driver.proofs.text.put_pages.Given as goal
 
 abbrev pub invariant-loop-page : goal.invariant-loop-page
 invariant-loop-page l = record {
