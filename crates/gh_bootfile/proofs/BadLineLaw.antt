@@ -1,14 +1,16 @@
 -- The law on the first bad line: what the reader tells is what a bad line is.
-use Rattle.std.proofs.Common.{◌≡◌, ℕ, zero, suc, ◌<◌, Bool, true, false, ◌&&◌, cond, eqb, List, [], ◌∷◌, ◌++◌, length, Option, Some, None, Result, Ok, Err, refl, sym, ap, subst, ◌∙◌, inl, inr, append_assoc, length-append, arith}
-use Rattle.std.specs.List.{flat_map}
+use Rattle.std.proofs.Common.{◌≡◌, ◌≢◌, ne_eqb, ℕ, zero, suc, ◌<◌, Bool, true, false, ◌&&◌, cond, eqb, List, [], ◌∷◌, ◌++◌, length, Option, Some, None, Result, Ok, Err, refl, sym, ap, subst, ◌∙◌, inl, inr, append_assoc, length-append, arith}
+use Rattle.std.specs.List.{flat_map, list_all}
 use Rattle.std.specs.Str.{bytes_eq}
-use Rattle.std.proofs.lemmas.Bool.{and_from, both_ways, eqb-true}
+use Rattle.std.proofs.lemmas.Bool.{and_from, and_parts, both_ways, eqb-true}
 use Rattle.std.proofs.lemmas.List.{append-nil}
 use Rattle.std.proofs.lemmas.List.Splits.{slice_split_at}
 use Rattle.std.proofs.lemmas.Slice.Eq.{bytes_eq-Decides}
 use Rattle.gh_model.specs.declared.boot_line.BootLine.{BootLine}
-use Rattle.gh_bootfile.specs.BadLine.{fit_in_turn, IsBadBehind, IsBadAt, IsFirstBad}
-use Rattle.gh_bootfile.specs.BootFile.{and_then, at_end, boot_of, lines_on, next_number, with_line}
+use Rattle.gh_bootfile.specs.BadLine.{fit_in_turn, IsBadBehind, IsBadAt, HasNoFormat, IsFirstBad, TellsFirstBad}
+use Rattle.gh_model.specs.declared.file_err.FileErr.{FileErr}
+use Rattle.gh_model.specs.declared.file_err.FileErr.TheVariants as errors
+use Rattle.gh_bootfile.specs.BootFile.{Answers, and_then, at_end, boot_of, lines_on, next_number, told, with_line}
 use Rattle.gh_bootfile.specs.Draft.{next_fits, is_whole}
 use Rattle.gh_bootfile.specs.Grammar.{ended_line, fields_hold, format_line, line_text}
 use Rattle.gh_bootfile.specs.Reading.{is_byte_of, pieces_at, line_of}
@@ -71,6 +73,7 @@ bad_here before text line after n cut_is failed =
       lines = [];
       rest = text;
       text_is = refl;
+      hold = refl;
       fit = fit_none before;
       bad = subst (λ (ls : List BootLine). IsBadBehind ls text) (sym (append-nil before)) (record {
         no_line = λ other behind holds is.
@@ -95,6 +98,7 @@ bad_at_end before text n whole failed =
       lines = [];
       rest = text;
       text_is = refl;
+      hold = refl;
       fit = fit_none before;
       bad = subst (λ (ls : List BootLine). IsBadBehind ls text) (sym (append-nil before)) (record {
         no_line = λ other behind holds is.
@@ -127,6 +131,7 @@ bad_behind before more text line after n text_is made rest =
       text_is = text_is ∙ ap (λ (t : List ℕ). t ++ (10 ∷ after)) is.text_is ∙ ap (λ (t : List ℕ). line_text first ++ (10 ∷ t)) rest.text_is
           ∙ sym (append_assoc (line_text first) (10 ∷ []) (flat_map ended_line rest.lines ++ rest.rest))
           ∙ sym (append_assoc (ended_line first) (flat_map ended_line rest.lines) rest.rest);
+      hold = and_from (fields_hold first) (list_all fields_hold rest.lines) is.fields rest.hold;
       fit = fit_more before rest.lines first fits (subst (λ (ls : List BootLine). fit_in_turn ls rest.lines ≡ true) found.2 rest.fit);
       bad = subst (λ (ls : List BootLine). IsBadBehind ls rest.rest) longer rest.bad;
       number_is = rest.number_is ∙ ap next_number longer;
@@ -186,3 +191,90 @@ file_bad text n (At line after e text_is) failed = begun text line after n e tex
 -- a bad line that is told is the first
 pub first_bad : (text : List ℕ) (n : ℕ) → boot_of text ≡ Err n → IsFirstBad text n
 first_bad text n failed = file_bad text n (cut text) failed
+
+-- ---- the other direction: what is the first bad line is what the reader tells
+
+-- the lines that fit are read one by one
+past_lines : (lines before : List BootLine) (rest : List ℕ) → list_all fields_hold lines ≡ true → fit_in_turn before lines ≡ true
+    → lines_on before (pieces_at 10 (flat_map ended_line lines ++ rest)) ≡ lines_on (before ++ lines) (pieces_at 10 rest)
+unfolding fit_in_turn with_line
+past_lines [] before rest hold fit = ap (λ (ls : List BootLine). lines_on ls (pieces_at 10 rest)) (sym (append-nil before))
+past_lines (line ∷ lines) before rest hold fit =
+    let holds = and_parts (fields_hold line) (list_all fields_hold lines) hold in
+    let fits = and_parts (next_fits before line) (fit_in_turn (before ++ line ∷ []) lines) fit in
+    let behind = flat_map ended_line lines ++ rest in
+    let cut_is : pieces_at 10 (flat_map ended_line (line ∷ lines) ++ rest) ≡ line_text line ∷ pieces_at 10 behind =
+    ap (pieces_at 10) (append_assoc (ended_line line) (flat_map ended_line lines) rest) ∙ first_line line behind holds.0 in
+    let read : with_line before (line_of (line_text line)) ≡ Ok (before ++ line ∷ []) =
+    ap (with_line before) (line_again line holds.0) ∙ ap (λ (b : Bool). cond b (Ok (before ++ line ∷ [])) (Err (next_number before))) fits.0 in
+    lines_step before (flat_map ended_line (line ∷ lines) ++ rest) (line_text line) behind cut_is
+    ∙ ap (λ (r : Result (List BootLine) ℕ). and_then r (λ more. lines_on more (pieces_at 10 behind))) read
+    ∙ past_lines lines (before ++ line ∷ []) rest holds.1 fits.1
+    ∙ ap (λ (ls : List BootLine). lines_on ls (pieces_at 10 rest)) (append_assoc before (line ∷ []) lines)
+
+-- a line at the front that is none, or doesn't fit
+refused_line : (before : List BootLine) (text after : List ℕ) → IsBadBehind before (text ++ (10 ∷ after))
+    → (read : Option BootLine) → line_of text ≡ read → with_line before read ≡ Err (next_number before)
+unfolding with_line
+refused_line before text after bad None is = refl
+refused_line before text after bad (Some line) is =
+    let said = line_read text line is in
+    let whole : text ++ (10 ∷ after) ≡ ended_line line ++ after =
+    ap (λ (t : List ℕ). t ++ (10 ∷ after)) said.text_is ∙ sym (append_assoc (line_text line) (10 ∷ []) after) in
+    ap (λ (b : Bool). cond b (Ok (before ++ line ∷ [])) (Err (next_number before))) (bad.no_line line after said.fields whole)
+
+-- an end that isn't whole, or has something left
+refused_end : (before : List BootLine) (rest : List ℕ) → IsBadBehind before rest → at_end before rest ≡ Err (next_number before)
+unfolding at_end
+refused_end before [] bad = ap (λ (b : Bool). cond b (Ok before) (Err (next_number before))) (bad.no_end refl)
+refused_end before (x ∷ xs) bad =
+    let some : length (x ∷ xs) ≢ 0 = λ none. omega (arith, none) in
+    ap (λ (b : Bool). cond (b && is_whole before) (Ok before) (Err (next_number before))) (ne_eqb (length (x ∷ xs)) 0 some)
+
+refused_rest : (before : List BootLine) (rest : List ℕ) → IsBadBehind before rest → Cut rest → lines_on before (pieces_at 10 rest) ≡ Err (next_number before)
+refused_rest before rest bad (Whole e) = lines_end before rest rest e ∙ refused_end before rest bad
+refused_rest before rest bad (At line after e text_is) =
+    lines_step before rest line after e
+    ∙ ap (λ (r : Result (List BootLine) ℕ). and_then r (λ more. lines_on more (pieces_at 10 after)))
+      (refused_line before line after (subst (λ (t : List ℕ). IsBadBehind before t) text_is bad) (line_of line) refl)
+
+bad_is_told : (text : List ℕ) (n : ℕ) → IsBadAt [] text n → lines_on [] (pieces_at 10 text) ≡ Err n
+bad_is_told text n bad =
+    ap (λ (t : List ℕ). lines_on [] (pieces_at 10 t)) bad.text_is
+    ∙ past_lines bad.lines [] bad.rest bad.hold bad.fit
+    ∙ refused_rest bad.lines bad.rest bad.bad (cut bad.rest)
+    ∙ ap Err (sym bad.number_is)
+
+no_format_told : (text : List ℕ) (n : ℕ) → HasNoFormat text n → Cut text → boot_of text ≡ Err n
+no_format_told text n none (Whole e) = file_end text text e ∙ ap Err (sym none.number_is)
+no_format_told text n none (At line after e text_is) = file_step text line after e ∙ other (bytes_eq line format_line) refl
+  where
+    other : (format : Bool) → bytes_eq line format_line ≡ format → cond format (lines_on [] (pieces_at 10 after)) (Err 1) ≡ Err n
+    other true is = absurd (none.no_format after (text_is ∙ ap (λ (t : List ℕ). t ++ (10 ∷ after)) ((bytes_eq-Decides line format_line).0 is)))
+    other false is = ap Err (sym none.number_is)
+
+-- the first bad line is told
+pub first_bad_told : (text : List ℕ) (n : ℕ) → IsFirstBad text n → boot_of text ≡ Err n
+first_bad_told text n (inl none) = no_format_told text n none (cut text)
+first_bad_told text n (inr has) =
+    let begins : pieces_at 10 text ≡ format_line ∷ pieces_at 10 has.lines_text = ap (pieces_at 10) has.text_is ∙ format_first has.lines_text in
+    file_step text format_line has.lines_text begins
+    ∙ ap (λ (b : Bool). cond b (lines_on [] (pieces_at 10 has.lines_text)) (Err 1)) ((bytes_eq-Decides format_line format_line).1 refl)
+    ∙ bad_is_told has.lines_text n has.bad
+
+-- there is only one
+pub first_bad_unique : (text : List ℕ) (n m : ℕ) → IsFirstBad text n → IsFirstBad text m → n ≡ m
+first_bad_unique text n m first second = same_error n m (boot_of text) (first_bad_told text m second) (first_bad_told text n first)
+
+-- what is told, as a reader tells it
+told_first : (text : List ℕ) (line : ℕ) → (read : Result (List BootLine) ℕ) → boot_of text ≡ read → told read ≡ Err line → TellsFirstBad text line
+told_first text line (Ok lines) is failed = absurd cc
+told_first text line (Err number) is failed = record { number = number; first = first_bad text number is; told_is = cc }
+
+pub tells_first : (text : List ℕ) (line : ℕ) → told (boot_of text) ≡ Err line → TellsFirstBad text line
+tells_first text line failed = told_first text line (boot_of text) refl failed
+
+pub answers_first : (text : List ℕ) (line : ℕ) (result : Result (List BootLine) FileErr)
+    → Answers (λ lines. lines) result (boot_of text) → result ≡ Err (errors.Bad line) → TellsFirstBad text line
+answers_first text line result answers is =
+    tells_first text line (subst (λ (r : Result (List BootLine) FileErr). Answers (λ lines. lines) r (boot_of text)) is answers)

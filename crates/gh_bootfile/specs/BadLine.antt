@@ -1,8 +1,8 @@
 -- What a file's first bad line is, apart from any reader.
 use Rattle.std.specs.Prelude.{◌≡◌, ◌&&◌, ◌++◌, ◌⊎◌, ℕ, Bool, true, false, List, [], ◌∷◌, codes}
-use Rattle.std.specs.List.{flat_map}
+use Rattle.std.specs.List.{flat_map, list_all}
 use Rattle.gh_model.specs.declared.boot_line.BootLine.{BootLine}
-use Rattle.gh_bootfile.specs.BootFile.{next_number}
+use Rattle.gh_bootfile.specs.BootFile.{next_number, told_number}
 use Rattle.gh_bootfile.specs.Draft.{next_fits, is_whole}
 use Rattle.gh_bootfile.specs.Grammar.{ended_line, fields_hold, format_line}
 
@@ -14,7 +14,9 @@ fit_in_turn before (line ∷ lines) = next_fits before line && fit_in_turn (befo
 -- behind these lines the rest of the file is bad
 pub record IsBadBehind (lines : List BootLine) (rest : List ℕ) : Type 0 where
   -- no line that fits stands at its front
-  pub no_line : (line : BootLine) (after : List ℕ) → fields_hold line ≡ true → rest ≡ ended_line line ++ after → next_fits lines line ≡ false
+  pub no_line :
+      (line : BootLine) (after : List ℕ) → fields_hold line ≡ true
+      → rest ≡ ended_line line ++ after → next_fits lines line ≡ false
   -- and the file isn't whole, if it ends there
   pub no_end : rest ≡ [] → is_whole lines ≡ false
 
@@ -23,6 +25,7 @@ pub record IsBadAt (before : List BootLine) (text : List ℕ) (number : ℕ) : T
   pub lines : List BootLine
   pub rest : List ℕ
   pub text_is : text ≡ flat_map ended_line lines ++ rest
+  pub hold : list_all fields_hold lines ≡ true
   pub fit : fit_in_turn before lines ≡ true
   pub bad : IsBadBehind (before ++ lines) rest
   pub number_is : number ≡ next_number (before ++ lines)
@@ -41,3 +44,9 @@ pub record HasBadLine (text : List ℕ) (number : ℕ) : Type 0 where
 -- the line of this number is the first bad one
 abbrev pub IsFirstBad : List ℕ → ℕ → Type 0
 IsFirstBad text number = HasNoFormat text number ⊎ HasBadLine text number
+
+-- a reader told this number: that of the first bad line, which stands still at the largest of 32 bits
+pub record TellsFirstBad (text : List ℕ) (told : ℕ) : Type 0 where
+  pub number : ℕ
+  pub first : IsFirstBad text number
+  pub told_is : told ≡ told_number number

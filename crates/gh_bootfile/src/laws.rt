@@ -40,7 +40,12 @@ pub fn text_of_file_is_read()
         → boot_of (boot_text lines) ≡ Ok lines }
 {}
 
-/// A bad line that is told is the first bad line.
+/// The reader tells a bad line exactly where it is the first one, and there is only one first.
 pub fn bad_line_is_the_first()
-    ensures { (text : List ℕ) (number : ℕ) → boot_of text ≡ Err number → IsFirstBad text number }
+    ensures told { (text : List ℕ) (number : ℕ) →
+        boot_of text ≡ Err number → IsFirstBad text number }
+    ensures first { (text : List ℕ) (number : ℕ) →
+        IsFirstBad text number → boot_of text ≡ Err number }
+    ensures one { (text : List ℕ) (number other : ℕ) →
+        IsFirstBad text number → IsFirstBad text other → number ≡ other }
 {}

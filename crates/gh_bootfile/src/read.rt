@@ -2,6 +2,7 @@
 
 ghost use Rattle.std.specs.Prelude.{◌≡◌, ◌+◌, ◌<◌, ◌^◌, ℕ, [], length, Ok, Err, IfOk};
 ghost use Rattle.std.specs.Str.{bytes_eq};
+ghost use Rattle.gh_bootfile.specs.BadLine.{TellsFirstBad};
 ghost use Rattle.gh_bootfile.specs.BootFile.{Answers, at_end, boot_of, lines_on, told, told_number, with_line};
 ghost use Rattle.gh_bootfile.specs.Grammar.{boot_text, format_line};
 ghost use Rattle.gh_bootfile.specs.Reading.{line_of, pieces_at};
@@ -96,6 +97,7 @@ pub fn read_boot(alloc: Global, text: &[u8]) -> Result<Boot, FileErr>
     ensures lines { IfOk result (λ boot. boot_of text.now ≡ Ok boot) }
     ensures text { IfOk result (λ boot. text.now ≡ boot_text boot) }
     ensures bad { (line : ℕ) → result ≡ Err (FileErr.Bad line) → told (boot_of text.now) ≡ Err line }
+    ensures first_bad { (line : ℕ) → result ≡ Err (FileErr.Bad line) → TellsFirstBad text.now line }
 {
     read(alloc, text)
 }
