@@ -2,7 +2,8 @@
 use Rattle.std.specs.Prelude.{◌≡◌, ◌&&◌, ◌++◌, ◌⊎◌, ℕ, Bool, true, false, List, [], ◌∷◌, codes}
 use Rattle.std.specs.List.{flat_map, list_all}
 use Rattle.gh_model.specs.declared.boot_line.BootLine.{BootLine}
-use Rattle.gh_bootfile.specs.BootFile.{next_number, told_number}
+use Rattle.gh_model.specs.Told.{told_number}
+use Rattle.gh_bootfile.specs.BootFile.{next_number}
 use Rattle.gh_bootfile.specs.Draft.{next_fits, is_whole}
 use Rattle.gh_bootfile.specs.Grammar.{ended_line, fields_hold, format_line}
 

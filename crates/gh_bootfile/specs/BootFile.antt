@@ -1,9 +1,10 @@
 -- What a whole boot file reads as: its lines, or the number of its first bad line.
-use Rattle.std.specs.Prelude.{◌≡◌, ◌==◌, ◌&&◌, ◌+◌, ◌-◌, ◌++◌, ◌^◌, ℕ, List, [], ◌∷◌, length, min, Option, Some, None, Result, Ok, Err, if◌then◌else◌}
+use Rattle.std.specs.Prelude.{◌≡◌, ◌==◌, ◌&&◌, ◌+◌, ◌++◌, ℕ, List, [], ◌∷◌, length, Option, Some, None, Result, Ok, Err, if◌then◌else◌}
 use Rattle.std.specs.Str.{bytes_eq}
 use Rattle.gh_model.specs.declared.boot_line.BootLine.{BootLine}
 use Rattle.gh_model.specs.declared.file_err.FileErr.{FileErr}
 use Rattle.gh_model.specs.declared.file_err.FileErr.TheVariants as errors
+use Rattle.gh_model.specs.Told.{told_number}
 use Rattle.gh_bootfile.specs.Draft.{next_fits, is_whole}
 use Rattle.gh_bootfile.specs.Grammar.{format_line}
 use Rattle.gh_bootfile.specs.Reading.{pieces_at, line_of}
@@ -44,10 +45,7 @@ boot_of text = file_of (pieces_at 10 text)
 
 -- what a reader answers
 
--- a line's number as it is told: it stands still at the largest of 32 bits
-abbrev pub told_number : ℕ → ℕ
-told_number line = min line (2 ^ 32 - 1)
-
+-- a line's number is told as one of 32 bits
 abbrev pub told : {Y : Type 0} → Result Y ℕ → Result Y ℕ
 told (Ok value) = Ok value
 told (Err line) = Err (told_number line)

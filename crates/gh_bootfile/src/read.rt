@@ -3,9 +3,10 @@
 ghost use Rattle.std.specs.Prelude.{◌≡◌, ◌+◌, ◌<◌, ◌^◌, ℕ, [], length, Ok, Err, IfOk};
 ghost use Rattle.std.specs.Str.{bytes_eq};
 ghost use Rattle.gh_bootfile.specs.BadLine.{TellsFirstBad};
-ghost use Rattle.gh_bootfile.specs.BootFile.{Answers, at_end, boot_of, lines_on, told, told_number, with_line};
+ghost use Rattle.gh_bootfile.specs.BootFile.{Answers, at_end, boot_of, lines_on, told, with_line};
 ghost use Rattle.gh_bootfile.specs.Grammar.{boot_text, format_line};
 ghost use Rattle.gh_bootfile.specs.Reading.{line_of, pieces_at};
+ghost use Rattle.gh_model.specs.Told.{told_number};
 
 use crate::draft::Draft;
 use crate::line::read_line;

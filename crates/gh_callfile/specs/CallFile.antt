@@ -5,6 +5,7 @@ use Rattle.std.specs.List.{slice_split, sum_by}
 use Rattle.gh_model.specs.declared.file_err.FileErr.{FileErr}
 use Rattle.gh_model.specs.declared.file_err.FileErr.TheVariants.{Bad, NoMemory}
 use Rattle.gh_model.specs.declared.program.Line.{Line}
+use Rattle.gh_model.specs.Told.{told_number}
 use Rattle.gh_callfile.specs.Grammar.{line_of}
 
 abbrev pub is_line_feed : ℕ → Bool
@@ -31,16 +32,22 @@ line_then number room None later = BadAt number
 line_then number room (Some line) later =
     if nat_le line.times room then with_lines (line ∷ []) later else BadAt number
 
--- the lines from this number on, with room for so many calls: the last piece stands behind the last line feed, and is good where it is empty
+-- the lines from this number on, with room for so many calls: the last piece stands behind the last
+-- line feed, and is good where it is empty
 unfoldable pub read_from : ℕ → ℕ → List (List ℕ) → Reading
 read_from number room [] = Good []
 read_from number room (last ∷ []) = if length last == 0 then Good [] else BadAt number
 read_from number room (text ∷ (next ∷ pieces)) =
     line_then number room (line_of text) (read_from (number + 1) (room - calls_of (line_of text)) (next ∷ pieces))
 
+-- a bad line's number is told as one of 32 bits
+abbrev pub told_reading : Reading → Reading
+told_reading (Good lines) = Good lines
+told_reading (BadAt number) = BadAt (told_number number)
+
 -- a text that may have so many calls: its lines are counted from 1
 abbrev pub reading : List ℕ → ℕ → Reading
-reading text room = read_from 1 room (slice_split is_line_feed text)
+reading text room = told_reading (read_from 1 room (slice_split is_line_feed text))
 
 -- the error carries the first bad line; want of memory says nothing of the text
 abbrev pub IsErrorOf : Reading → FileErr → Type 0

@@ -7,6 +7,8 @@ use Rattle.gh_model.specs.declared.boot_line.BootLine.{BootLine}
 use Rattle.gh_model.specs.declared.boot_line.BootLine.TheVariants.{Pages, Partition, Cspace, Addrspace, Doorbell, RootExtent, Extent, Msgqueue, Map, Cap, Vm, Rm, Link}
 use Rattle.gh_model.specs.declared.file_err.FileErr.{FileErr}
 use Rattle.gh_model.specs.declared.file_err.FileErr.TheVariants.{Bad, NoMemory}
+use Rattle.std.specs.Option.{option_map}
+use Rattle.gh_model.specs.Told.{told_number}
 use Rattle.gh_callfile.specs.CallFile.{is_line_feed}
 
 -- a line that makes a VM
@@ -64,9 +66,10 @@ is_item_among manager vms byte = nat_le 48 byte && nat_le byte 56 && is_cpu_amon
 abbrev pub is_item : List BootLine → ℕ → Bool
 is_item lines byte = is_item_among (list_any makes_manager lines) (count_by makes_vm lines) byte
 
--- the first bad item of a schedule, counted from 1
+-- the first bad item of a schedule, counted from 1 and told as a number of 32 bits
 abbrev pub bad_item : List BootLine → List ℕ → Option ℕ
-bad_item lines text = position_from (λ byte. not (is_item lines byte)) 1 (items_of text)
+bad_item lines text =
+    option_map told_number (position_from (λ byte. not (is_item lines byte)) 1 (items_of text))
 
 -- the CPUs of a schedule, in order
 abbrev pub cpus_of : List ℕ → List CpuNo

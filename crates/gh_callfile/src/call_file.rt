@@ -1,10 +1,11 @@
 //! Call files, line by line.
 
-ghost use Rattle.std.specs.Prelude.{◌≡◌, ◌+◌, ◌<◌, ◌≤◌, ◌∷◌, [], ℕ, List, None, Some, length, IfOk, IfErr, IfSome};
+ghost use Rattle.std.specs.Prelude.{◌≡◌, ◌+◌, ◌<◌, ◌≤◌, ◌^◌, ◌∷◌, [], ℕ, List, None, Some, length, IfOk, IfErr, IfSome};
 ghost use Rattle.std.specs.List.{position, slice_split};
 ghost use Rattle.gh_model.specs.declared.program.Line.{Line};
+ghost use Rattle.gh_model.specs.Told.{told_number};
 ghost use Rattle.gh_callfile.specs.Grammar.{line_of};
-ghost use Rattle.gh_callfile.specs.CallFile.{Reading, Good, IsErrorOf, calls_of_lines, is_line_feed, line_then, read_from, reading, with_lines};
+ghost use Rattle.gh_callfile.specs.CallFile.{Reading, Good, IsErrorOf, calls_of_lines, is_line_feed, line_then, read_from, reading, told_reading, with_lines};
 
 use crate::call_line::call_line;
 use gh_base::Sequence;
@@ -15,7 +16,7 @@ use std::alloc::Global;
 #[derive(Clone, Copy)]
 struct Next {
     /// The line's number, from 1.
-    number: u32,
+    number: usize,
     /// The calls for which there is still room.
     room: u32,
 }
@@ -44,31 +45,27 @@ fn first_line(text: &[u8]) -> Option<(&[u8], &[u8])>
     }
 }
 
-/// The number behind this one. A list of so many lines isn't held in memory.
-pub(crate) fn number_after(number: u32) -> Result<u32, FileErr>
-    ensures ok { IfOk result (λ next. next ≡ number + 1) }
-    ensures err { IfErr result (λ err. err ≡ FileErr.NoMemory) }
+/// The number of a line or an item as it is told.
+pub(crate) fn told(number: usize) -> u32
+    ensures { result ≡ told_number number }
 {
-    match number.checked_add(1) {
-        None => Err(FileErr::NoMemory),
-        Some(next) => Ok(next),
-    }
+    number.min(u32::MAX as usize) as u32
 }
 
 /// The line of this text, if it is good.
 fn good_line(alloc: Global, text: &[u8], next: Next) -> Result<Line, FileErr>
     ensures ok { IfOk result (λ line. line_of text.now ≡ Some line) }
     ensures room { IfOk result (λ line. line.times ≤ next.room) }
-    ensures bad { (lines : List Line) (later : Reading) → IfErr result (IsErrorOf
-        (with_lines lines (line_then next.number next.room (line_of text.now) later))) }
+    ensures bad { (lines : List Line) (later : Reading) → IfErr result (IsErrorOf (told_reading
+        (with_lines lines (line_then next.number next.room (line_of text.now) later)))) }
 {
     match call_line(alloc, text)? {
-        None => Err(FileErr::Bad(next.number)),
+        None => Err(FileErr::Bad(told(next.number))),
         Some(line) => {
             if line.times <= next.room {
                 Ok(line)
             } else {
-                Err(FileErr::Bad(next.number))
+                Err(FileErr::Bad(told(next.number)))
             }
         }
     }
@@ -82,20 +79,24 @@ fn read_line(
     text: &[u8],
     next: Next,
 ) -> Result<Next, FileErr>
+    requires few { next.number < 2 ^ 63 }
+    ensures number { IfOk result (λ after. after.number ≡ next.number + 1) }
     ensures ok { (rest : List ℕ) → IfOk result (λ after.
         with_lines lines.old
         (read_from next.number next.room (text.now ∷ slice_split is_line_feed rest))
         ≡ with_lines lines.new
         (read_from after.number after.room (slice_split is_line_feed rest))) }
-    ensures bad { (rest : List ℕ) → IfErr result (IsErrorOf
+    ensures bad { (rest : List ℕ) → IfErr result (IsErrorOf (told_reading
         (with_lines lines.old
-        (read_from next.number next.room (text.now ∷ slice_split is_line_feed rest)))) }
+        (read_from next.number next.room (text.now ∷ slice_split is_line_feed rest))))) }
 {
     let line = good_line(alloc, text, next)?;
     let room = next.room - line.times;
     lines.push(line)?;
-    let number = number_after(next.number)?;
-    Ok(Next { number, room })
+    Ok(Next {
+        number: next.number + 1,
+        room,
+    })
 }
 
 /// Reads a call file that may have calls for this room, repeats counted. `Bad` carries its first
@@ -116,6 +117,6 @@ pub fn read_calls(alloc: Global, text: &[u8], room: u32) -> Result<Vec<Line>, Fi
     if rest.is_empty() {
         Ok(lines.into_vec())
     } else {
-        Err(FileErr::Bad(next.number))
+        Err(FileErr::Bad(told(next.number)))
     }
 }

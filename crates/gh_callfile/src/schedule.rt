@@ -1,11 +1,12 @@
 //! Schedules: the CPUs that advance, item by item.
 
-ghost use Rattle.std.specs.Prelude.{◌≡◌, ◌+◌, ◌∷◌, ◌++◌, [], None, count_by, true, false, ◌⊎◌, IfOk, IfErr, IsErrOf};
+ghost use Rattle.std.specs.Prelude.{◌≡◌, ◌∷◌, ◌++◌, [], All, None, count_by, true, false, ◌⊎◌, IfOk, IfErr, IsErrOf};
 ghost use Rattle.std.specs.List.{list_any};
 ghost use Rattle.gh_callfile.specs.CallFile.{is_line_feed};
-ghost use Rattle.gh_callfile.specs.Schedule.{IsBadItem, bad_item, cpus_of, cpu_of, is_item_among, makes_manager, makes_vm};
+ghost use Rattle.gh_model.specs.Told.{told_number};
+ghost use Rattle.gh_callfile.specs.Schedule.{IsBadItem, bad_item, cpus_of, cpu_of, is_cpu_of, is_item_among, makes_manager, makes_vm};
 
-use crate::call_file::number_after;
+use crate::call_file::told;
 use gh_base::{CpuNo, Sequence};
 use gh_model::{Boot, BootLine, FileErr};
 use std::alloc::Global;
@@ -58,20 +59,25 @@ fn is_item(cpus: Cpus, byte: u8) -> bool
     }
 }
 
-/// Puts the item's CPU behind those that were read, and gives the number of the next item.
-fn read_item(items: &mut Sequence<CpuNo>, cpus: Cpus, byte: u8, number: u32) -> Result<u32, FileErr>
+/// Puts the item's CPU behind those that were read.
+fn read_item(
+    items: &mut Sequence<CpuNo>,
+    cpus: Cpus,
+    byte: u8,
+    number: usize,
+) -> Result<(), FileErr>
     ensures good { IfOk result (λ _. is_item_among cpus.manager cpus.vms byte ≡ true) }
     ensures items { IfOk result (λ _. items.new ≡ items.old ++ cpu_of byte ∷ []) }
-    ensures number { IfOk result (λ next. next ≡ number + 1) }
-    ensures bad { IsErrOf result (FileErr.Bad number)
+    ensures bad { IsErrOf result (FileErr.Bad (told_number number))
         → is_item_among cpus.manager cpus.vms byte ≡ false }
-    ensures err { IfErr result (λ err. (err ≡ FileErr.NoMemory) ⊎ (err ≡ FileErr.Bad number)) }
+    ensures err { IfErr result
+        (λ err. (err ≡ FileErr.NoMemory) ⊎ (err ≡ FileErr.Bad (told_number number))) }
 {
     if !is_item(cpus, byte) {
-        return Err(FileErr::Bad(number));
+        return Err(FileErr::Bad(told(number)));
     }
     items.push(CpuNo(byte - b'0'))?;
-    number_after(number)
+    Ok(())
 }
 
 /// Reads a schedule. `Bad` carries its first item that isn't a CPU of this boot file. Items are
@@ -79,6 +85,7 @@ fn read_item(items: &mut Sequence<CpuNo>, cpus: Cpus, byte: u8, number: u32) -> 
 pub fn read_schedule(alloc: Global, text: &[u8], boot: &Boot) -> Result<Vec<CpuNo>, FileErr>
     ensures good { IfOk result (λ _. bad_item boot.now text.now ≡ None) }
     ensures cpus { IfOk result (λ cpus. cpus.items ≡ cpus_of text.now) }
+    ensures exist { IfOk result (λ cpus. All (λ cpu. is_cpu_of boot.now cpu.0 ≡ true) cpus.items) }
     ensures bad { IfErr result (IsBadItem (bad_item boot.now text.now)) }
 {
     let lines = boot.lines();
@@ -90,7 +97,8 @@ pub fn read_schedule(alloc: Global, text: &[u8], boot: &Boot) -> Result<Vec<CpuN
     let mut number = 1;
     for byte in text {
         if *byte != b'\n' {
-            number = read_item(&mut items, cpus, *byte, number)?;
+            read_item(&mut items, cpus, *byte, number)?;
+            number += 1;
         }
     }
     Ok(items.into_vec())

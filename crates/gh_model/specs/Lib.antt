@@ -14,5 +14,6 @@ pub mod Registers
 pub mod Rows
 pub mod Run
 pub mod Text
+pub mod Told
 pub mod Units
 pub mod Word

@@ -2,7 +2,8 @@
 use Rattle.std.specs.Prelude.{◌≡◌, ◌+◌, ◌-◌, ⊤, ℕ, Bool, List, [], ◌∷◌, ◌++◌, length, count_by, nat_le, nat_lt, Option, Some, None, Result, Ok, Err, if◌then◌else◌}
 use Rattle.std.specs.List.{position}
 use Rattle.gh_base.specs.declared.ids.CpuNo.{CpuNo}
-use Rattle.gh_bootfile.specs.BootFile.{boot_of, told, told_number}
+use Rattle.gh_bootfile.specs.BootFile.{boot_of, told}
+use Rattle.gh_model.specs.Told.{told_number}
 use Rattle.gh_callfile.specs.CallFile.{Reading, Good, BadAt, reading, calls_of_lines}
 use Rattle.gh_callfile.specs.Schedule.{bad_item, cpus_of, makes_vm, makes_manager}
 use Rattle.gh_model.specs.declared.boot_line.BootLine.{BootLine}

@@ -2,7 +2,7 @@
 
 ghost use Rattle.std.specs.Prelude.{◌≡◌, ◌<◌, ◌≤◌, ◌+◌, ◌-◌, ◌^◌, ◌∷◌, [], length, IfSome};
 ghost use Rattle.std.specs.List.{position};
-ghost use Rattle.gh_bootfile.specs.BootFile.{told_number};
+ghost use Rattle.gh_model.specs.Told.{told_number};
 ghost use Rattle.gh_callfile.specs.CallFile.{calls_of_lines};
 ghost use Rattle.gh_callfile.specs.Schedule.{makes_manager};
 ghost use Rattle.gunyah.specs.Input.{ReadsAs, boot_input, without_manager, schedule_input, without_items, vm_lines, call_file, calls_on, input_of};
