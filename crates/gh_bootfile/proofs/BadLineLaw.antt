@@ -236,7 +236,7 @@ refused_rest before rest bad (Whole e) = lines_end before rest rest e ∙ refuse
 refused_rest before rest bad (At line after e text_is) =
     lines_step before rest line after e
     ∙ ap (λ (r : Result (List BootLine) ℕ). and_then r (λ more. lines_on more (pieces_at 10 after)))
-      (refused_line before line after (subst (λ (t : List ℕ). IsBadBehind before t) text_is bad) (line_of line) refl)
+    (refused_line before line after (subst (λ (t : List ℕ). IsBadBehind before t) text_is bad) (line_of line) refl)
 
 bad_is_told : (text : List ℕ) (n : ℕ) → IsBadAt [] text n → lines_on [] (pieces_at 10 text) ≡ Err n
 bad_is_told text n bad =

@@ -3,5 +3,7 @@ mod CallLineLemmas
 mod CpuLemmas
 mod NumeralLemmas
 mod ProgramLemmas
+mod RegisterLemmas
 mod SpellingLemmas
 mod WorkedLemmas
+mod WritingLemmas

@@ -4,3 +4,4 @@ pub mod Schedule
 pub mod Spelling
 pub mod VmProgress
 pub mod WorkedBoot
+pub mod Writing

@@ -7,6 +7,7 @@ mod law;
 mod numeral;
 mod schedule;
 mod vm_program;
+mod writing_law;
 
 pub use call_file::read_calls;
 pub use gh_model::{FileErr, Line};
@@ -15,6 +16,9 @@ pub use law::{
 };
 pub use schedule::read_schedule;
 pub use vm_program::VmProgram;
+pub use writing_law::{
+    file_read_is_spelled, file_written_is_read, line_written_is_read, value_written_is_read,
+};
 
 #[cfg(test)]
 mod tests;
