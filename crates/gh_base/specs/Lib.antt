@@ -1,6 +1,11 @@
 pub mod Access
+pub mod Bytes
 pub mod CapWord
 pub mod Errno
 pub mod Kind
 pub mod Reply
+pub mod RmError
+pub mod RmLayout
+pub mod RpcAssembly
+pub mod RpcMessage
 pub mod Sequence
