@@ -49,8 +49,23 @@ fn layout_counts(payload: &[u8]) -> Option<Counts>
     Some(Counts { access, memory })
 }
 
+/// The access entry at the front: a VM, and what it may do.
+fn access_entry(bytes: &[u8]) -> (u16, u8)
+    requires { access_width ≤ length bytes.now }
+    ensures { result ≡ access_entry bytes.now }
+{
+    (u16_at(bytes, 0), bytes[2])
+}
+
+/// The memory entry at the front: an address and a size.
+fn memory_entry(bytes: &[u8]) -> (u64, u64)
+    requires { memory_width ≤ length bytes.now }
+    ensures { result ≡ memory_entry bytes.now }
+{
+    (u64_at(bytes, 0), u64_at(bytes, 8))
+}
+
 /// So many access entries.
-#[tactic(auto, using(crate::proofs::EntryLemmas::entries_step, crate::proofs::EntryLemmas::entries_end))]
 fn access_entries(
     alloc: Global,
     bytes: &[u8],
@@ -62,7 +77,7 @@ fn access_entries(
     let mut list = Sequence::with_room(alloc, count)?;
     let mut left = bytes;
     for _ in 0..count {
-        list.push((u16_at(left, 0), left[2]))?;
+        list.push(access_entry(left))?;
         let (_, behind) = left.split_at(ACCESS_WIDTH);
         left = behind;
     }
@@ -70,7 +85,6 @@ fn access_entries(
 }
 
 /// So many memory entries.
-#[tactic(auto, using(crate::proofs::EntryLemmas::entries_step, crate::proofs::EntryLemmas::entries_end))]
 fn memory_entries(
     alloc: Global,
     bytes: &[u8],
@@ -82,7 +96,7 @@ fn memory_entries(
     let mut list = Sequence::with_room(alloc, count)?;
     let mut left = bytes;
     for _ in 0..count {
-        list.push((u64_at(left, 0), u64_at(left, 8)))?;
+        list.push(memory_entry(left))?;
         let (_, behind) = left.split_at(MEMORY_WIDTH);
         left = behind;
     }
