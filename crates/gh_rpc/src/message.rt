@@ -20,7 +20,6 @@ fn payload(message: &Message) -> &[u8]
     message.payload.as_slice()
 }
 
-#[tactic(auto, using(std::proofs::lemmas::List::take_all))]
 /// The part of what is left of a payload that one fragment holds.
 fn part(left: &[u8]) -> &[u8]
     ensures value { result.now ≡ take FRAGMENT_PAYLOAD_BYTES left.now }
@@ -33,7 +32,6 @@ fn part(left: &[u8]) -> &[u8]
     part
 }
 
-#[tactic(auto, using(std::proofs::lemmas::List::drop_all))]
 /// What is left behind that part.
 fn rest(left: &[u8]) -> &[u8]
     ensures { result.now ≡ drop FRAGMENT_PAYLOAD_BYTES left.now }
