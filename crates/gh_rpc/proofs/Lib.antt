@@ -1,1 +1,5 @@
+pub mod FeedLemmas
 pub mod FragmentLemmas
+pub mod HeaderLemmas
+pub mod MessageLemmas
+pub mod StreamLemmas
