@@ -14,7 +14,7 @@ no_fragment_fault : (bytes : List ℕ) → IsFragment bytes → fragment_fault b
 no_fragment_fault bytes it = grind (arith, common_steps, it.header, it.room, it.version)
 
 -- bytes without such a fault are a fragment
-is_fragment_without_fault : (bytes : List ℕ) → fragment_fault bytes ≡ None → IsFragment bytes
+pub is_fragment_without_fault : (bytes : List ℕ) → fragment_fault bytes ≡ None → IsFragment bytes
 is_fragment_without_fault bytes none = record {
   header = grind (arith, common_steps, none);
   room = grind (arith, common_steps, none);

@@ -36,12 +36,12 @@ same_message m n id sequence payload =
     ∙ ap (λ p. record n { payload = p }) payload
 
 -- a message without lacking fragments is given
-accepted_whole : (p : Progress) → p.lacking ≡ 0
+pub accepted_whole : (p : Progress) → p.lacking ≡ 0
     → accepted p ≡ record { answer = Ok (Some p.message); opened = None }
 accepted_whole p none = grind (arith, common_steps, none)
 
 -- a message that lacks fragments stays open
-accepted_part : (p : Progress) (n : ℕ) → p.lacking ≡ suc n
+pub accepted_part : (p : Progress) (n : ℕ) → p.lacking ≡ suc n
     → accepted p ≡ record { answer = Ok None; opened = Some p }
 accepted_part p n some = grind (arith, common_steps, some)
 
