@@ -145,13 +145,16 @@ access_entry_bytes entry = to_le_bytes w16 entry.0 ++ entry.1 ∷ 0 ∷ []
 abbrev pub memory_entry_bytes : ℕ × ℕ → List ℕ
 memory_entry_bytes entry = to_le_bytes w64 entry.0 ++ to_le_bytes w64 entry.1
 
+-- the part behind the access entries
+abbrev pub memory_part_bytes : MemRequest → List ℕ
+memory_part_bytes r =
+    to_le_bytes w16 (length r.memory) ++ 0 ∷ 0 ∷ (flat_map memory_entry_bytes r.memory ++ 0 ∷ 0 ∷ 0 ∷ 0 ∷ [])
+
 -- a memory request
 abbrev pub memory_bytes : MemRequest → List ℕ
 memory_bytes r =
-    0 ∷ 0 ∷ 0 ∷ 0 ∷ (to_le_bytes w32 r.label
-    ++ to_le_bytes w32 (length r.access) ++ (flat_map access_entry_bytes r.access
-    ++ to_le_bytes w16 (length r.memory) ++ 0 ∷ 0 ∷ (flat_map memory_entry_bytes r.memory
-    ++ 0 ∷ 0 ∷ 0 ∷ 0 ∷ [])))
+    0 ∷ 0 ∷ 0 ∷ 0 ∷ (to_le_bytes w32 r.label ++ to_le_bytes w32 (length r.access)
+    ++ flat_map access_entry_bytes r.access ++ memory_part_bytes r)
 
 -- the payload of a request
 abbrev pub request_bytes : Request → List ℕ
