@@ -52,27 +52,38 @@ access_count bytes = u32_at 8 bytes
 abbrev pub access_at : ℕ
 access_at = 12
 
--- behind them the number of memory entries in two bytes, two bytes more, and these entries
+-- behind these the number of memory entries in two of four bytes
 abbrev pub memory_count_at : List ℕ → ℕ
 memory_count_at bytes = access_at + access_count bytes * access_width
 
 abbrev pub memory_count : List ℕ → ℕ
 memory_count bytes = u16_at (memory_count_at bytes) bytes
 
-abbrev pub memory_at : List ℕ → ℕ
-memory_at bytes = memory_count_at bytes + 4
+abbrev pub memory_count_width : ℕ
+memory_count_width = 4
 
--- behind them the number of attributes in four bytes, and nothing more
+-- then the memory entries
+abbrev pub memory_at : List ℕ → ℕ
+memory_at bytes = memory_count_at bytes + memory_count_width
+
+-- behind these the number of attributes in four bytes
 abbrev pub attribute_count_at : List ℕ → ℕ
 attribute_count_at bytes = memory_at bytes + memory_count bytes * memory_width
 
 abbrev pub attribute_count : List ℕ → ℕ
 attribute_count bytes = u32_at (attribute_count_at bytes) bytes
 
+abbrev pub attribute_count_width : ℕ
+attribute_count_width = 4
+
+-- and then nothing more
+abbrev pub memory_request_length : List ℕ → ℕ
+memory_request_length bytes = attribute_count_at bytes + attribute_count_width
+
 -- the bytes are of the layout: just as many as it takes, and without attributes
 abbrev pub is_memory_layout : List ℕ → Bool
 is_memory_layout bytes =
-    (length bytes == attribute_count_at bytes + 4) && (attribute_count bytes == 0)
+    (length bytes == memory_request_length bytes) && (attribute_count bytes == 0)
 
 -- what bytes of the layout ask for
 abbrev pub memory_asked : List ℕ → MemRequest
@@ -124,15 +135,27 @@ is_request_id id =
     (id == LEND_ID) || (id == SHARE_ID) || (id == DONATE_ID)
     || (id == ACCEPT_ID) || (id == RELEASE_ID) || (id == RECLAIM_ID)
 
+-- a request for memory, of the kind that this makes of what is asked
+abbrev pub memory_request : (MemRequest → Request) → List ℕ → Result Request RmError
+memory_request kind bytes = unless_refused (memory_refusal bytes) (kind (memory_asked bytes))
+
+-- an accept
+abbrev pub accept_request : List ℕ → Result Request RmError
+accept_request bytes = unless_refused (width_refusal accept_width bytes) (accept_asked bytes)
+
+-- a request that only has a handle, of the kind that this makes of it
+abbrev pub handle_request : (ℕ → Request) → List ℕ → Result Request RmError
+handle_request kind bytes = unless_refused (width_refusal handle_width bytes) (kind (handle_of bytes))
+
 -- what the id and the payload ask, or the first error that they show by themselves
 abbrev pub request_of : ℕ → List ℕ → Result Request RmError
 request_of id bytes =
-    if id == LEND_ID then unless_refused (memory_refusal bytes) (Lend (memory_asked bytes))
-    else (if id == SHARE_ID then unless_refused (memory_refusal bytes) (Share (memory_asked bytes))
-    else (if id == DONATE_ID then unless_refused (memory_refusal bytes) (Donate (memory_asked bytes))
-    else (if id == ACCEPT_ID then unless_refused (width_refusal accept_width bytes) (accept_asked bytes)
-    else (if id == RELEASE_ID then unless_refused (width_refusal handle_width bytes) (Release (handle_of bytes))
-    else (if id == RECLAIM_ID then unless_refused (width_refusal handle_width bytes) (Reclaim (handle_of bytes))
+    if id == LEND_ID then memory_request Lend bytes
+    else (if id == SHARE_ID then memory_request Share bytes
+    else (if id == DONATE_ID then memory_request Donate bytes
+    else (if id == ACCEPT_ID then accept_request bytes
+    else (if id == RELEASE_ID then handle_request Release bytes
+    else (if id == RECLAIM_ID then handle_request Reclaim bytes
     else Err Errors.Unimplemented)))))
 
 -- ---- requests as they are written; what isn't named is 0
@@ -145,25 +168,29 @@ access_entry_bytes entry = to_le_bytes w16 entry.0 ++ entry.1 ∷ 0 ∷ []
 abbrev pub memory_entry_bytes : ℕ × ℕ → List ℕ
 memory_entry_bytes entry = to_le_bytes w64 entry.0 ++ to_le_bytes w64 entry.1
 
+-- four bytes that say nothing, or that a count is 0
+abbrev pub four_zeros : List ℕ
+four_zeros = 0 ∷ 0 ∷ 0 ∷ 0 ∷ []
+
 -- the part behind the access entries
 abbrev pub memory_part_bytes : MemRequest → List ℕ
 memory_part_bytes r =
-    to_le_bytes w16 (length r.memory) ++ 0 ∷ 0 ∷ (flat_map memory_entry_bytes r.memory ++ 0 ∷ 0 ∷ 0 ∷ 0 ∷ [])
+    to_le_bytes w16 (length r.memory) ++ 0 ∷ 0 ∷ (flat_map memory_entry_bytes r.memory ++ four_zeros)
 
 -- a memory request
 abbrev pub memory_bytes : MemRequest → List ℕ
 memory_bytes r =
-    0 ∷ 0 ∷ 0 ∷ 0 ∷ (to_le_bytes w32 r.label ++ to_le_bytes w32 (length r.access)
-    ++ flat_map access_entry_bytes r.access ++ memory_part_bytes r)
+    four_zeros ++ to_le_bytes w32 r.label ++ to_le_bytes w32 (length r.access)
+    ++ flat_map access_entry_bytes r.access ++ memory_part_bytes r
 
 -- the payload of a request
 abbrev pub request_bytes : Request → List ℕ
 request_bytes (Lend r) = memory_bytes r
 request_bytes (Share r) = memory_bytes r
 request_bytes (Donate r) = memory_bytes r
-request_bytes (Accept handle address) = to_le_bytes w32 handle ++ 0 ∷ 0 ∷ 0 ∷ 0 ∷ to_le_bytes w64 address
-request_bytes (Release handle) = to_le_bytes w32 handle ++ 0 ∷ 0 ∷ 0 ∷ 0 ∷ []
-request_bytes (Reclaim handle) = to_le_bytes w32 handle ++ 0 ∷ 0 ∷ 0 ∷ 0 ∷ []
+request_bytes (Accept handle address) = to_le_bytes w32 handle ++ four_zeros ++ to_le_bytes w64 address
+request_bytes (Release handle) = to_le_bytes w32 handle ++ four_zeros
+request_bytes (Reclaim handle) = to_le_bytes w32 handle ++ four_zeros
 
 -- the id of a request
 abbrev pub request_id : Request → ℕ

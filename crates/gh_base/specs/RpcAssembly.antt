@@ -57,12 +57,18 @@ fault_of opened bytes = option_or (fragment_fault bytes) (header_fault opened (h
 -- a request begins a message, whatever was open
 abbrev pub begun : Header → List ℕ → Progress
 begun h payload =
-    record { message = record { id = h.id; sequence = h.sequence; payload = payload }; lacking = h.further }
+    record {
+      message = record { id = h.id; sequence = h.sequence; payload = payload };
+      lacking = h.further;
+    }
 
 -- a continuation adds its payload
 abbrev pub continued : Progress → List ℕ → Progress
 continued p payload =
-    record { message = record p.message { payload = p.message.payload ++ payload }; lacking = p.lacking - 1 }
+    record {
+      message = record p.message { payload = p.message.payload ++ payload };
+      lacking = p.lacking - 1;
+    }
 
 -- the message so far with a fragment of this kind; only a continuation goes on with the open one
 abbrev pub progress_of_kind : FragmentKind → Option Progress → Header → List ℕ → Progress
@@ -74,7 +80,8 @@ progress_of_kind Notification opened h payload = begun h payload
 
 -- the message so far with this fragment
 unfoldable pub progress_of : Option Progress → List ℕ → Progress
-progress_of opened bytes = progress_of_kind (header_of bytes).kind opened (header_of bytes) (payload_of bytes)
+progress_of opened bytes =
+    progress_of_kind (header_of bytes).kind opened (header_of bytes) (payload_of bytes)
 
 -- ---- one fragment
 
@@ -103,7 +110,8 @@ fed opened bytes = judged (fault_of opened bytes) (progress_of opened bytes)
 -- what each of them answers
 abbrev pub answers : Option Progress → List (List ℕ) → List (Result (Option Message) RpcFault)
 answers opened [] = []
-answers opened (bytes ∷ stream) = (fed opened bytes).answer ∷ answers (fed opened bytes).opened stream
+answers opened (bytes ∷ stream) =
+    (fed opened bytes).answer ∷ answers (fed opened bytes).opened stream
 
 -- the message that is open behind them
 abbrev pub opened_behind : Option Progress → List (List ℕ) → Option Progress

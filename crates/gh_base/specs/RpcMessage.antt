@@ -36,7 +36,10 @@ fragment_kind_number Notification = 3
 -- the kind of a number
 abbrev pub fragment_kind_numbered : ℕ → FragmentKind
 fragment_kind_numbered n =
-    if n == 0 then Continuation else (if n == 1 then Request else (if n == 2 then Reply else Notification))
+    if n == 0 then Continuation
+    else (if n == 1 then Request
+    else (if n == 2 then Reply
+    else Notification))
 
 -- the header that these bytes begin with
 unfoldable pub header_of : List ℕ → Header
@@ -72,7 +75,8 @@ pub record Continues (id sequence : ℕ) (bytes : List ℕ) : Type 0 where
 
 -- a request and the fragments behind it begin this message, of which so many fragments are lacking:
 -- the request counts all that follow it, and the payload is that of all fragments joined
-pub record Begins (lacking : ℕ) (first : List ℕ) (others : List (List ℕ)) (m : Message) : Type 0 where
+pub record Begins (lacking : ℕ) (first : List ℕ) (others : List (List ℕ)) (m : Message)
+    : Type 0 where
   pub fragment : IsFragment first
   pub kind : (header_of first).kind ≡ Request
   pub count : (header_of first).further ≡ length others + lacking

@@ -1,7 +1,7 @@
 //! The payload of a request for memory.
 
 ghost use Rattle.std.specs.Prelude.{◌≡◌, ◌≤◌, ◌+◌, ◌*◌, length, is_some, IfOk, IfSome};
-ghost use Rattle.gh_base.specs.RmLayout.{access_count, access_entry, access_width, appends, attribute_count_at, entries, is_memory_layout, memory_asked, memory_count, memory_entry, memory_refusal, memory_width, unless_refused};
+ghost use Rattle.gh_base.specs.RmLayout.{access_count, access_entry, access_width, appends, entries, is_memory_layout, memory_asked, memory_count, memory_entry, memory_refusal, memory_request_length, memory_width, unless_refused};
 
 use gh_base::{MemRequest, NoMemory, RmError, Sequence, u16_at, u32_at, u64_at};
 use std::alloc::Global;
@@ -28,7 +28,7 @@ fn layout_counts(payload: &[u8]) -> Option<Counts>
     ensures layout { is_some result ≡ is_memory_layout payload.now }
     ensures access { IfSome result (λ counts. counts.access ≡ access_count payload.now) }
     ensures memory { IfSome result (λ counts. counts.memory ≡ memory_count payload.now) }
-    ensures whole { IfSome result (λ _. length payload.now ≡ attribute_count_at payload.now + 4) }
+    ensures whole { IfSome result (λ _. length payload.now ≡ memory_request_length payload.now) }
 {
     if payload.len() < ACCESS_AT {
         return None;
@@ -107,7 +107,7 @@ fn memory_entries(
 fn asked(alloc: Global, payload: &[u8], counts: Counts) -> Result<MemRequest, NoMemory>
     requires access { counts.access ≡ access_count payload.now }
     requires memory { counts.memory ≡ memory_count payload.now }
-    requires whole { length payload.now ≡ attribute_count_at payload.now + 4 }
+    requires whole { length payload.now ≡ memory_request_length payload.now }
     ensures { IfOk result (λ request. request ≡ memory_asked payload.now) }
 {
     let (_, access) = payload.split_at(ACCESS_AT);

@@ -1,7 +1,7 @@
 //! Requests to the resource manager.
 
 ghost use Rattle.std.specs.Prelude.{◌≡◌, IfOk};
-ghost use Rattle.gh_base.specs.RmLayout.{accept_asked, accept_width, handle_of, handle_width, is_request_id, request_of, unless_refused, width_refusal};
+ghost use Rattle.gh_base.specs.RmLayout.{accept_request, handle_of, handle_width, is_request_id, request_of, unless_refused, width_refusal};
 
 use crate::memory::read_memory;
 use gh_base::{
@@ -24,8 +24,7 @@ pub fn is_request_id(id: u32) -> bool
 }
 
 fn read_accept(payload: &[u8]) -> Result<Request, RmError>
-    ensures { result ≡ unless_refused (width_refusal accept_width payload.now)
-        (accept_asked payload.now) }
+    ensures { result ≡ accept_request payload.now }
 {
     if payload.len() != ACCEPT_BYTES {
         return Err(RmError::ArgumentInvalid);

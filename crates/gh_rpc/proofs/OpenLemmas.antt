@@ -3,7 +3,7 @@ use Rattle.std.proofs.Common.{◌≡◌, ◌↔◌, ℕ, zero, suc, ◌+◌, ◌
 use Rattle.std.specs.List.{flat_map}
 use Rattle.std.specs.Option.{option_or}
 use Rattle.std.proofs.lemmas.Grind.{common_steps, flat_map-append}
-use Rattle.std.proofs.lemmas.List.Elements.{All-nil, All-push}
+use Rattle.std.proofs.lemmas.List.Elements.{All-nil, All-head, All-tail, All-push}
 use Rattle.gh_base.specs.declared.fragment.FragmentKind.{FragmentKind}
 use Rattle.gh_base.specs.declared.fragment.FragmentKind.TheVariants.{Continuation, Request, Reply, Notification}
 use Rattle.gh_base.specs.declared.fragment.Header.{Header}
@@ -11,16 +11,16 @@ use Rattle.gh_base.specs.declared.fragment.Message.{Message}
 use Rattle.gh_base.specs.declared.fragment.RpcFault.{RpcFault}
 use Rattle.gh_base.specs.RpcMessage.{Begins, Continues, IsBegun, IsFragment, IsMessage, header_of, payload_of}
 use Rattle.gh_base.specs.RpcAssembly.{Progress, accepted, answers, begun, continuation_fault, continued, fault_of, fed, fragment_fault, header_fault, judged, kind_fault, opened_behind, progress_of, progress_of_kind}
-use Rattle.gh_rpc.specs.Stream.{EndsWith, answers_giving}
-use Rattle.gh_rpc.proofs.FeedLemmas.{is_fragment_without_fault}
-use Rattle.gh_rpc.proofs.StreamLemmas.{accepted_part, accepted_whole, answers-append, message_given}
+use Rattle.gh_rpc.specs.Stream.{EndsUnfinished, EndsWith, answers_giving}
+use Rattle.gh_rpc.proofs.FeedLemmas.{continuation_fed, is_fragment_without_fault, request_fed}
+use Rattle.gh_rpc.proofs.StreamLemmas.{accepted_part, accepted_whole, answers-append, grown, message_given, opened_behind-append, same_message}
 
 -- the last fragments of a stream begin the message so far
-pub record EndsBegun (p : Progress) (stream : List (List ℕ)) : Type 0 where
-  pub before : List (List ℕ)
-  pub fragments : List (List ℕ)
-  pub split : stream ≡ before ++ fragments
-  pub begun : IsBegun p.lacking fragments p.message
+record EndsBegun (p : Progress) (stream : List (List ℕ)) : Type 0 where
+  before : List (List ℕ)
+  fragments : List (List ℕ)
+  split : stream ≡ before ++ fragments
+  begun : IsBegun p.lacking fragments p.message
 
 -- the message so far is still open
 record IsOpen (p : Progress) (stream : List (List ℕ)) : Type 0 where
@@ -178,6 +178,73 @@ given_ends stream bytes m given =
     (stream ++ bytes ∷ [])
     (λ none. grows (opened_behind None stream) stream bytes none (remembers_stream None [] stream tt))
     given
+
+-- ---- the open message
+
+unfinished_of : (opened : Option Progress) (p : Progress) (stream : List (List ℕ)) → Remembers opened stream
+    → opened ≡ Some p → EndsUnfinished p stream
+unfolding Remembers
+unfinished_of None p stream known same = absurd (cc same)
+unfinished_of (Some q) p stream known same =
+    let one : q ≡ p = cc same in
+    subst (λ (x : Progress). EndsUnfinished x stream) one (record {
+      before = known.ends.before;
+      fragments = known.ends.fragments;
+      split = known.ends.split;
+      wanted = known.wanted;
+      begun = known.ends.begun;
+    })
+
+-- with some of the fragments that it lacks a message stays open
+stays_open : (n : ℕ) (p : Progress) (others : List (List ℕ)) → p.lacking ≡ length others + suc n
+    → All (Continues p.message.id p.message.sequence) others
+    → opened_behind (accepted p).opened others ≡ Some (record { message = grown p.message others; lacking = suc n })
+unfolding grown
+stays_open n p [] lacking all =
+    let left : p.lacking ≡ suc n = omega arith in
+    rw (accepted_part p n left) (
+      ap (λ k. Some (record p { lacking = k })) left
+      ∙ ap (λ bs. Some (record { message = record p.message { payload = bs }; lacking = suc n }))
+        (sym (append-nil p.message.payload)))
+stays_open n p (bytes ∷ others) lacking all =
+    let next = continuation_fed p bytes (All-head (Continues p.message.id p.message.sequence) bytes others all) in
+    let more : p.lacking ≡ suc (length others + suc n) = omega arith in
+    rw (accepted_part p (length others + suc n) more, next) (
+      stays_open n (continued p (payload_of bytes)) others (omega arith)
+        (All-tail (Continues p.message.id p.message.sequence) bytes others all)
+      ∙ ap (λ bs. Some (record { message = record p.message { payload = bs }; lacking = suc n }))
+        (append_assoc p.message.payload (payload_of bytes) (flat_map payload_of others)))
+
+opens : (n : ℕ) (p : Progress) (opened : Option Progress) (fragments : List (List ℕ)) → p.lacking ≡ suc n
+    → IsBegun p.lacking fragments p.message → opened_behind opened fragments ≡ Some p
+unfolding grown
+opens n p opened [] lacking it = absurd it
+opens n p opened (first ∷ others) lacking it =
+    let message : grown (begun (header_of first) (payload_of first)).message others ≡ p.message =
+        same_message _ p.message (sym it.id) (sym it.sequence) (sym it.payload) in
+    rw (request_fed opened first it.fragment it.kind it.most) (
+      stays_open n (begun (header_of first) (payload_of first)) others (omega (arith, it.count, lacking))
+        (rw (← it.id, ← it.sequence) it.continued)
+      ∙ ap (λ m. Some (record { message = m; lacking = suc n })) message
+      ∙ ap (λ k. Some (record p { lacking = k })) (sym lacking))
+
+positive : (n : ℕ) → 0 < n → (m : ℕ) × (n ≡ suc m)
+positive n some = (n - 1, omega arith)
+
+open_of : (stream : List (List ℕ)) (p : Progress) → EndsUnfinished p stream → opened_behind None stream ≡ Some p
+open_of stream p ends =
+    let some = positive p.lacking ends.wanted in
+    ap (opened_behind None) ends.split
+    ∙ opened_behind-append None ends.before ends.fragments
+    ∙ opens some.0 p (opened_behind None ends.before) ends.fragments some.1 ends.begun
+
+pub open_exactly : (stream : List (List ℕ)) (p : Progress)
+    → (opened_behind None stream ≡ Some p) ↔ EndsUnfinished p stream
+unfolding Remembers
+open_exactly stream p = (
+  unfinished_of (opened_behind None stream) p stream (remembers_stream None [] stream tt),
+  open_of stream p,
+)
 
 -- ---- the last answer
 

@@ -21,7 +21,7 @@ answers-append opened [] back = refl
 answers-append opened (bytes ∷ front) back =
     ap (λ others. (fed opened bytes).answer ∷ others) (answers-append (fed opened bytes).opened front back)
 
-opened_behind-append : (opened : Option Progress) (front back : List (List ℕ))
+pub opened_behind-append : (opened : Option Progress) (front back : List (List ℕ))
     → opened_behind opened (front ++ back) ≡ opened_behind (opened_behind opened front) back
 opened_behind-append opened [] back = refl
 opened_behind-append opened (bytes ∷ front) back = opened_behind-append (fed opened bytes).opened front back
@@ -29,7 +29,7 @@ opened_behind-append opened (bytes ∷ front) back = opened_behind-append (fed o
 -- ---- the fragments of a message
 
 -- two messages with the same parts are one
-same_message : (m n : Message) → m.id ≡ n.id → m.sequence ≡ n.sequence → m.payload ≡ n.payload → m ≡ n
+pub same_message : (m n : Message) → m.id ≡ n.id → m.sequence ≡ n.sequence → m.payload ≡ n.payload → m ≡ n
 same_message m n id sequence payload =
     ap (λ i. record m { id = i }) id
     ∙ ap (λ s. record n { sequence = s; payload = m.payload }) sequence
@@ -46,7 +46,7 @@ pub accepted_part : (p : Progress) (n : ℕ) → p.lacking ≡ suc n
 accepted_part p n some = grind (arith, common_steps, some)
 
 -- the message so far with the payloads of these fragments
-grown : Message → List (List ℕ) → Message
+unfoldable pub grown : Message → List (List ℕ) → Message
 grown m others = record m { payload = m.payload ++ flat_map payload_of others }
 
 -- so many answers without a message, and then the message

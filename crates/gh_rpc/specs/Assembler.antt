@@ -8,7 +8,10 @@ use Rattle.gh_rpc.specs.declared.assembler.Numbers.{Numbers}
 -- the message so far with these numbers and this payload
 abbrev pub progress_with : Numbers → List ℕ → Progress
 progress_with n payload =
-    record { message = record { id = n.id; sequence = n.sequence; payload = payload }; lacking = n.lacking }
+    record {
+      message = record { id = n.id; sequence = n.sequence; payload = payload };
+      lacking = n.lacking;
+    }
 
 -- the open message, if there is one; without one the buffer's bytes mean nothing
 abbrev pub progress_in : Option Numbers → List ℕ → Option Progress

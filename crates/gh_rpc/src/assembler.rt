@@ -9,8 +9,8 @@ ghost use Rattle.gh_rpc.specs.Assembler.{progress_in, progress_with, HasRoom, Is
 use crate::header::read_header;
 use arrayvec::ArrayVec;
 use gh_base::{
-    BoundedSequence, FRAGMENT_BYTES, FRAGMENT_HEADER_BYTES, FRAGMENT_PAYLOAD_BYTES, FRAGMENT_VERSION,
-    FURTHER_FRAGMENTS,
+    BoundedSequence, FRAGMENT_BYTES, FRAGMENT_HEADER_BYTES, FRAGMENT_PAYLOAD_BYTES,
+    FRAGMENT_VERSION, FURTHER_FRAGMENTS,
     FragmentKind, Header, MESSAGE_PAYLOAD_BYTES, Message, RpcFault,
 };
 use std::marker::Model;
@@ -97,8 +97,8 @@ fn header_fault(numbers: Option<Numbers>, header: Header) -> Option<RpcFault>
     }
 }
 
-#[tactic(auto, unfolding(gh_base::specs::RpcAssembly::fault_of))]
 /// The header of a fragment that can come now.
+#[tactic(auto, unfolding(gh_base::specs::RpcAssembly::fault_of))]
 fn check(numbers: Option<Numbers>, fragment: &[u8]) -> Result<Header, RpcFault>
     ensures header { IfOk result (λ header. header ≡ header_of fragment.now) }
     ensures fault { (payload : List ℕ) →
@@ -183,10 +183,13 @@ impl Assembler {
         }
     }
 
-    #[tactic(auto, unfolding(gh_base::specs::RpcAssembly::fault_of, gh_base::specs::RpcAssembly::progress_of))]
-    /// Takes the next fragment, and gives the message of which it is the last. None where the open
-    /// message lacks fragments. A request begins a message, and drops the one that was open. A fault
-    /// drops the open message, and comes in the order of `RpcFault`.
+    /// Takes the next fragment, and gives the message of which it is the last; None where the open
+    /// message lacks fragments. A request begins a message, and drops the one that was open. A
+    /// fault drops the open message too. Where several faults hold, the first in the order of
+    /// `RpcFault` is told. It copies the fragment's payload once, and a given message once more.
+    #[tactic(auto, unfolding(
+        gh_base::specs::RpcAssembly::fault_of, gh_base::specs::RpcAssembly::progress_of
+    ))]
     pub fn feed(&mut self, fragment: &[u8]) -> Result<Option<Message>, RpcFault>
         ensures answer { result ≡ (fed self.old fragment.now).answer }
         ensures after { self.new ≡ (fed self.old fragment.now).opened }
@@ -196,20 +199,14 @@ impl Assembler {
         ensures dropped { OnErr result (self.new ≡ None) }
         ensures lacking { IfOk result (λ given. IsNone given ↔ IsSome self.new) }
     {
-        let header = match check(self.numbers, fragment) {
-            Ok(header) => header,
-            Err(fault) => {
-                self.numbers = None;
-                return Err(fault);
-            }
-        };
+        let before = self.numbers.take();
+        let header = check(before, fragment)?;
         let (_, payload) = fragment.split_at(FRAGMENT_HEADER_BYTES);
-        let numbers = put(&mut self.payload, self.numbers, header, payload);
+        let numbers = put(&mut self.payload, before, header, payload);
         if numbers.lacking > 0 {
             self.numbers = Some(numbers);
             return Ok(None);
         }
-        self.numbers = None;
         Ok(Some(Message {
             id: numbers.id,
             sequence: numbers.sequence,

@@ -32,8 +32,8 @@ fn kind_numbered(number: u8) -> FragmentKind
     }
 }
 
-#[tactic(auto, unfolding(gh_base::specs::RpcMessage::header_of))]
 /// The header of a fragment that is long enough. Its version isn't looked at.
+#[tactic(auto, unfolding(gh_base::specs::RpcMessage::header_of))]
 pub fn read_header(fragment: &[u8]) -> Header
     requires { FRAGMENT_HEADER_BYTES ≤ length fragment.now }
     ensures { result ≡ header_of fragment.now }
@@ -47,8 +47,8 @@ pub fn read_header(fragment: &[u8]) -> Header
     }
 }
 
-#[tactic(auto, unfolding(gh_base::specs::RpcMessage::header_bytes))]
 /// The bytes of a header whose count is below 64.
+#[tactic(auto, unfolding(gh_base::specs::RpcMessage::header_bytes))]
 pub fn header_bytes(header: Header) -> [u8; FRAGMENT_HEADER_BYTES]
     requires { header.further < 64 }
     ensures { result ≡ header_bytes header }

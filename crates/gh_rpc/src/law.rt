@@ -6,7 +6,7 @@ ghost use Rattle.gh_base.specs.RpcAssembly.{Progress, answers, fed, opened_behin
 ghost use Rattle.gh_base.specs.RpcMessage.{IsMessage, IsWithinFields, fragments_of};
 ghost use Rattle.gh_base.specs.declared.fragment.Message.{Message};
 ghost use Rattle.gh_base.specs.declared.fragment.RpcFault.{RpcFault};
-ghost use Rattle.gh_rpc.specs.Stream.{EndsWith, answers_giving};
+ghost use Rattle.gh_rpc.specs.Stream.{EndsUnfinished, EndsWith, answers_giving};
 
 /// The fragments that are made of a message are that message.
 pub fn fragments_are_their_message()
@@ -22,12 +22,19 @@ pub fn message_is_given_whole()
         IsMessage fragments m → opened_behind opened fragments ≡ None }
 {}
 
-/// A fragment gives a message exactly where the stream from a new assembler on, up to this fragment,
-/// ends with the fragments of this message, however bad those before them were.
+/// A fragment gives a message exactly where the stream from a new assembler on, up to this
+/// fragment, ends with the fragments of this message, however bad those before them were.
 pub fn stream_gives_its_messages()
     ensures { (stream : List (List ℕ)) (bytes : List ℕ) (m : Message) →
         ((fed (opened_behind None stream) bytes).answer ≡ Ok (Some m))
         ↔ EndsWith m (stream ++ bytes ∷ []) }
+{}
+
+/// A message is open exactly where the stream from a new assembler on ends with its first
+/// fragments, and it lacks others.
+pub fn open_message_is_unfinished()
+    ensures { (stream : List (List ℕ)) (p : Progress) →
+        (opened_behind None stream ≡ Some p) ↔ EndsUnfinished p stream }
 {}
 
 /// What comes behind a fault gives what it gives to a new assembler.

@@ -11,7 +11,10 @@ pub use gh_base::{FragmentKind, Header, Message, RpcFault};
 pub use header::{header_bytes, read_header};
 pub use law::{
     fault_begins_anew, fragments_are_their_message, message_is_given_whole,
-    stream_gives_its_messages,
+    open_message_is_unfinished, stream_gives_its_messages,
 };
 pub use message::fragments;
 
+
+#[cfg(test)]
+mod tests;
