@@ -1,7 +1,7 @@
 //! A request read field by field, payloads that are spoiled at one place or cut, and replies in
 //! bytes.
 
-use crate::{Request, RmError, is_request_id, read_request, write_reply};
+use crate::{MemRequest, Request, RmError, is_request_id, read_request, write_reply};
 use gh_base::{ACCEPT_ID, DONATE_ID, LEND_ID, RECLAIM_ID, RELEASE_ID, SHARE_ID};
 use std::test::Fail;
 
@@ -14,17 +14,25 @@ const TWO_PAGES: [u8; 40] = [
 /// Handle 9 and address 0x400000, with bytes that aren't looked at.
 const ACCEPT: [u8; 16] = [9, 0, 0, 0, 7, 7, 7, 7, 0, 0, 0x40, 0, 0, 0, 0, 0];
 
+/// What a request for memory asks, and the id of its kind.
+fn memory_asked(read: Result<Request, RmError>) -> Option<(u32, MemRequest)> {
+    match read {
+        Ok(Request::Lend(request)) => Some((LEND_ID, request)),
+        Ok(Request::Share(request)) => Some((SHARE_ID, request)),
+        Ok(Request::Donate(request)) => Some((DONATE_ID, request)),
+        Ok(_other) => None,
+        Err(_error) => None,
+    }
+}
+
 #[test]
 fn a_request_has_its_fields(rt: HostRuntime) -> Result<(), Fail> {
-    for id in [LEND_ID, SHARE_ID, DONATE_ID] {
-        let request = match read_request(rt.alloc(), id, &TWO_PAGES)? {
-            Ok(Request::Lend(request)) if id == 0x5100_0012 => Some(request),
-            Ok(Request::Share(request)) if id == 0x5100_0013 => Some(request),
-            Ok(Request::Donate(request)) if id == 0x5100_0061 => Some(request),
-            _ => None,
-        };
-        assert!(rt; request.is_some(), "id {id:x}");
-        if let Some(request) = request {
+    for id in [0x5100_0012, 0x5100_0013, 0x5100_0061] {
+        let read = read_request(rt.alloc(), id, &TWO_PAGES)?;
+        let asked = memory_asked(read);
+        assert!(rt; asked.is_some(), "id {id:x}");
+        if let Some((id_of_kind, request)) = asked {
+            assert_eq!(rt; id_of_kind, id);
             assert_eq!(rt; request.label, 5);
             assert_eq!(rt; request.access.as_slice(), [(2, 6)].as_slice());
             assert_eq!(rt; request.memory.as_slice(), [(0x2000, 0x2000)].as_slice());
