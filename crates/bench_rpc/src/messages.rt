@@ -30,11 +30,7 @@ fn number(answer: Result<Option<Message>, RpcFault>) -> u64 {
 }
 
 /// Feeds all fragments in order, and folds the answers.
-fn feed_all(
-    assembler: &mut Assembler,
-    made: &[ArrayVec<u8, FRAGMENT_BYTES>],
-    mut sum: u64,
-) -> u64 {
+fn feed_all(assembler: &mut Assembler, made: &[ArrayVec<u8, FRAGMENT_BYTES>], mut sum: u64) -> u64 {
     for fragment in made {
         sum = folded(sum, number(assembler.feed(fragment.as_slice())));
     }

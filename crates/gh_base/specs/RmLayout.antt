@@ -19,64 +19,71 @@ entries entry width (suc n) bytes = entry bytes ∷ entries entry width n (drop 
 
 -- ---- a memory request
 
--- an access entry is four bytes: the VM at 0 in two, and its access at 2 in one
-abbrev pub access_width : ℕ
-access_width = 4
-
-abbrev pub access_entry : List ℕ → ℕ × ℕ
-access_entry bytes = (u16_at 0 bytes, u8_at 2 bytes)
-
--- a memory entry is sixteen bytes: the address at 0 in eight, and the size at 8 in eight
-abbrev pub memory_width : ℕ
-memory_width = 16
-
-abbrev pub memory_entry : List ℕ → ℕ × ℕ
-memory_entry bytes = (u64_at 0 bytes, u64_at 8 bytes)
-
--- the type of memory at 0 in one byte
+-- the type of memory at 0, in one byte
 abbrev pub mem_type_of : List ℕ → ℕ
 mem_type_of bytes = u8_at 0 bytes
 
--- flags at 2 in one byte, of which bit 1 says that memory is to be appended
+-- flags at 2, in one byte, of which bit 1 says that memory is to be appended
 abbrev pub appends : List ℕ → Bool
 appends bytes = u8_at 2 bytes / 2 % 2 == 1
 
--- the label at 4 in four bytes
+-- the label at 4, in four bytes
 abbrev pub label_of : List ℕ → ℕ
 label_of bytes = u32_at 4 bytes
 
--- the number of access entries at 8 in four bytes, and these entries from 12 on
+-- the number of access entries at 8, in four bytes
 abbrev pub access_count : List ℕ → ℕ
 access_count bytes = u32_at 8 bytes
 
+-- the access entries from 12 on
 abbrev pub access_at : ℕ
 access_at = 12
 
--- behind these the number of memory entries in two of four bytes
+-- each of four bytes
+abbrev pub access_width : ℕ
+access_width = 4
+
+-- the VM of an access entry at 0, in two bytes, and what it may do at 2, in one
+abbrev pub access_entry : List ℕ → ℕ × ℕ
+access_entry bytes = (u16_at 0 bytes, u8_at 2 bytes)
+
+-- behind the access entries the number of memory entries, in two bytes
 abbrev pub memory_count_at : List ℕ → ℕ
 memory_count_at bytes = access_at + access_count bytes * access_width
 
+-- this number
 abbrev pub memory_count : List ℕ → ℕ
 memory_count bytes = u16_at (memory_count_at bytes) bytes
 
+-- with two bytes more it takes four
 abbrev pub memory_count_width : ℕ
 memory_count_width = 4
 
--- then the memory entries
+-- the memory entries behind it
 abbrev pub memory_at : List ℕ → ℕ
 memory_at bytes = memory_count_at bytes + memory_count_width
 
--- behind these the number of attributes in four bytes
+-- each of sixteen bytes
+abbrev pub memory_width : ℕ
+memory_width = 16
+
+-- the address of a memory entry at 0, in eight bytes, and its size at 8, in eight
+abbrev pub memory_entry : List ℕ → ℕ × ℕ
+memory_entry bytes = (u64_at 0 bytes, u64_at 8 bytes)
+
+-- behind the memory entries the number of attributes
 abbrev pub attribute_count_at : List ℕ → ℕ
 attribute_count_at bytes = memory_at bytes + memory_count bytes * memory_width
 
+-- this number
 abbrev pub attribute_count : List ℕ → ℕ
 attribute_count bytes = u32_at (attribute_count_at bytes) bytes
 
+-- it takes four bytes
 abbrev pub attribute_count_width : ℕ
 attribute_count_width = 4
 
--- and then nothing more
+-- and behind it stands nothing
 abbrev pub memory_request_length : List ℕ → ℕ
 memory_request_length bytes = attribute_count_at bytes + attribute_count_width
 
@@ -104,17 +111,19 @@ memory_refusal bytes =
 
 -- ---- the other requests
 
--- accept has sixteen bytes: the handle at 0 in four, and the address at 8 in eight
+-- accept has sixteen bytes
 abbrev pub accept_width : ℕ
 accept_width = 16
 
+-- the handle at 0, in four bytes, and the address at 8, in eight
 abbrev pub accept_asked : List ℕ → Request
 accept_asked bytes = Accept (u32_at 0 bytes) (u64_at 8 bytes)
 
--- release and reclaim have eight bytes: the handle at 0 in four
+-- release and reclaim have eight bytes
 abbrev pub handle_width : ℕ
 handle_width = 8
 
+-- the handle at 0, in four bytes
 abbrev pub handle_of : List ℕ → ℕ
 handle_of bytes = u32_at 0 bytes
 

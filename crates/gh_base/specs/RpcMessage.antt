@@ -11,18 +11,21 @@ use Rattle.gh_base.specs.declared.fragment.FragmentKind.TheVariants.{Continuatio
 use Rattle.gh_base.specs.declared.fragment.Header.{Header}
 use Rattle.gh_base.specs.declared.fragment.Message.{Message}
 
--- the header, by offset: a byte of version, a byte of kind and count, two bytes of sequence and
--- four of id; then comes the payload
+-- ---- the header, by offset
 
+-- the version, in one byte
 abbrev pub version_at : ℕ
 version_at = 0
 
+-- the kind and the count of further fragments, in one byte
 abbrev pub kind_and_count_at : ℕ
 kind_and_count_at = 1
 
+-- the sequence, in two bytes
 abbrev pub sequence_at : ℕ
 sequence_at = 2
 
+-- the id, in four bytes; behind it comes the payload
 abbrev pub id_at : ℕ
 id_at = 4
 
@@ -60,6 +63,8 @@ header_bytes h =
 abbrev pub payload_of : List ℕ → List ℕ
 payload_of fragment = drop FRAGMENT_HEADER_BYTES fragment
 
+-- ---- messages
+
 -- a fragment of this version, neither too short nor too long
 pub record IsFragment (bytes : List ℕ) : Type 0 where
   pub header : FRAGMENT_HEADER_BYTES ≤ length bytes
@@ -94,6 +99,8 @@ IsBegun lacking (first ∷ others) m = Begins lacking first others m
 -- these fragments are this message: none is lacking
 abbrev pub IsMessage : List (List ℕ) → Message → Type 0
 IsMessage fragments m = IsBegun 0 fragments m
+
+-- ---- the fragments that are made of a message
 
 -- how many fragments must follow the first so that a payload has room
 abbrev pub further_fragments : List ℕ → ℕ

@@ -72,10 +72,10 @@ memory_written : (e : ℕ × ℕ) (rest : List ℕ) → (e.0 < 2 ^ 64) × (e.1 <
     → memory_entry (memory_entry_bytes e ++ rest) ≡ e
 memory_written e rest fits =
     ap (λ address. (address, u64_at 8 (memory_entry_bytes e ++ rest)))
-      (u64_front e.0 (to_le_bytes w64 e.1 ++ rest) fits.0)
+    (u64_front e.0 (to_le_bytes w64 e.1 ++ rest) fits.0)
     ∙ ap (λ size. (e.0, size))
-      (u64_behind 8 (memory_entry_bytes e ++ rest) (to_le_bytes w64 e.1 ++ rest) refl
-      ∙ u64_front e.1 rest fits.1)
+    (u64_behind 8 (memory_entry_bytes e ++ rest) (to_le_bytes w64 e.1 ++ rest) refl
+    ∙ u64_front e.1 rest fits.1)
 
 -- ---- a memory request
 
@@ -122,14 +122,14 @@ behind_access r =
 
 behind_count : (r : MemRequest)
     → drop (12 + length r.access * 4 + 4) (memory_bytes r)
-      ≡ flat_map memory_entry_bytes r.memory ++ 0 ∷ 0 ∷ 0 ∷ 0 ∷ []
+    ≡ flat_map memory_entry_bytes r.memory ++ 0 ∷ 0 ∷ 0 ∷ 0 ∷ []
 behind_count r = behind (12 + length r.access * 4) 4 (memory_bytes r) (memory_part_bytes r) (behind_access r)
 
 behind_memory : (r : MemRequest)
     → drop (12 + length r.access * 4 + 4 + length r.memory * 16) (memory_bytes r) ≡ 0 ∷ 0 ∷ 0 ∷ 0 ∷ []
 behind_memory r =
     behind (12 + length r.access * 4 + 4) (length r.memory * 16) (memory_bytes r)
-      (flat_map memory_entry_bytes r.memory ++ 0 ∷ 0 ∷ 0 ∷ 0 ∷ []) (behind_count r)
+    (flat_map memory_entry_bytes r.memory ++ 0 ∷ 0 ∷ 0 ∷ 0 ∷ []) (behind_count r)
     ∙ behind_part (length r.memory * 16) (flat_map memory_entry_bytes r.memory) (0 ∷ 0 ∷ 0 ∷ 0 ∷ []) (memory_length r)
 
 whole_length : (r : MemRequest)
@@ -137,8 +137,13 @@ whole_length : (r : MemRequest)
 whole_length r =
     let access = flat_map access_entry_bytes r.access in
     let memory = flat_map memory_entry_bytes r.memory in
-    omega (arith, length-append access (memory_part_bytes r), length-append memory (0 ∷ 0 ∷ 0 ∷ 0 ∷ []),
-      access_length r, memory_length r)
+    omega (
+      arith,
+      length-append access (memory_part_bytes r),
+      length-append memory (0 ∷ 0 ∷ 0 ∷ 0 ∷ []),
+      access_length r,
+      memory_length r,
+    )
 
 is_written : (r : MemRequest) → MemoryFits r → IsWritten r
 unfolding u32_at
@@ -152,7 +157,7 @@ is_written r fits = record {
       r.access (memory_part_bytes r) fits.vms;
   memory = ap (entries memory_entry 16 (length r.memory)) (behind_count r)
       ∙ entries_written memory_entry 16 memory_entry_bytes (λ e. (e.0 < 2 ^ 64) × (e.1 < 2 ^ 64)) memory_written
-        (λ e rest. refl) r.memory (0 ∷ 0 ∷ 0 ∷ 0 ∷ []) (λ k d below. (fits.addresses k d below, fits.sizes k d below));
+      (λ e rest. refl) r.memory (0 ∷ 0 ∷ 0 ∷ 0 ∷ []) (λ k d below. (fits.addresses k d below, fits.sizes k d below));
 }
 
 memory_not_refused : (r : MemRequest) → MemoryFits r → memory_refusal (memory_bytes r) ≡ None
@@ -175,8 +180,10 @@ request_read (Lend r) fits = rw (memory_not_refused r fits, memory_read r fits)
 request_read (Share r) fits = rw (memory_not_refused r fits, memory_read r fits)
 request_read (Donate r) fits = rw (memory_not_refused r fits, memory_read r fits)
 request_read (Accept handle address) fits =
-    rw (u32_front handle (0 ∷ 0 ∷ 0 ∷ 0 ∷ to_le_bytes w64 address) fits.handle,
+    rw (
+      u32_front handle (0 ∷ 0 ∷ 0 ∷ 0 ∷ to_le_bytes w64 address) fits.handle,
       u64_behind 8 (request_bytes (Accept handle address)) (to_le_bytes w64 address ++ []) refl,
-      u64_front address [] fits.address)
+      u64_front address [] fits.address,
+    )
 request_read (Release handle) fits = rw (u32_front handle (0 ∷ 0 ∷ 0 ∷ 0 ∷ []) fits)
 request_read (Reclaim handle) fits = rw (u32_front handle (0 ∷ 0 ∷ 0 ∷ 0 ∷ []) fits)

@@ -7,13 +7,21 @@ use gh_base::{MemRequest, NoMemory, RmError, Sequence, u16_at, u32_at, u64_at};
 use std::alloc::Global;
 
 const MEM_TYPE_AT: usize = 0;
+
 const FLAGS_AT: usize = 2;
+
 const LABEL_AT: usize = 4;
+
 const ACCESS_COUNT_AT: usize = 8;
+
 const ACCESS_AT: usize = 12;
+
 const ACCESS_WIDTH: usize = 4;
+
 const MEMORY_COUNT_WIDTH: usize = 4;
+
 const MEMORY_WIDTH: usize = 16;
+
 const ATTRIBUTE_COUNT_WIDTH: usize = 4;
 
 /// How many entries of each kind a payload has.
@@ -121,10 +129,7 @@ fn asked(alloc: Global, payload: &[u8], counts: Counts) -> Result<MemRequest, No
 }
 
 /// What a payload asks for, or the first error that it shows by itself.
-pub fn read_memory(
-    alloc: Global,
-    payload: &[u8],
-) -> Result<Result<MemRequest, RmError>, NoMemory>
+pub fn read_memory(alloc: Global, payload: &[u8]) -> Result<Result<MemRequest, RmError>, NoMemory>
     ensures { IfOk result (λ read.
         read ≡ unless_refused (memory_refusal payload.now) (memory_asked payload.now)) }
 {

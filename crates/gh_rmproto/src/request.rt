@@ -11,6 +11,7 @@ use gh_base::{
 use std::alloc::Global;
 
 const ACCEPT_BYTES: usize = 16;
+
 const HANDLE_BYTES: usize = 8;
 
 /// Whether the id is that of a request.

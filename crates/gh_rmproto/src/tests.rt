@@ -39,11 +39,26 @@ fn a_request_has_its_fields(rt: HostRuntime) -> Result<(), Fail> {
         }
     }
     let accept = read_request(rt.alloc(), ACCEPT_ID, &ACCEPT)?;
-    assert!(rt; matches!(accept, Ok(Request::Accept { handle: 9, address: 0x0040_0000 })));
+    assert!(rt;
+        matches!(
+            accept,
+            Ok(Request::Accept {
+                handle: 9,
+                address: 0x0040_0000
+            })
+        )
+    );
     let release = read_request(rt.alloc(), RELEASE_ID, &[1, 2, 0, 0, 7, 7, 7, 7])?;
     assert!(rt; matches!(release, Ok(Request::Release { handle: 513 })));
     let reclaim = read_request(rt.alloc(), RECLAIM_ID, &[0, 0, 0, 0x80, 7, 7, 7, 7])?;
-    assert!(rt; matches!(reclaim, Ok(Request::Reclaim { handle: 0x8000_0000 })));
+    assert!(rt;
+        matches!(
+            reclaim,
+            Ok(Request::Reclaim {
+                handle: 0x8000_0000
+            })
+        )
+    );
     Ok(())
 }
 
@@ -95,7 +110,11 @@ fn the_layout_is_told_before_the_append_bit_and_this_before_the_type(
         payload[2] = flags;
         let cut = payload.get(..length).unwrap_or(&[]);
         let read = read_request(rt.alloc(), SHARE_ID, cut)?;
-        assert_eq!(rt; read.err(), error, "{length} bytes, flags {flags}, type {mem_type}");
+        assert_eq!(rt;
+            read.err(),
+            error,
+            "{length} bytes, flags {flags}, type {mem_type}"
+        );
     }
     Ok(())
 }

@@ -38,5 +38,5 @@ unfolding fault_of progress_of
 continuation_fed p bytes it =
     let whole : fragment_fault bytes ≡ None = no_fragment_fault bytes it.fragment in
     let comes : continuation_fault (Some p) (header_of bytes) ≡ None =
-        grind (arith, common_steps, it.same_sequence, it.same_id) in
+    grind (arith, common_steps, it.same_sequence, it.same_id) in
     rw (whole, it.kind, comes)

@@ -37,9 +37,9 @@ pub making_on : (m : Message) (count done : ℕ) (left : List ℕ) (made : List 
     → IsMaking m count (done + 1) (drop 232 left) (made ++ filled m Continuation (drop 232 left) ∷ [])
 making_on m count done left made so below = record {
   so_far = append_assoc made (filled m Continuation (drop 232 left) ∷ [])
-          (continuations m (count - (done + 1)) (drop 232 (drop 232 left)))
+      (continuations m (count - (done + 1)) (drop 232 (drop 232 left)))
       ∙ sym (ap (λ others. made ++ others)
-          (continuations_of m (count - (done + 1)) (count - done) (drop 232 left) (omega arith)))
+      (continuations_of m (count - (done + 1)) (count - done) (drop 232 left) (omega arith)))
       ∙ so.so_far;
 }
 

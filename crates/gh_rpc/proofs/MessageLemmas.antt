@@ -83,8 +83,8 @@ fragments_are_message m within =
       id = sym (ap (λ h. h.id) read);
       continued = continuations_continue m n rest within;
       payload = sym (
-        ap (λ bs. bs ++ flat_map payload_of (continuations m n rest)) (filled_payload m Request m.payload)
-        ∙ ap (λ bs. take 232 m.payload ++ bs)
+          ap (λ bs. bs ++ flat_map payload_of (continuations m n rest)) (filled_payload m Request m.payload)
+          ∙ ap (λ bs. take 232 m.payload ++ bs)
           (continuations_payload m n rest (omega (arith, length-drop 232 m.payload, left_fits (length m.payload))))
-        ∙ take-append-drop 232 m.payload);
+          ∙ take-append-drop 232 m.payload);
     }

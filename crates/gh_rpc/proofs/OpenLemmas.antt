@@ -78,8 +78,8 @@ goes_on p (first ∷ others) bytes wanted it continues = record {
   payload = ap (λ bs. bs ++ payload_of bytes) it.payload
       ∙ append_assoc (payload_of first) (flat_map payload_of others) (payload_of bytes)
       ∙ ap (λ bs. payload_of first ++ bs)
-        (ap (λ bs. flat_map payload_of others ++ bs) (sym (append-nil (payload_of bytes)))
-        ∙ sym (flat_map-append payload_of others (bytes ∷ [])));
+      (ap (λ bs. flat_map payload_of others ++ bs) (sym (append-nil (payload_of bytes)))
+      ∙ sym (flat_map-append payload_of others (bytes ∷ [])));
 }
 
 grows_by_continuation : (p : Progress) (stream : List (List ℕ)) (bytes : List ℕ) → IsFragment bytes
@@ -203,17 +203,17 @@ unfolding grown
 stays_open n p [] lacking all =
     let left : p.lacking ≡ suc n = omega arith in
     rw (accepted_part p n left) (
-      ap (λ k. Some (record p { lacking = k })) left
-      ∙ ap (λ bs. Some (record { message = record p.message { payload = bs }; lacking = suc n }))
-        (sym (append-nil p.message.payload)))
+    ap (λ k. Some (record p { lacking = k })) left
+    ∙ ap (λ bs. Some (record { message = record p.message { payload = bs }; lacking = suc n }))
+    (sym (append-nil p.message.payload)))
 stays_open n p (bytes ∷ others) lacking all =
     let next = continuation_fed p bytes (All-head (Continues p.message.id p.message.sequence) bytes others all) in
     let more : p.lacking ≡ suc (length others + suc n) = omega arith in
     rw (accepted_part p (length others + suc n) more, next) (
-      stays_open n (continued p (payload_of bytes)) others (omega arith)
-        (All-tail (Continues p.message.id p.message.sequence) bytes others all)
-      ∙ ap (λ bs. Some (record { message = record p.message { payload = bs }; lacking = suc n }))
-        (append_assoc p.message.payload (payload_of bytes) (flat_map payload_of others)))
+    stays_open n (continued p (payload_of bytes)) others (omega arith)
+    (All-tail (Continues p.message.id p.message.sequence) bytes others all)
+    ∙ ap (λ bs. Some (record { message = record p.message { payload = bs }; lacking = suc n }))
+    (append_assoc p.message.payload (payload_of bytes) (flat_map payload_of others)))
 
 opens : (n : ℕ) (p : Progress) (opened : Option Progress) (fragments : List (List ℕ)) → p.lacking ≡ suc n
     → IsBegun p.lacking fragments p.message → opened_behind opened fragments ≡ Some p
@@ -221,12 +221,12 @@ unfolding grown
 opens n p opened [] lacking it = absurd it
 opens n p opened (first ∷ others) lacking it =
     let message : grown (begun (header_of first) (payload_of first)).message others ≡ p.message =
-        same_message _ p.message (sym it.id) (sym it.sequence) (sym it.payload) in
+    same_message _ p.message (sym it.id) (sym it.sequence) (sym it.payload) in
     rw (request_fed opened first it.fragment it.kind it.most) (
-      stays_open n (begun (header_of first) (payload_of first)) others (omega (arith, it.count, lacking))
-        (rw (← it.id, ← it.sequence) it.continued)
-      ∙ ap (λ m. Some (record { message = m; lacking = suc n })) message
-      ∙ ap (λ k. Some (record p { lacking = k })) (sym lacking))
+    stays_open n (begun (header_of first) (payload_of first)) others (omega (arith, it.count, lacking))
+    (rw (← it.id, ← it.sequence) it.continued)
+    ∙ ap (λ m. Some (record { message = m; lacking = suc n })) message
+    ∙ ap (λ k. Some (record p { lacking = k })) (sym lacking))
 
 positive : (n : ℕ) → 0 < n → (m : ℕ) × (n ≡ suc m)
 positive n some = (n - 1, omega arith)
@@ -265,13 +265,13 @@ ends_given stream bytes m ends =
     let waiting : Result (Option Message) RpcFault = Ok None in
     let front = replicate (length ends.fragments - 1) waiting in
     let whole : answers None stream ++ (fed (opened_behind None stream) bytes).answer ∷ []
-          ≡ (answers None ends.before ++ front) ++ Ok (Some m) ∷ [] =
-        sym (answers-append None stream (bytes ∷ []))
-        ∙ ap (answers None) ends.split
-        ∙ answers-append None ends.before ends.fragments
-        ∙ ap (λ others. answers None ends.before ++ others)
-          (message_given (opened_behind None ends.before) ends.fragments m ends.message)
-        ∙ sym (append_assoc (answers None ends.before) front (Ok (Some m) ∷ []))
+    ≡ (answers None ends.before ++ front) ++ Ok (Some m) ∷ [] =
+    sym (answers-append None stream (bytes ∷ []))
+    ∙ ap (answers None) ends.split
+    ∙ answers-append None ends.before ends.fragments
+    ∙ ap (λ others. answers None ends.before ++ others)
+    (message_given (opened_behind None ends.before) ends.fragments m ends.message)
+    ∙ sym (append_assoc (answers None ends.before) front (Ok (Some m) ∷ []))
     in
     sym (last_or-append (Ok None) (answers None stream) (fed (opened_behind None stream) bytes).answer)
     ∙ ap (last_or (Ok None)) whole
@@ -299,6 +299,6 @@ begins_anew opened stream bytes rest fault given =
     let behind = opened_behind opened stream in
     answers-append opened stream (bytes ∷ rest)
     ∙ ap (λ others. answers opened stream ++ others)
-      (ap (λ a. a ∷ answers (fed behind bytes).opened rest) given
-      ∙ ap (λ o. Err fault ∷ answers o rest)
-        (fault_closes (fault_of behind bytes) (progress_of behind bytes) fault given))
+    (ap (λ a. a ∷ answers (fed behind bytes).opened rest) given
+    ∙ ap (λ o. Err fault ∷ answers o rest)
+    (fault_closes (fault_of behind bytes) (progress_of behind bytes) fault given))

@@ -69,12 +69,12 @@ gives p [] lacking all = record {
 gives p (bytes ∷ others) lacking all =
     let next = continuation_fed p bytes (All-head (Continues p.message.id p.message.sequence) bytes others all) in
     let rest = gives (continued p (payload_of bytes)) others (omega arith)
-        (All-tail (Continues p.message.id p.message.sequence) bytes others all) in
+    (All-tail (Continues p.message.id p.message.sequence) bytes others all) in
     record {
       given = rw (accepted_part p (length others) lacking, next) (
           ap (λ others. Ok None ∷ others) rest.given
           ∙ ap (λ bs. giving (record p.message { payload = bs }) (suc (length others)))
-              (append_assoc p.message.payload (payload_of bytes) (flat_map payload_of others)));
+          (append_assoc p.message.payload (payload_of bytes) (flat_map payload_of others)));
       closed = rw (accepted_part p (length others) lacking, next) rest.closed;
     }
 
@@ -99,9 +99,9 @@ message_given opened [] m it = absurd it
 message_given opened (first ∷ others) m it =
     let n : suc (length others) - 1 ≡ length others = omega arith in
     rw (request_fed opened first it.fragment it.kind it.most) (
-      (gives_message first others m it).given
-      ∙ ap (λ whole. giving whole (length others)) (grown_message first others m it)
-      ∙ ap (λ k. replicate k (Ok None) ++ Ok (Some m) ∷ []) (sym n))
+    (gives_message first others m it).given
+    ∙ ap (λ whole. giving whole (length others)) (grown_message first others m it)
+    ∙ ap (λ k. replicate k (Ok None) ++ Ok (Some m) ∷ []) (sym n))
 
 pub message_closed : (opened : Option Progress) (fragments : List (List ℕ)) (m : Message)
     → IsMessage fragments m → opened_behind opened fragments ≡ None

@@ -1,6 +1,6 @@
 //! The assembler of one sender's fragments.
 
-ghost use Rattle.std.specs.Prelude.{◌≡◌, ◌≤◌, ◌<◌, ◌+◌, ◌++◌, ◌↔◌, List, ℕ, None, Some, Ok, length, IfOk, OnErr, IsSome, IsNone};
+ghost use Rattle.std.specs.Prelude.{◌≡◌, ◌≤◌, ◌<◌, ◌+◌, ◌++◌, ◌↔◌, List, ℕ, None, Some, Ok, length, IfOk, IfSome, OnErr, IsSome, IsNone};
 ghost use Rattle.std.specs.Result.{result_err};
 ghost use Rattle.gh_base.specs.RpcMessage.{header_of, payload_of};
 ghost use Rattle.gh_base.specs.RpcAssembly.{begun, continuation_fault, continued, fault_of, fed, fragment_fault, header_fault, progress_of_kind};
@@ -10,8 +10,8 @@ use crate::header::read_header;
 use arrayvec::ArrayVec;
 use gh_base::{
     BoundedSequence, FRAGMENT_BYTES, FRAGMENT_HEADER_BYTES, FRAGMENT_PAYLOAD_BYTES,
-    FRAGMENT_VERSION, FURTHER_FRAGMENTS,
-    FragmentKind, Header, MESSAGE_PAYLOAD_BYTES, Message, RpcFault,
+    FRAGMENT_VERSION, FURTHER_FRAGMENTS, FragmentKind, Header, MESSAGE_PAYLOAD_BYTES, Message,
+    RpcFault,
 };
 use std::marker::Model;
 
@@ -187,9 +187,7 @@ impl Assembler {
     /// message lacks fragments. A request begins a message, and drops the one that was open. A
     /// fault drops the open message too. Where several faults hold, the first in the order of
     /// `RpcFault` is told. It copies the fragment's payload once, and a given message once more.
-    #[tactic(auto, unfolding(
-        gh_base::specs::RpcAssembly::fault_of, gh_base::specs::RpcAssembly::progress_of
-    ))]
+    #[tactic(auto, unfolding(gh_base::specs::RpcAssembly::fault_of, gh_base::specs::RpcAssembly::progress_of))]
     pub fn feed(&mut self, fragment: &[u8]) -> Result<Option<Message>, RpcFault>
         ensures answer { result ≡ (fed self.old fragment.now).answer }
         ensures after { self.new ≡ (fed self.old fragment.now).opened }
@@ -198,6 +196,7 @@ impl Assembler {
         ensures fault { result_err result ≡ fault_of self.old fragment.now }
         ensures dropped { OnErr result (self.new ≡ None) }
         ensures lacking { IfOk result (λ given. IsNone given ↔ IsSome self.new) }
+        ensures wanted { IfSome self.new (λ p. 0 < p.lacking) }
     {
         let before = self.numbers.take();
         let header = check(before, fragment)?;

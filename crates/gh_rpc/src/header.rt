@@ -6,7 +6,9 @@ ghost use Rattle.gh_base.specs.RpcMessage.{fragment_kind_number, fragment_kind_n
 use gh_base::{FRAGMENT_HEADER_BYTES, FRAGMENT_VERSION, FragmentKind, Header, u16_at, u32_at};
 
 const KIND_AND_COUNT_AT: usize = 1;
+
 const SEQUENCE_AT: usize = 2;
+
 const ID_AT: usize = 4;
 
 fn kind_number(kind: FragmentKind) -> u8

@@ -15,6 +15,5 @@ pub use law::{
 };
 pub use message::fragments;
 
-
 #[cfg(test)]
 mod tests;

@@ -53,10 +53,7 @@ fn further(payload: &[u8]) -> u8
 }
 
 /// A header and the payload behind it.
-fn joined(
-    header: [u8; FRAGMENT_HEADER_BYTES],
-    payload: &[u8],
-) -> ArrayVec<u8, FRAGMENT_BYTES>
+fn joined(header: [u8; FRAGMENT_HEADER_BYTES], payload: &[u8]) -> ArrayVec<u8, FRAGMENT_BYTES>
     requires { length payload.now ≤ FRAGMENT_PAYLOAD_BYTES }
     ensures { result.items ≡ header ++ payload.now }
 {

@@ -60,7 +60,11 @@ fn a_request_begins_anew_and_the_last_fragment_ends(rt: HostRuntime) {
         let answer = answer(fragments);
         assert!(rt; answer.is_ok(), "row {number}");
         let message = answer.unwrap_or(None);
-        assert!(rt; message.as_ref().is_none_or(|message| message.payload.is_empty()));
+        assert!(rt;
+            message
+                .as_ref()
+                .is_none_or(|message| message.payload.is_empty())
+        );
         let numbers = message.map(|message| (message.id, message.sequence));
         assert_eq!(rt; numbers, *given, "row {number}");
     }
@@ -140,7 +144,10 @@ fn a_message_of_36_fragments_comes_back(rt: HostRuntime) -> Result<(), Fail> {
     for (number, fragment) in made.iter().enumerate() {
         let kind = if number == 0 { 0x8d } else { 0x8c };
         let start = [0x21, kind, 3, 0, 0x13, 0, 0, 0x51];
-        assert!(rt; fragment.as_slice().starts_with(&start), "fragment {number}");
+        assert!(rt;
+            fragment.as_slice().starts_with(&start),
+            "fragment {number}"
+        );
     }
     let given = assembled(made.as_slice(), None);
     assert!(rt; given.is_some_and(|given| given.payload.as_slice() == message.payload.as_slice()));
