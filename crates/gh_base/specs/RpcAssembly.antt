@@ -1,6 +1,6 @@
 -- How fragments are put together as they come: what a fragment does to the open message, and what
 -- it answers.
-use Rattle.std.specs.Prelude.{◌==◌, ◌-◌, ℕ, Bool, not, nat_lt, List, [], ◌∷◌, ◌++◌, length, Option, None, Some, Result, Ok, Err, if◌then◌else◌}
+use Rattle.std.specs.Prelude.{◌==◌, ◌-◌, ℕ, not, nat_lt, List, [], ◌∷◌, ◌++◌, length, Option, None, Some, Result, Ok, Err, if◌then◌else◌}
 use Rattle.std.specs.Option.{option_or}
 use Rattle.gh_base.specs.Bytes.{u8_at}
 use Rattle.gh_base.specs.RpcMessage.{version_at, header_of, payload_of}

@@ -1,13 +1,9 @@
 -- What a fragment without a fault does, and when there is none.
-use Rattle.std.proofs.Common.{◌≡◌, ℕ, ◌≤◌, List, length, Option, None, Some, refl, arith, rules, ap, ◌∙◌, sym}
+use Rattle.std.proofs.Common.{◌≡◌, ℕ, ◌≤◌, List, Option, None, Some, arith}
 use Rattle.std.proofs.lemmas.Grind.{common_steps}
-use Rattle.std.specs.Option.{option_or}
-use Rattle.gh_base.specs.declared.fragment.FragmentKind.{FragmentKind}
-use Rattle.gh_base.specs.declared.fragment.FragmentKind.TheVariants.{Continuation, Request}
-use Rattle.gh_base.specs.declared.fragment.Header.{Header}
-use Rattle.gh_base.specs.declared.fragment.RpcFault.{RpcFault}
+use Rattle.gh_base.specs.declared.fragment.FragmentKind.TheVariants.{Request}
 use Rattle.gh_base.specs.RpcMessage.{Continues, IsFragment, header_of, payload_of}
-use Rattle.gh_base.specs.RpcAssembly.{Progress, accepted, begun, continuation_fault, continued, fault_of, fed, fragment_fault, header_fault, judged, kind_fault, progress_of, progress_of_kind}
+use Rattle.gh_base.specs.RpcAssembly.{Progress, accepted, begun, continuation_fault, continued, fault_of, fed, fragment_fault, kind_fault, progress_of}
 
 -- bytes that are a fragment have no fault as such
 no_fragment_fault : (bytes : List ℕ) → IsFragment bytes → fragment_fault bytes ≡ None

@@ -1,8 +1,7 @@
 -- A header reads as it was written, and what stands behind it is the payload.
-use Rattle.std.proofs.Common.{◌≡◌, ℕ, ◌+◌, ◌*◌, ◌/◌, ◌%◌, ◌<◌, ◌≤◌, ◌^◌, ◌++◌, ◌∷◌, List, length, refl, arith, sym, ◌∙◌, ap}
-use Rattle.std.specs.Int.{w16, w32, to_le_bytes, from_le_bytes}
+use Rattle.std.proofs.Common.{◌≡◌, ℕ, ◌+◌, ◌*◌, ◌/◌, ◌%◌, ◌<◌, ◌≤◌, ◌^◌, ◌++◌, List, length, refl, arith, ap}
 use Rattle.std.proofs.lemmas.Nat.{from_le_bytes-to_le_bytes_2, from_le_bytes-to_le_bytes_4}
-use Rattle.gh_base.specs.Bytes.{u8_at, u16_at, u32_at}
+use Rattle.gh_base.specs.Bytes.{u16_at, u32_at}
 use Rattle.gh_base.specs.declared.fragment.FragmentKind.{FragmentKind}
 use Rattle.gh_base.specs.declared.fragment.FragmentKind.TheVariants.{Continuation, Request, Reply, Notification}
 use Rattle.gh_base.specs.declared.fragment.Header.{Header}

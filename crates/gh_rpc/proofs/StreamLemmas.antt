@@ -1,16 +1,13 @@
 -- What streams of fragments give.
-use Rattle.std.proofs.Common.{◌≡◌, ◌↔◌, ℕ, zero, suc, ◌+◌, ◌-◌, ◌<◌, ◌≤◌, ◌++◌, ◌∷◌, ◌==◌, List, [], All, Option, None, Some, Result, Ok, Err, length, replicate, refl, arith, sym, ◌∙◌, ap, subst, append_assoc, append-nil, Bool, true, false, if◌then◌else◌, not, nat_lt}
+use Rattle.std.proofs.Common.{◌≡◌, ℕ, suc, ◌-◌, ◌++◌, ◌∷◌, List, [], All, Option, None, Some, Result, Ok, length, replicate, refl, arith, sym, ◌∙◌, ap, append_assoc, append-nil}
 use Rattle.std.specs.List.{flat_map}
 use Rattle.std.proofs.lemmas.Grind.{common_steps}
-use Rattle.std.proofs.lemmas.List.Elements.{All-nil, All-head, All-tail, All-push}
-use Rattle.gh_base.specs.declared.fragment.FragmentKind.{FragmentKind}
-use Rattle.gh_base.specs.declared.fragment.FragmentKind.TheVariants.{Continuation, Request, Reply, Notification}
-use Rattle.gh_base.specs.declared.fragment.Header.{Header}
+use Rattle.std.proofs.lemmas.List.Elements.{All-head, All-tail}
 use Rattle.gh_base.specs.declared.fragment.Message.{Message}
 use Rattle.gh_base.specs.declared.fragment.RpcFault.{RpcFault}
-use Rattle.gh_base.specs.RpcMessage.{Begins, Continues, IsBegun, IsFragment, IsMessage, header_of, payload_of}
-use Rattle.gh_base.specs.RpcAssembly.{Fed, Progress, accepted, answers, begun, continued, fault_of, fed, judged, opened_behind, progress_of}
-use Rattle.gh_rpc.specs.Stream.{EndsWith, answers_giving}
+use Rattle.gh_base.specs.RpcMessage.{Begins, Continues, IsMessage, header_of, payload_of}
+use Rattle.gh_base.specs.RpcAssembly.{Progress, accepted, answers, begun, continued, fed, opened_behind}
+use Rattle.gh_rpc.specs.Stream.{answers_giving}
 use Rattle.gh_rpc.proofs.FeedLemmas.{continuation_fed, request_fed}
 
 -- ---- streams in two parts

@@ -1,4 +1,3 @@
-use Rattle.std.proofs.Common.{arith, subst, rules, sym}
 use Rattle.gh_base.specs.RmLayout.{memory_entry, memory_width}
 use Rattle.gh_rmproto.proofs.EntryLemmas.{reading_on, reading_done}
 use Rattle.gh_rmproto.proofs.memory.memory_entries.Goals as goal
