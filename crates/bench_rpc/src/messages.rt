@@ -21,9 +21,14 @@ fn message() -> Message {
     }
 }
 
+/// The last byte; 0 where there is none.
+pub fn last_byte(bytes: &[u8]) -> u64 {
+    bytes.last().map_or(0, |byte| *byte as u64)
+}
+
 fn number(answer: Result<Option<Message>, RpcFault>) -> u64 {
     match answer {
-        Ok(Some(message)) => message.payload.len() as u64,
+        Ok(Some(message)) => last_byte(message.payload.as_slice()),
         Ok(None) => 1,
         Err(fault) => fault as u64,
     }
@@ -54,7 +59,10 @@ pub fn take_apart(alloc: Global, count: u64) -> Result<u64, NoMemory> {
     let mut sum = 0;
     for _ in 0..count {
         let made = fragments(alloc, &message)?;
-        sum = folded(sum, made.last().map_or(0, |last| last.len() as u64));
+        sum = folded(
+            sum,
+            made.last().map_or(0, |last| last_byte(last.as_slice())),
+        );
     }
     Ok(sum)
 }

@@ -1,6 +1,7 @@
 //! Operations on a request with 512 memory entries, and on replies.
 
 use crate::folded;
+use crate::messages::last_byte;
 use gh_base::{NoMemory, SHARE_ID};
 use gh_rmproto::{Request, RmError, read_request, write_reply};
 use std::alloc::Global;
@@ -26,7 +27,7 @@ fn payload(alloc: Global) -> Result<Vec<u8>, NoMemory> {
 
 fn number(read: Result<Request, RmError>) -> u64 {
     match read {
-        Ok(Request::Share(request)) => request.memory.len() as u64,
+        Ok(Request::Share(request)) => request.memory.as_slice().last().map_or(0, |last| last.0),
         Ok(_) => 1,
         Err(error) => error.number() as u64,
     }
@@ -47,8 +48,8 @@ pub fn read(alloc: Global, count: u64) -> Result<u64, NoMemory> {
 pub fn reply(count: u64) -> u64 {
     let mut sum = 0;
     for turn in 0..count {
-        let reply = write_reply(RmError::Ok, Some((turn % 1000) as u32));
-        sum = folded(sum, reply.len() as u64);
+        let reply = write_reply(RmError::Ok, Some((turn % 256) as u32 * 0x0100_0000));
+        sum = folded(sum, last_byte(reply.as_slice()));
     }
     sum
 }
