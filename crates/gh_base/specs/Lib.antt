@@ -1,8 +1,13 @@
 pub mod Access
+pub mod Bytes
 pub mod CapWord
 pub mod Counters
 pub mod Errno
 pub mod Kind
 pub mod MessageBytes
 pub mod Reply
+pub mod RmError
+pub mod RmLayout
+pub mod RpcAssembly
+pub mod RpcMessage
 pub mod Sequence

@@ -1,0 +1,7 @@
+-- What was read with what is left is the whole.
+use Rattle.gh_base.specs.RmLayout.{access_entry, access_width}
+use Rattle.gh_rmproto.proofs.EntryLemmas.{IsReading}
+use Rattle.gh_rmproto.proofs.memory.access_entries.Given as goal
+
+abbrev pub invariant-loop : goal.invariant-loop
+invariant-loop l = IsReading access_entry access_width l.count l.counter l.bytes l.left l.list

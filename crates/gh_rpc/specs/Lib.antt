@@ -1,0 +1,2 @@
+pub mod Assembler
+pub mod Stream
