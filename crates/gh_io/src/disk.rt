@@ -92,6 +92,8 @@ fn read_by_chunks<R: Reader>(
     ensures bytes { IfOk result
         (λ bytes. IfSome (R.left reader.old) (λ left. bytes.items ≡ take max left)) }
     ensures bound { IfOk result (λ bytes. vec_len bytes ≤ max) }
+    ensures rest { IfOk result
+        (λ bytes. prepend_known bytes.items (R.left reader.new) ≡ R.left reader.old) }
     ensures unsure { IsErrOf result LoadErr.Failed → R.is_sure reader.old ≡ false }
 {
     let mut bytes = Vec::new(alloc);
@@ -103,8 +105,8 @@ fn read_by_chunks<R: Reader>(
     Ok(bytes)
 }
 
-/// The first `max` bytes that a reader has left, or all of them where there are fewer. An error of a
-/// read is told, wherever it comes.
+/// The first `max` bytes that a reader has left, or all of them where there are fewer. No more of it is
+/// read. An error of a read is told, wherever it comes.
 pub(crate) fn read_front<R: Reader>(
     alloc: Global,
     reader: &mut R,
@@ -113,6 +115,8 @@ pub(crate) fn read_front<R: Reader>(
     ensures bytes { IfOk result
         (λ bytes. IfSome (R.left reader.old) (λ left. bytes.items ≡ take max left)) }
     ensures bound { IfOk result (λ bytes. vec_len bytes ≤ max) }
+    ensures rest { IfOk result
+        (λ bytes. prepend_known bytes.items (R.left reader.new) ≡ R.left reader.old) }
     ensures unsure { IsErrOf result LoadErr.Failed → R.is_sure reader.old ≡ false }
 {
     let mut chunk = zeros(alloc, CHUNK)?;

@@ -49,7 +49,7 @@ impl<'a, R: fs::Files> HostFiles<SystemDisk<'a, R>> {
         ensures asked { result.asked ≡ [] }
         ensures faults { result.faults ≡ 0 }
     {
-        HostFiles::over(SystemDisk::new(rt), alloc)
+        HostFiles::over(SystemDisk { rt }, alloc)
     }
 }
 
@@ -101,7 +101,7 @@ impl<'a, R: Print> HostSink<StandardOutput<'a, R>> {
     pub fn new(rt: &'a R) -> HostSink<StandardOutput<'a, R>>
         ensures { result.faults ≡ 0 }
     {
-        HostSink::over(StandardOutput::new(rt))
+        HostSink::over(StandardOutput { rt })
     }
 }
 

@@ -55,13 +55,7 @@ impl<F: io::Read> Reader for SystemFile<F> {
 /// The system's files, by their paths.
 #[derive(Drop)]
 pub struct SystemDisk<'a, R> {
-    rt: &'a R,
-}
-
-impl<'a, R> SystemDisk<'a, R> {
-    pub fn new(rt: &'a R) -> SystemDisk<'a, R> {
-        SystemDisk { rt }
-    }
+    pub(crate) rt: &'a R,
 }
 
 impl<'a, R: fs::Files> Disk for SystemDisk<'a, R> {
@@ -80,13 +74,7 @@ impl<'a, R: fs::Files> Disk for SystemDisk<'a, R> {
 /// Standard output.
 #[derive(Drop)]
 pub struct StandardOutput<'a, R> {
-    rt: &'a R,
-}
-
-impl<'a, R> StandardOutput<'a, R> {
-    pub fn new(rt: &'a R) -> StandardOutput<'a, R> {
-        StandardOutput { rt }
-    }
+    pub(crate) rt: &'a R,
 }
 
 impl<'a, R: Print> Writer for StandardOutput<'a, R> {

@@ -1,5 +1,5 @@
 -- What reading texts may find: no file that is too large, since sizes are looked at before.
-use Rattle.std.proofs.Common.{◌≡◌, ◌+◌, ◌-◌, ℕ, Bool, true, false, List, [], ◌∷◌, ◌++◌, length, nat_lt, Option, None, Some, Result, Ok, Err, subst}
+use Rattle.std.proofs.Common.{◌+◌, ◌-◌, ℕ, Bool, true, false, List, [], ◌∷◌, ◌++◌, length, nat_lt, Option, None, Some, Result, Ok, Err, subst}
 use Rattle.gh_base.specs.declared.ids.CpuNo.{CpuNo}
 use Rattle.gh_callfile.specs.CallFile.{Reading, Good, BadAt, reading, calls_of_lines}
 use Rattle.gh_callfile.specs.Schedule.{bad_item, cpus_of, makes_manager}
@@ -12,7 +12,6 @@ use Rattle.gunyah.specs.Input.{and_then, refused_at, boot_result, boot_input, wi
 use Rattle.gunyah.specs.Outcome.{OfForm, ReadsTexts}
 use Rattle.gunyah.specs.declared.input.StepInput.{StepInput}
 use Rattle.gunyah.specs.declared.read_err.BadFile.{BadFile}
-use Rattle.gunyah.specs.declared.read_err.BadFile.TheVariants as bad
 use Rattle.gunyah.specs.declared.read_err.ReadErr.{ReadErr}
 use Rattle.gunyah.specs.declared.read_err.ReadErr.TheVariants as stop
 

@@ -1,10 +1,7 @@
 -- Front parts: of the names that are asked, of the bytes that are taken.
-use Rattle.std.proofs.Common.{◌≡◌, ◌∙◌, sym, ℕ, zero, suc, ◌+◌, ◌-◌, ◌≤◌, ◌<◌, inl, inr, Result, Ok, Err, Bor, get_or, add-one, List, [], ◌∷◌, ◌++◌, length, take, drop, Option, None, Some, refl, ap, arith, rules, append_assoc, length-append}
-use Rattle.std.proofs.Math.Seq.{drop-cons, take-add, take-append-add, take-append_seam}
+use Rattle.std.proofs.Common.{◌≡◌, ◌∙◌, sym, ℕ, zero, suc, ◌+◌, ◌-◌, List, [], ◌∷◌, ◌++◌, length, take, drop, Option, None, Some, refl, ap, arith, append_assoc, length-append}
+use Rattle.std.proofs.Math.Seq.{take-add}
 use Rattle.std.specs.Io.KnownBytes.{append_known}
-use Rattle.gunyah.specs.declared.read_err.ReadErr.{ReadErr}
-use Rattle.gunyah.specs.declared.read_err.ReadErr.TheVariants as stop
-use Rattle.gunyah.specs.Words.{texts_of}
 use Rattle.gunyah.specs.Outcome.{TookFirst}
 
 -- bytes taken behind others of one output are a longer front part of it
@@ -32,9 +29,3 @@ pub took_first : (before now : Option (List ℕ)) (bytes : List ℕ) (count : �
 took_first None now bytes count taken = taken
 took_first (Some before) None bytes count taken = absurd (cc)
 took_first (Some before) (Some now) bytes count taken = ap Some (grew_by_first before now bytes count (cc))
-
--- nothing was taken
-pub took_nothing : (before now : Option (List ℕ)) (bytes : List ℕ) → now ≡ before → TookFirst before now bytes
-took_nothing None now bytes same = same
-took_nothing (Some before) None bytes same = absurd (cc)
-took_nothing (Some before) (Some now) bytes same = ap Some (grew_by_first before now bytes 0 (search rules))
