@@ -50,7 +50,7 @@ abbrev pub HasCause : Status → Option (List (List ℕ)) → Type 0
 HasCause Done texts = HoldRun texts
 HasCause Usage texts = ⊤
 HasCause ReadFault texts = ⊤
-HasCause WriteFault texts = ⊤
+HasCause WriteFault texts = HoldRun texts
 HasCause (BadBoot line) texts = FirstFault (bad.Boot line) texts
 HasCause (BadCalls file line) texts = FirstFault (bad.Calls file line) texts
 HasCause (BadSchedule item) texts = FirstFault (bad.Schedule item) texts
