@@ -1,7 +1,14 @@
--- What callers see of the real files: what happened, and nothing of what they hold.
+-- What callers see of files and of a sink over a system's calls.
 use Rattle.std.specs.Prelude.{ℕ, List}
+use Rattle.gh_io.specs.declared.files.Request.{Request}
 
--- the names asked, and the count of faults
-pub record FilesOutside : Type 0 where
-  pub asked : List (List ℕ)
+-- files that are opened, what was asked for, and the count of faults
+pub record FilesOf (D : Type 0) : Type 0 where
+  pub disk : D
+  pub asked : List Request
+  pub faults : ℕ
+
+-- a stream that is written, and the count of faults
+pub record SinkOf (W : Type 0) : Type 0 where
+  pub writer : W
   pub faults : ℕ

@@ -8,6 +8,7 @@ use Rattle.std.specs.declared.string.String.{String}
 use Rattle.gh_io.specs.Outside.{one_more}
 use Rattle.gh_io.specs.declared.files.LoadErr.{LoadErr}
 use Rattle.gh_io.specs.declared.files.LoadErr.TheVariants as load
+use Rattle.gh_io.specs.declared.files.Request.{Request}
 use Rattle.gh_io.specs.declared.sink.PutErr.{PutErr}
 use Rattle.gh_io.specs.declared.sink.PutErr.TheVariants as put
 
@@ -47,10 +48,10 @@ after_call plan failed =
       faults = if failed then one_more plan.faults else plan.faults;
     }
 
--- files over memory, the names asked, and the loads that are to fail
+-- files over memory, what was asked for, and the loads that are to fail
 pub record FilesInMemory : Type 0 where
   pub entries : Entries
-  pub asked : List (List ℕ)
+  pub asked : List Request
   pub plan : FaultPlan
 
 -- the next load fails, if it is of this name: it is to fail, or no entry has the name
@@ -62,18 +63,18 @@ abbrev pub next_bytes : FilesInMemory → List ℕ → ℕ → Option (List ℕ)
 next_bytes files name most =
     if load_fails files name then None else Some (take most (contents_of files.entries name))
 
--- after a load: an answer adds its name and counts as a call; without memory all stays
-abbrev pub after_load : {T : Type 0} → FilesInMemory → List ℕ → Result T LoadErr → FilesInMemory
-after_load files name (Ok _) =
-    record files { asked = files.asked ++ name ∷ []; plan = after_call files.plan false }
-after_load files name (Err load.Failed) =
-    record files { asked = files.asked ++ name ∷ []; plan = after_call files.plan true }
-after_load files name (Err load.NoMemory) = files
+-- after a load: an answer adds its request and counts as a call; without memory all stays
+abbrev pub after_load : {T : Type 0} → FilesInMemory → Request → Result T LoadErr → FilesInMemory
+after_load files asks (Ok _) =
+    record files { asked = files.asked ++ asks ∷ []; plan = after_call files.plan false }
+after_load files asks (Err load.Failed) =
+    record files { asked = files.asked ++ asks ∷ []; plan = after_call files.plan true }
+after_load files asks (Err load.NoMemory) = files
 
--- files over memory of which no load fails, and the names asked
+-- files over memory of which no load fails, and what was asked for
 pub record SureFilesInMemory : Type 0 where
   pub entries : Entries
-  pub asked : List (List ℕ)
+  pub asked : List Request
 
 -- a sink over memory: the bytes taken, the most bytes of a put, and the puts that are to fail
 pub record SinkInMemory : Type 0 where

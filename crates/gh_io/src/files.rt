@@ -3,7 +3,7 @@
 ghost use Rattle.std.specs.Prelude.{◌≡◌, ◌≤◌, ℕ, List, Option, Bool, false, IfOk, OnOk, IsErrOf, vec_len};
 ghost use Rattle.gh_io.specs.Outside.{Rose, IsFront, Asks};
 
-use gh_base::NoMemory;
+use gh_base::{NoMemory, Sequence};
 use std::alloc::{AllocError, Global};
 
 /// Why a file isn't loaded.
@@ -11,6 +11,7 @@ use std::alloc::{AllocError, Global};
 pub enum LoadErr {
     /// The outside failed, and the count of faults rose.
     Failed,
+    /// Memory ran out, which is no fault of the outside.
     NoMemory,
 }
 
@@ -34,13 +35,22 @@ impl From<AllocError> for LoadErr {
     }
 }
 
+/// What a load asks for: the file of a name, and so many bytes of it at most.
+#[derive(Debug, Drop)]
+pub struct Request {
+    pub name: Sequence<u8>,
+    pub most: usize,
+}
+
 /// Files that are loaded by name.
 pub trait Files {
+    ghost use Rattle.gh_io.specs.declared.files.Request.{Request};
+
     /// How often the outside has failed. The count never falls.
     ghost faults: { Self → ℕ };
 
-    /// The names asked so far, oldest first.
-    ghost asked: { Self → List (List ℕ) };
+    /// What was asked for so far, oldest first.
+    ghost asked: { Self → List Request };
 
     /// The contents by name, where they are told; no bytes for a name that they don't hold.
     ghost contents: { Self → Option (List ℕ → List ℕ) };
@@ -58,9 +68,10 @@ pub trait Files {
         ensures failed { IsErrOf result LoadErr.Failed → Rose (faults self.old) (faults self.new) }
         ensures unsure { IsErrOf result LoadErr.Failed → is_sure self.old ≡ false }
 
-        ensures asked { Asks result (asked self.old) (asked self.new) name.now }
+        ensures asked { Asks result (asked self.old) (asked self.new) name.now max }
         ensures never_falls { faults self.old ≤ faults self.new }
         ensures ok { OnOk result (faults self.new ≡ faults self.old) }
+        ensures no_memory { IsErrOf result LoadErr.NoMemory → faults self.new ≡ faults self.old }
 
         // What no call changes.
         ensures told { contents self.new ≡ contents self.old }

@@ -1,117 +1,125 @@
-//! The trusted edge: real files and standard output. Nothing is told of what they hold or receive.
+//! Files and a sink over a system's calls, which count its faults.
 
 ghost use Rattle.std.specs.Prelude.{◌≡◌, ◌≤◌, [], IfOk, None, false, vec_len};
 
-use crate::files::{Files, LoadErr};
-use crate::names::note_name;
+use crate::disk::{Disk, read_file};
+use crate::files::{Files, LoadErr, Request};
+use crate::requests::note_request;
 use crate::sink::{PutErr, Sink};
+use crate::system::{StandardOutput, SystemDisk};
+use crate::writer::Writer;
 use gh_base::Sequence;
 use std::alloc::Global;
-use std::fs::{File, OpenFile};
-use std::io::{ErrorKind, Read};
+use std::fs;
 use std::marker::Model;
-use std::{fs, io};
 
-/// Real files, by their paths. Each error of the system, but for want of memory, counts as a fault.
+/// Files of a disk, by default the system's, where names are paths. Each error of the disk but want
+/// of memory counts as a fault.
 #[derive(Drop)]
-pub struct HostFiles<'a, R> {
-    rt: &'a R,
-    asked: Sequence<Sequence<u8>>,
+pub struct HostFiles<D> {
+    disk: D,
+    asked: Sequence<Request>,
     faults: u64,
 }
 
-impl<'a, R> Model for HostFiles<'a, R> {
-    ghost use Rattle.gh_io.specs.Host.{FilesOutside};
+impl<D> Model for HostFiles<D> {
+    ghost use Rattle.gh_io.specs.Host.{FilesOf};
 
-    ghost Value = { FilesOutside };
+    ghost Value = { FilesOf D };
 
-    ghost view = { λ f. record { asked = f.asked; faults = f.faults } };
+    ghost view = { λ f. record { disk = f.disk; asked = f.asked; faults = f.faults } };
 }
 
-impl<'a, R: fs::Files> HostFiles<'a, R> {
-    pub fn new(rt: &'a R, alloc: Global) -> HostFiles<'a, R>
-        ensures { result ≡ record { asked = []; faults = 0 } }
+impl<D> HostFiles<D> {
+    /// No file is asked for yet.
+    pub fn over(disk: D, alloc: Global) -> HostFiles<D>
+        ensures { result ≡ record { disk = disk; asked = []; faults = 0 } }
     {
         HostFiles {
-            rt,
+            disk,
             asked: Sequence::new(alloc),
             faults: 0,
         }
     }
 }
 
-/// The first `max` bytes of a file, in a buffer of about the file's size. No more of it is read.
-fn read_front<R: fs::Files>(rt: &R, alloc: Global, path: &str, max: usize) -> io::Result<Vec<u8>>
-    ensures { IfOk result (λ bytes. vec_len bytes ≤ max) }
-{
-    let file = File::open(rt, path)?;
-    // A byte more than will come, so that the read that finds the end needs no more room.
-    let room = file.metadata()?.len().min(max as u64).saturating_add(1);
-    let mut bytes = Vec::with_capacity(alloc, room as usize)?;
-    file.take(max as u64).read_to_end(&mut bytes)?;
-    bytes.truncate(max);
-    Ok(bytes)
+impl<'a, R: fs::Files> HostFiles<SystemDisk<'a, R>> {
+    /// The system's files.
+    pub fn new(rt: &'a R, alloc: Global) -> HostFiles<SystemDisk<'a, R>>
+        ensures asked { result.asked ≡ [] }
+        ensures faults { result.faults ≡ 0 }
+    {
+        HostFiles::over(SystemDisk { rt }, alloc)
+    }
 }
 
-impl<'a, R: fs::Files> Files for HostFiles<'a, R> {
+impl<D: Disk> Files for HostFiles<D> {
     ghost faults = { λ files. files.faults };
 
     ghost asked = { λ files. files.asked };
 
-    ghost contents = { λ _. None };
+    ghost contents = { λ files. D.contents files.disk };
 
-    ghost is_sure = { λ _. false };
+    ghost is_sure = { λ files. D.is_sure files.disk };
 
     fn load(&mut self, alloc: Global, name: &str, max: usize) -> Result<Vec<u8>, LoadErr> {
-        let read = match read_front(self.rt, alloc, name, max) {
-            Err(error) if error.kind() == ErrorKind::OutOfMemory => return Err(LoadErr::NoMemory),
-            read => read.ok(),
-        };
-        note_name(alloc, &mut self.asked, name)?;
-        if read.is_none() {
+        note_request(alloc, &mut self.asked, name, max)?;
+        let loaded = read_file(alloc, &self.disk, name, max);
+        if matches!(loaded, Err(LoadErr::Failed)) {
             self.faults = self.faults.saturating_add(1);
         }
-        read.ok_or(LoadErr::Failed)
+        loaded
     }
 }
 
-/// Standard output. Each error of the system, and a write of 0 bytes, counts as a fault.
+/// A sink over a stream. Each error of the stream but want of memory counts as a fault, and so does a
+/// write that takes nothing.
 #[derive(Drop)]
-pub struct HostSink<'a, R> {
-    rt: &'a R,
+pub struct HostSink<W> {
+    writer: W,
     faults: u64,
 }
 
-impl<'a, R> Model for HostSink<'a, R> {
-    ghost use Rattle.std.specs.Prelude.{ℕ};
+impl<W> Model for HostSink<W> {
+    ghost use Rattle.gh_io.specs.Host.{SinkOf};
 
-    ghost Value = { ℕ };
+    ghost Value = { SinkOf W };
 
-    ghost view = { λ s. s.faults };
+    ghost view = { λ s. record { writer = s.writer; faults = s.faults } };
 }
 
-impl<'a, R: Print> HostSink<'a, R> {
-    pub fn new(rt: &'a R) -> HostSink<'a, R>
-        ensures { result ≡ 0 }
+impl<W> HostSink<W> {
+    pub fn over(writer: W) -> HostSink<W>
+        ensures { result ≡ record { writer = writer; faults = 0 } }
     {
-        HostSink { rt, faults: 0 }
+        HostSink { writer, faults: 0 }
     }
 }
 
-impl<'a, R: Print> Sink for HostSink<'a, R> {
-    ghost faults = { λ count. count };
+impl<'a, R: Print> HostSink<StandardOutput<'a, R>> {
+    /// Standard output.
+    pub fn new(rt: &'a R) -> HostSink<StandardOutput<'a, R>>
+        ensures { result.faults ≡ 0 }
+    {
+        HostSink::over(StandardOutput { rt })
+    }
+}
 
-    ghost taken = { λ _. None };
+impl<W: Writer> Sink for HostSink<W> {
+    ghost faults = { λ sink. sink.faults };
 
-    ghost is_sure = { λ _. false };
+    ghost taken = { λ sink. W.taken sink.writer };
+
+    ghost is_sure = { λ sink. W.is_sure sink.writer };
 
     fn put(&mut self, _alloc: Global, piece: &[u8]) -> Result<usize, PutErr> {
-        match self.rt.write_some(piece) {
-            Ok(count) if count > 0 => Ok(count),
-            _ => {
-                self.faults = self.faults.saturating_add(1);
-                Err(PutErr::Failed)
-            }
+        let put = match self.writer.write(piece) {
+            Ok(0) => Err(PutErr::Failed),
+            written => written,
+        };
+        if matches!(put, Err(PutErr::Failed)) {
+            self.faults = self.faults.saturating_add(1);
         }
+        put
     }
 }

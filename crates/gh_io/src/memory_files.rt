@@ -3,10 +3,11 @@
 ghost use Rattle.std.specs.Prelude.{◌≡◌, ◌≤◌, [], ◌∷◌, ◌++◌, take, IfOk, IfErr, OnOk, OnErr, IsErrOf, Some, true, false};
 ghost use Rattle.std.specs.Option.{option_copied, option_map};
 ghost use Rattle.gh_io.specs.Memory.{bytes_under, contents_of};
+ghost use Rattle.gh_io.specs.Outside.{request};
 
 use crate::fault_plan::FaultPlan;
-use crate::files::{Files, LoadErr};
-use crate::names::note_name;
+use crate::files::{Files, LoadErr, Request};
+use crate::requests::note_request;
 use gh_base::{NoMemory, Sequence};
 use std::alloc::Global;
 use std::marker::Model;
@@ -15,7 +16,7 @@ use std::marker::Model;
 #[derive(Debug, Drop)]
 pub struct MemFiles {
     entries: Vec<(String, Vec<u8>)>,
-    asked: Sequence<Sequence<u8>>,
+    asked: Sequence<Request>,
     plan: FaultPlan,
 }
 
@@ -31,7 +32,7 @@ impl Model for MemFiles {
 #[derive(Debug, Drop)]
 pub struct SureFiles {
     entries: Vec<(String, Vec<u8>)>,
-    asked: Sequence<Sequence<u8>>,
+    asked: Sequence<Request>,
 }
 
 impl Model for SureFiles {
@@ -84,6 +85,13 @@ impl MemFiles {
         }
     }
 
+    /// What was asked for so far, oldest first.
+    pub fn asked(&self) -> &[Request]
+        ensures { result.now ≡ self.now.asked }
+    {
+        self.asked.as_slice()
+    }
+
     /// The bytes that the next load of this name gives; none where it fails.
     fn next_bytes(&self, alloc: Global, name: &str, max: usize) -> Result<Option<Vec<u8>>, NoMemory>
         ensures { IfOk result
@@ -110,11 +118,11 @@ impl Files for MemFiles {
     fn load(&mut self, alloc: Global, name: &str, max: usize) -> Result<Vec<u8>, LoadErr>
         ensures bytes { IfOk result (λ bytes. Some bytes.items ≡ next_bytes self.old name.now max) }
         ensures failed { IsErrOf result LoadErr.Failed → load_fails self.old name.now ≡ true }
-        ensures after { self.new ≡ after_load self.old name.now result }
+        ensures after { self.new ≡ after_load self.old (request name.now max) result }
         ensures never_falls { self.old.plan.faults ≤ self.new.plan.faults }
     {
         let bytes = self.next_bytes(alloc, name, max)?;
-        note_name(alloc, &mut self.asked, name)?;
+        note_request(alloc, &mut self.asked, name, max)?;
         self.plan.count(bytes.is_none());
         bytes.ok_or(LoadErr::Failed)
     }
@@ -130,6 +138,13 @@ impl SureFiles {
             entries,
             asked: Sequence::new(alloc),
         }
+    }
+
+    /// What was asked for so far, oldest first.
+    pub fn asked(&self) -> &[Request]
+        ensures { result.now ≡ self.now.asked }
+    {
+        self.asked.as_slice()
     }
 }
 
@@ -147,12 +162,12 @@ impl Files for SureFiles {
             (λ bytes. bytes.items ≡ take max (contents_of self.old.entries name.now)) }
         ensures memory { IfErr result (λ e. e ≡ LoadErr.NoMemory) }
         ensures ok { OnOk result
-            (self.new ≡ record self.old { asked = self.old.asked ++ name.now ∷ [] }) }
+            (self.new ≡ record self.old { asked = self.old.asked ++ request name.now max ∷ [] }) }
         ensures err { OnErr result (self.new ≡ self.old) }
     {
         let bytes = bytes_under(self.entries.as_slice(), name).unwrap_or(&[]);
         let front = copy_front(alloc, bytes, max)?;
-        note_name(alloc, &mut self.asked, name)?;
+        note_request(alloc, &mut self.asked, name, max)?;
         Ok(front)
     }
 }

@@ -95,7 +95,7 @@ impl Model for SureSink {
 }
 
 impl SureSink {
-    /// An empty sink, which takes no memory yet.
+    /// A sink that has taken nothing.
     pub fn new(alloc: Global) -> SureSink
         ensures { result ≡ [] }
     {

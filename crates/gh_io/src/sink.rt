@@ -12,6 +12,7 @@ use std::alloc::{AllocError, Global};
 pub enum PutErr {
     /// The outside failed, and the count of faults rose.
     Failed,
+    /// Memory ran out, which is no fault of the outside.
     NoMemory,
 }
 
@@ -61,5 +62,6 @@ pub trait Sink {
 
         ensures never_falls { faults self.old ≤ faults self.new }
         ensures ok { OnOk result (faults self.new ≡ faults self.old) }
+        ensures no_memory { IsErrOf result PutErr.NoMemory → faults self.new ≡ faults self.old }
         ensures sure { is_sure self.new ≡ is_sure self.old };
 }

@@ -1,8 +1,11 @@
-//! Loads and puts that are to fail, and the real edge: a file, a stream, and streams that fail.
+//! Loads and puts that are to fail, files of short reads, and the real edge: a file, a stream, and
+//! streams that fail.
+
+ghost use Rattle.std.specs.Prelude.{None, false};
 
 use crate::{
-    Files, Gate, HostFiles, HostSink, LoadErr, MemFiles, MemSink, NoGate, PutErr, Sink, SureFiles,
-    SureSink,
+    Disk, Files, Gate, HostFiles, HostSink, LoadErr, MemFiles, MemSink, NoGate, PutErr, Reader,
+    Sink, SureFiles, SureSink,
 };
 use gh_base::{CpuNo, NoMemory};
 use std::alloc::Global;
@@ -119,6 +122,77 @@ fn a_real_file_gives_its_first_bytes(rt: HostRuntime) -> Result<(), Fail> {
             load(&mut files, alloc, name, 9).err(),
             Some(LoadErr::Failed),
             "{name}"
+        );
+    }
+    Ok(())
+}
+
+/// A file of so many zeros that gives at most so many a read. Behind them is its end, or a fault.
+#[derive(Clone, Copy, Debug)]
+struct Zeros {
+    left: usize,
+    piece: usize,
+    fault: Option<LoadErr>,
+}
+
+impl Reader for Zeros {
+    ghost left = { λ _. None };
+
+    ghost is_sure = { λ _. false };
+
+    fn read(&mut self, buffer: &mut [u8]) -> Result<usize, LoadErr> {
+        let count = self.left.min(self.piece).min(buffer.len());
+        if count == 0 {
+            if let Some(fault) = self.fault {
+                return Err(fault);
+            }
+        }
+        buffer[..count].fill(0);
+        self.left -= count;
+        Ok(count)
+    }
+}
+
+impl Disk for Zeros {
+    type File = Zeros;
+
+    ghost contents = { λ _. None };
+
+    ghost is_sure = { λ _. false };
+
+    fn open(&self, name: &str) -> Result<Zeros, LoadErr> {
+        if name == "zeros" {
+            Ok(*self)
+        } else {
+            Err(LoadErr::Failed)
+        }
+    }
+}
+
+#[test]
+fn short_reads_are_joined_and_a_fault_in_the_middle_is_told(rt: HostRuntime) -> Result<(), Fail> {
+    let alloc = rt.alloc();
+    let failed = Some(LoadErr::Failed);
+    for (left, piece, fault, name, loaded) in [
+        (10, 3, None, "zeros", Ok(10)),
+        (10, 3, failed, "zeros", Err(LoadErr::Failed)),
+        (
+            10,
+            3,
+            Some(LoadErr::NoMemory),
+            "zeros",
+            Err(LoadErr::NoMemory),
+        ),
+        (10, 3, None, " zeros", Err(LoadErr::Failed)),
+        (70_000, 70_000, None, "zeros", Ok(70_000)),
+        (90_000, 4_096, failed, "zeros", Ok(80_000)),
+    ] {
+        let mut files = HostFiles::over(Zeros { left, piece, fault }, alloc);
+        let bytes = load(&mut files, alloc, name, 80_000);
+        assert_eq!(rt;
+            bytes.map(|bytes| bytes.len()),
+            loaded,
+            "{left} {piece} {name}"
         );
     }
     Ok(())

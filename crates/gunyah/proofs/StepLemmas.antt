@@ -1,12 +1,10 @@
 -- Files as they are loaded: no more than their limit and one byte more.
-use Rattle.std.proofs.Common.{◌≡◌, ◌+◌, ◌≤◌, ◌∙◌, ◌<◌, ◌++◌, nat_le, take, drop, map, ℕ, Bool, true, false, List, [], ◌∷◌, length, get_or, Option, None, Some, IfSome, Result, Ok, Err, refl, sym, ap, arith, add-one, Bor, if◌then◌else◌}
+use Rattle.std.proofs.Common.{◌≡◌, ◌+◌, ◌≤◌, ◌∙◌, nat_le, take, ℕ, Bool, true, false, List, length, Option, None, Some, IfSome, Result, Ok, Err, refl, sym, ap, arith, if◌then◌else◌}
 use Rattle.std.proofs.lemmas.Bool.{leb-true}
 use Rattle.std.proofs.lemmas.Bool.Decides.{nat_tests}
 use Rattle.std.proofs.lemmas.List.{length-take, take_all}
-use Rattle.std.proofs.Math.Seq.{drop-cons}
 use Rattle.gh_io.specs.Outside.{IsFront}
-use Rattle.gunyah.specs.Input.{is_small, sized, sizes_on, and_then, ReadsAs, LoadsAs}
-use Rattle.gunyah.specs.Words.{texts_of}
+use Rattle.gunyah.specs.Input.{is_small, sized, ReadsAs, LoadsAs}
 use Rattle.gunyah.specs.declared.read_err.ReadErr.{ReadErr}
 use Rattle.gunyah.specs.declared.read_err.ReadErr.TheVariants as stop
 use Rattle.gunyah.specs.declared.read_err.BadFile.{BadFile}
@@ -27,32 +25,6 @@ sized_by false number text is = refl
 -- what is loaded of a file is too large where the file is, and else it is the file
 pub loaded_sized : (number : ℕ) (text : List ℕ) → sized number (take 8388609 text) ≡ sized number text
 loaded_sized number text = rw (front_small 8388608 text) (sized_by (is_small text) number text refl)
-
--- the files that are left begin with the next
-pub next_of : (file : List ℕ → List ℕ) (texts : List (List ℕ)) (names : List (Bor (List ℕ))) (i : ℕ) (other : Bor (List ℕ)) → i < length names
-    → sizes_on texts (map file (texts_of (drop i names))) ≡ and_then (sized (length texts + 1) (file (get_or names i other).now)) (λ text. sizes_on (texts ++ text ∷ []) (map file (texts_of (drop (i + 1) names))))
-next_of file texts names i other within =
-    ap (λ (left : List (Bor (List ℕ))). sizes_on texts (map file (texts_of left))) (let front : drop i names ≡ get_or names i other ∷ drop (i + 1) names = rw (add-one) (drop-cons names i other within) in front)
-
--- a stop at the next file is the stop of all
-pub stops_there : (contents : Option (List ℕ → List ℕ)) (texts : List (List ℕ)) (names : List (Bor (List ℕ))) (i : ℕ) (other : Bor (List ℕ)) (stopped : ReadErr) → i < length names
-    → IfSome contents (λ file. sizes_on texts (map file (texts_of (drop i names))) ≡ sizes_on [] (map file (texts_of names)))
-    → IfSome contents (λ file. LoadsAs (sized (length texts + 1) (file (get_or names i other).now)) (Err stopped))
-    → IfSome contents (λ file. LoadsAs (sizes_on [] (map file (texts_of names))) (Err stopped))
-stops_there None texts names i other stopped within rest stops = tt
-stops_there (Some file) texts names i other stop.Failed within rest stops = tt
-stops_there (Some file) texts names i other stop.NoMemory within rest stops = tt
-stops_there (Some file) texts names i other (stop.Bad fault) within rest stops =
-    sym rest ∙ next_of file texts names i other within ∙ ap (λ r. and_then r (λ text. sizes_on (texts ++ text ∷ []) (map file (texts_of (drop (i + 1) names))))) stops
-
--- a file more leaves the others
-pub goes_on : (contents : Option (List ℕ → List ℕ)) (texts : List (List ℕ)) (names : List (Bor (List ℕ))) (i : ℕ) (other : Bor (List ℕ)) (text : List ℕ) → i < length names
-    → IfSome contents (λ file. sizes_on texts (map file (texts_of (drop i names))) ≡ sizes_on [] (map file (texts_of names)))
-    → IfSome contents (λ file. LoadsAs (sized (length texts + 1) (file (get_or names i other).now)) (Ok text))
-    → IfSome contents (λ file. sizes_on (texts ++ text ∷ []) (map file (texts_of (drop (i + 1) names))) ≡ sizes_on [] (map file (texts_of names)))
-goes_on None texts names i other text within rest loads = tt
-goes_on (Some file) texts names i other text within rest loads =
-    sym (next_of file texts names i other within ∙ ap (λ r. and_then r (λ more. sizes_on (texts ++ more ∷ []) (map file (texts_of (drop (i + 1) names))))) loads) ∙ rest
 
 sized_same : (number : ℕ) (text bytes : List ℕ) (result : Result (List ℕ) ReadErr) → bytes ≡ take 8388609 text → ReadsAs (sized number bytes) result → LoadsAs (sized number text) result
 sized_same number text bytes (Ok value) front reads = sym (ap (sized number) front ∙ loaded_sized number text) ∙ reads

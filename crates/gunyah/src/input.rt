@@ -6,6 +6,7 @@ ghost use Rattle.gh_model.specs.Told.{told_number};
 ghost use Rattle.gh_callfile.specs.CallFile.{calls_of_lines};
 ghost use Rattle.gh_callfile.specs.Schedule.{makes_manager};
 ghost use Rattle.gunyah.specs.Input.{ReadsAs, boot_input, without_manager, schedule_input, without_items, vm_lines, call_file, calls_on, input_of};
+ghost use Rattle.gunyah.specs.Outcome.{ReadsTexts};
 
 use crate::read_err::{BadFile, ReadErr};
 use gh_base::{CALL_FILE_CALLS, CpuNo, Sequence};
@@ -167,7 +168,8 @@ fn forms(
 pub(crate) fn read_input(alloc: Global, texts: &[Sequence<u8>]) -> Result<StepInput, ReadErr>
     requires least { 2 ≤ length texts.now }
     requires most { length texts.now ≤ 10 }
-    ensures { ReadsAs (input_of texts.now) result }
+    ensures reads { ReadsAs (input_of texts.now) result }
+    ensures texts { ReadsTexts result }
 {
     forms(alloc, texts[0].as_slice(), texts[1].as_slice(), &texts[2..])
 }

@@ -1,9 +1,8 @@
 //! Loads the files of a command.
 
-ghost use Rattle.std.specs.Prelude.{◌≡◌, ◌≤◌, [], length, map, false, IfOk, IfSome, IsErrOf, OnOk};
-ghost use Rattle.gh_io.specs.Outside.{Rose};
+ghost use Rattle.std.specs.Prelude.{◌≡◌, ◌≤◌, [], length, map, false, IfOk, IfSome, IsErrOf};
 ghost use Rattle.gunyah.specs.Input.{sized, sizes_on, ReadsAs, LoadsAs};
-ghost use Rattle.gunyah.specs.Outcome.{AskedFirst, AsksFor};
+ghost use Rattle.gunyah.specs.Outcome.{Asked, AsksFor, FindsLarge, ReadFaults, ReadOf, texts_under};
 ghost use Rattle.gunyah.specs.Words.{texts_of};
 
 use crate::read_err::{BadFile, ReadErr};
@@ -13,7 +12,8 @@ use std::alloc::Global;
 
 /// A file by its number, where it isn't too large.
 fn sized_file(bytes: Vec<u8>, number: u32) -> Result<Sequence<u8>, ReadErr>
-    ensures { ReadsAs (sized number bytes.items) result }
+    ensures size { ReadsAs (sized number bytes.items) result }
+    ensures large { FindsLarge result number }
 {
     if bytes.len() > BOOT_FILE_BYTES {
         return Err(ReadErr::Bad(BadFile::TooLarge(number)));
@@ -31,13 +31,12 @@ fn load_file<F: Files>(
 ) -> Result<Sequence<u8>, ReadErr>
     ensures text { IfSome (F.contents files.old)
         (λ file. LoadsAs (sized number (file name.now)) result) }
+    ensures large { FindsLarge result number }
+    ensures asked { AsksFor result (F.asked files.old) (F.asked files.new) name.now }
 
     // A fault has its cause.
-    ensures failed { IsErrOf result ReadErr.Failed → Rose (F.faults files.old) (F.faults files.new) }
+    ensures faults { ReadFaults result (F.faults files.old) (F.faults files.new) }
     ensures unsure { IsErrOf result ReadErr.Failed → F.is_sure files.old ≡ false }
-
-    ensures asked { AsksFor result (F.asked files.old) (F.asked files.new) name.now }
-    ensures ok { OnOk result (F.faults files.new ≡ F.faults files.old) }
 
     // What no call changes.
     ensures told { F.contents files.new ≡ F.contents files.old }
@@ -50,6 +49,7 @@ fn load_file<F: Files>(
 }
 
 /// Loads the files of these names in order. The first that is too large ends it.
+#[tactic(auto, using(crate::proofs::LoadLemmas::asked_more, crate::proofs::LoadLemmas::small_more))]
 pub(crate) fn load_files<F: Files>(
     alloc: Global,
     files: &mut F,
@@ -59,10 +59,11 @@ pub(crate) fn load_files<F: Files>(
     ensures texts { IfSome (F.contents files.old)
         (λ file. LoadsAs (sizes_on [] (map file (texts_of names.now))) result) }
     ensures count { IfOk result (λ texts. length texts ≡ length names.now) }
-    ensures asked { AskedFirst (F.asked files.old) (F.asked files.new) (texts_of names.now) }
+    ensures asked { Asked (ReadOf result) (F.asked files.old) (F.asked files.new)
+        (texts_of names.now) (texts_under (F.contents files.old) (texts_of names.now)) }
 
     // A fault has its cause.
-    ensures failed { IsErrOf result ReadErr.Failed → Rose (F.faults files.old) (F.faults files.new) }
+    ensures faults { ReadFaults result (F.faults files.old) (F.faults files.new) }
     ensures unsure { IsErrOf result ReadErr.Failed → F.is_sure files.old ≡ false }
 {
     let mut texts: Sequence<Sequence<u8>> = Sequence::with_room(alloc, names.len())?;

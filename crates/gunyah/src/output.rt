@@ -32,6 +32,7 @@ fn put_rest<K: Sink>(
     ensures unsure { IsErrOf result PutErr.Failed → K.is_sure out.old ≡ false }
     ensures err { OnErr result (K.taken out.new ≡ K.taken out.old) }
     ensures ok { OnOk result (K.faults out.new ≡ K.faults out.old) }
+    ensures no_memory { IsErrOf result PutErr.NoMemory → K.faults out.new ≡ K.faults out.old }
     ensures sure { K.is_sure out.new ≡ K.is_sure out.old }
 {
     out.put(alloc, rest(output, count))
@@ -42,7 +43,11 @@ fn put_rest<K: Sink>(
 pub(crate) fn write_output<K: Sink>(alloc: Global, out: &mut K, output: &[u8]) -> Result<(), PutErr>
     ensures ok { OnOk result (K.taken out.new ≡ append_known (K.taken out.old) output.now) }
     ensures err { OnErr result (TookFirst (K.taken out.old) (K.taken out.new) output.now) }
+
+    // A fault has its cause, and there is none without it.
     ensures failed { IsErrOf result PutErr.Failed → Rose (K.faults out.old) (K.faults out.new) }
+    ensures no_memory { IsErrOf result PutErr.NoMemory → K.faults out.new ≡ K.faults out.old }
+    ensures no_fault { OnOk result (K.faults out.new ≡ K.faults out.old) }
     ensures unsure { IsErrOf result PutErr.Failed → K.is_sure out.old ≡ false }
 {
     let mut count = 0;

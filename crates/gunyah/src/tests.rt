@@ -103,16 +103,6 @@ fn worked_runs_write_their_text(rt: HostRuntime) -> Result<(), Fail> {
 }
 
 #[test]
-fn a_load_that_fails_is_told_and_nothing_is_written(rt: HostRuntime) -> Result<(), Fail> {
-    let alloc = rt.alloc();
-    let mut files = MemFiles::new(entries(alloc, boot(), "", calls())?, vec![in alloc; 2]?);
-    let mut out = SureSink::new(alloc);
-    assert_eq!(rt; step(&rt, alloc, &mut files, &mut out)?, Status::ReadFault);
-    assert!(rt; out.bytes().is_empty());
-    Ok(())
-}
-
-#[test]
 fn a_put_that_fails_is_told_and_leaves_a_front_part(rt: HostRuntime) -> Result<(), Fail> {
     let alloc = rt.alloc();
     let mut files = SureFiles::new(entries(alloc, boot(), "", calls())?);
@@ -122,25 +112,83 @@ fn a_put_that_fails_is_told_and_leaves_a_front_part(rt: HostRuntime) -> Result<(
     Ok(())
 }
 
-/// Whether these words give the usage, with nothing written.
-fn is_usage<R: Threads + Wait + Sync>(
+/// Whether these words end so and nothing is written, after just these files were asked for, each with
+/// its limit and one byte more. There are the files of `step`, and one of a byte too many.
+fn asks<R: Threads + Wait + Sync>(
     rt: &R,
     alloc: Global,
     words: &[&str],
+    failing: &[u64],
+    status: Status,
+    names: &[&str],
 ) -> Result<bool, AllocError> {
-    let mut files = SureFiles::new(Vec::new(alloc));
+    let mut entries = entries(alloc, boot(), "", "")?;
+    entries.push((
+        String::from_str(alloc, "large")?,
+        vec![in alloc; b'0'; 8_388_609]?,
+    ))?;
+    let mut files = MemFiles::new(entries, Vec::from_slice(alloc, failing)?);
     let mut out = SureSink::new(alloc);
-    let status = status_of(rt, alloc, words, &mut files, &mut out)?;
-    Ok(status == Status::Usage && out.bytes().is_empty())
+    let ended = status_of(rt, alloc, words, &mut files, &mut out)?;
+    let asked = files.asked();
+    let mut as_named = asked.len() == names.len();
+    for (request, name) in asked.iter().zip(names) {
+        as_named = as_named
+            && request.most == 8_388_609
+            && request.name.as_slice() == name.as_bytes();
+    }
+    Ok(ended == status && out.bytes().is_empty() && as_named)
 }
 
 #[test]
-fn other_words_give_the_usage(rt: HostRuntime) -> Result<(), Fail> {
+fn files_are_asked_for_in_order_up_to_the_first_fault(rt: HostRuntime) -> Result<(), Fail> {
     let alloc = rt.alloc();
-    assert!(rt; is_usage(&rt, alloc, &[])?);
-    assert!(rt; is_usage(&rt, alloc, &["step", "a"])?);
-    for verb in ["run", "check", "gen"] {
-        assert!(rt; is_usage(&rt, alloc, &[verb, "1", "1", "1"])?, "{verb}");
+    let nine = [
+        "step", "boot", "schedule", "1", "2", "3", "4", "5", "6", "7", "8", "9",
+    ];
+    for (words, failing, status, names) in [
+        ([].as_slice(), [].as_slice(), Status::Usage, 0),
+        (&["step", "boot"], &[], Status::Usage, 0),
+        (&["run", "boot", "vm1", "vm1"], &[], Status::Usage, 0),
+        (&["check", "boot", "vm1", "vm1"], &[], Status::Usage, 0),
+        (&["gen", "1", "1", "1"], &[], Status::Usage, 0),
+        (&nine, &[], Status::Usage, 0),
+        (
+            &["step", "boot", "schedule", "vm1", "vm1"],
+            &[],
+            Status::BadCalls(4, 0),
+            4,
+        ),
+        (
+            &["step", "boot", "schedule", "vm1"],
+            &[2],
+            Status::ReadFault,
+            2,
+        ),
+        (
+            &["step", "boot", "missing", "large"],
+            &[],
+            Status::ReadFault,
+            2,
+        ),
+        (
+            &["step", "large", "missing", "vm1"],
+            &[],
+            Status::TooLarge(1),
+            1,
+        ),
+        (
+            &["step", "boot", "schedule", "large", "missing"],
+            &[],
+            Status::TooLarge(3),
+            3,
+        ),
+    ] {
+        let names = &words[words.len().min(1)..words.len().min(1 + names)];
+        assert!(rt;
+            asks(&rt, alloc, words, failing, status, names)?,
+            "{status}"
+        );
     }
     Ok(())
 }
@@ -169,39 +217,6 @@ fn faulty_files_are_told_by_their_place(rt: HostRuntime) -> Result<(), Fail> {
     assert!(rt; is_refused(&rt, alloc, boot(), "1", calls(), Status::BadSchedule(1))?);
     assert!(rt; is_refused(&rt, alloc, boot(), "", "C6008000\n", Status::BadCalls(3, 1))?);
     assert!(rt; is_refused(&rt, alloc, boot(), "", "c6008000", Status::BadCalls(3, 1))?);
-    Ok(())
-}
-
-#[test]
-fn a_call_file_needs_a_vm(rt: HostRuntime) -> Result<(), Fail> {
-    let alloc = rt.alloc();
-    let mut files = SureFiles::new(entries(alloc, boot(), "", "")?);
-    let mut out = SureSink::new(alloc);
-    let words = ["step", "boot", "schedule", "vm1", "vm2"];
-    assert_eq!(rt;
-        status_of(&rt, alloc, &words, &mut files, &mut out)?,
-        Status::BadCalls(4, 0)
-    );
-    assert!(rt; out.bytes().is_empty());
-    Ok(())
-}
-
-#[test]
-fn a_large_file_is_told(rt: HostRuntime) -> Result<(), Fail> {
-    let alloc = rt.alloc();
-    let mut entries = entries(alloc, boot(), "", "")?;
-    entries.push((
-        String::from_str(alloc, "large")?,
-        vec![in alloc; b'0'; 8_388_609]?,
-    ))?;
-    let mut files = SureFiles::new(entries);
-    let mut out = SureSink::new(alloc);
-    let words = ["step", "boot", "schedule", "large"];
-    assert_eq!(rt;
-        status_of(&rt, alloc, &words, &mut files, &mut out)?,
-        Status::TooLarge(3)
-    );
-    assert!(rt; out.bytes().is_empty());
     Ok(())
 }
 

@@ -1,8 +1,7 @@
 //! The top call, which `main` makes.
 
 ghost use Rattle.std.specs.Prelude.{◌≡◌, ◌↔◌, IfSome, map, string_bytes, true, false};
-ghost use Rattle.gh_io.specs.Outside.{Rose};
-ghost use Rattle.gunyah.specs.Outcome.{AskedFirst, HasCause, Wrote, Completes, texts_under};
+ghost use Rattle.gunyah.specs.Outcome.{Asked, AskedOf, HasCause, FilesFaults, SinkFaults, Wrote, Completes, texts_under};
 ghost use Rattle.gunyah.specs.Step.{StepRuns};
 ghost use Rattle.gunyah.specs.Words.{is_step, named_files, words_of};
 
@@ -38,14 +37,17 @@ pub fn gunyah<R: Threads + Wait + Sync, F: Files, K: Sink, G: Gate + Sync>(
     // Why it ended.
     ensures usage { (result ≡ Status.Usage) ↔ (is_step (words_of words.now) ≡ false) }
     ensures cause { HasCause result
-        (Rose (F.faults files.old) (F.faults files.new)) (Rose (K.faults out.old) (K.faults out.new))
         (texts_under (F.contents files.old) (named_files (words_of words.now))) }
+    ensures files_faults { FilesFaults result (F.faults files.old) (F.faults files.new) }
+    ensures sink_faults { SinkFaults result (K.faults out.old) (K.faults out.new) }
     ensures complete { is_step (words_of words.now) ≡ true
         → Completes result (F.is_sure files.old) (K.is_sure out.old)
         (texts_under (F.contents files.old) (named_files (words_of words.now))) }
 
-    ensures asked { AskedFirst (F.asked files.old) (F.asked files.new)
-        (named_files (words_of words.now)) }
+    // What was asked of the files.
+    ensures asked { Asked (AskedOf result) (F.asked files.old) (F.asked files.new)
+        (named_files (words_of words.now))
+        (texts_under (F.contents files.old) (named_files (words_of words.now))) }
 {
     law_of_step(files);
     match read_words(alloc, words) {
