@@ -1,6 +1,6 @@
 -- A run by whole calls: the CPUs in rising order each make one call, round after round, until all
 -- have ended.
-use Rattle.std.specs.Prelude.{◌==◌, ◌&&◌, ◌+◌, ◌*◌, ◌≤◌, ℕ, zero, suc, Bool, true, false, List, [], ◌∷◌, ◌++◌, All, length, fold, max, Option, Some, None, Result, Ok, Err, filter, map, slice_get, slice_set, if◌then◌else◌}
+use Rattle.std.specs.Prelude.{◌==◌, ◌+◌, ◌*◌, ◌≤◌, ℕ, zero, suc, Bool, true, false, List, [], ◌∷◌, ◌++◌, All, length, fold, max, Option, Some, None, Result, Ok, Err, filter, map, slice_get, slice_set, if◌then◌else◌}
 use Rattle.std.specs.Option.{unwrap_or}
 use Rattle.gh_base.specs.Reply.{refusal}
 use Rattle.gh_base.specs.declared.call.Call.{Call}
@@ -141,6 +141,10 @@ after_mark c mark = record c {
   place = place_after_mark c.place mark;
 }
 
+-- the call that a CPU with its program makes next
+abbrev pub next_call : {P : Type 0} → State → Seat P → Called
+next_call s seat = call_with s seat.cpu seat.standing.frame
+
 -- a seat: a CPU with its program and the frame of its next call. An exit call ends it; else the
 -- program is asked for the next call, by the reply to this one
 module _ {P : Type 0} (answer : P → Option Reply → Step) (after : P → Option Reply → P) where
@@ -152,10 +156,6 @@ module _ {P : Type 0} (answer : P → Option Reply → Step) (after : P → Opti
   abbrev pub seat_after : Seat P → Called → Seat P
   seat_after seat called =
       seat_behind (is_exit seat.standing.frame) seat (after_mark seat.cpu called.mark) called.mark.reply
-
-  -- the call that the seat makes next
-  abbrev pub next_call : State → Seat P → Called
-  next_call s seat = call_with s seat.cpu seat.standing.frame
 
   abbrev pub with_call : Running P → ℕ → Seat P → Called → Running P
   with_call w at seat called = record {

@@ -1,6 +1,6 @@
 -- Grace: an object is retired only without references, and reclaimed only once every CPU that was
 -- reading then, and every call that was granted it, has left its section.
-use Rattle.std.specs.Prelude.{◌≡◌, ◌≢◌, ◌==◌, ◌+◌, ◌*◌, ◌-◌, ◌<◌, ◌≤◌, ℕ, Bool, true, false, List, length, take, Option, Some, None, IsTrue, IfSome, count_by, slice_get, slice_index}
+use Rattle.std.specs.Prelude.{◌≡◌, ◌==◌, ◌+◌, ◌*◌, ◌-◌, ◌<◌, ◌≤◌, ℕ, Bool, true, false, List, length, take, Option, Some, None, IsTrue, IfSome, count_by, slice_get, slice_index}
 use Rattle.std.specs.List.{list_any}
 use Rattle.gh_base.specs.declared.mark.End.{End}
 use Rattle.gh_base.specs.declared.mark.End.TheVariants as ends
@@ -9,7 +9,6 @@ use Rattle.gh_model.specs.declared.entry.Entry.TheVariants.{Acted, Part, Retired
 use Rattle.gh_model.specs.declared.rows.CapabilityRow.{CapabilityRow}
 use Rattle.gh_model.specs.declared.rows.ObjectRow.{ObjectRow}
 use Rattle.gh_model.specs.declared.state.State.{State}
-use Rattle.gh_model.specs.declared.word.Word.{Word}
 use Rattle.gh_model.specs.Rows.{object_row}
 use Rattle.gh_model.specs.References.{is_doomed}
 use Rattle.gh_model.specs.Marks.{Made, Seen, InTurn, has_looks, is_odd, place, place_after}
