@@ -1,8 +1,9 @@
 -- A capability word as its fields, from the top bit down: state 2 bits, kind 3, master mark 1,
 -- object index 10, rights 16, number of the entry that set the word 32.
-use Rattle.std.specs.Prelude.{◌==◌, ℕ, ◌+◌, ◌*◌, ◌/◌, ◌%◌, Bool, false, Option, Some, if◌then◌else◌}
+use Rattle.std.specs.Prelude.{◌==◌, ℕ, ◌+◌, ◌*◌, ◌/◌, ◌%◌, Bool, false, Option, Some, None, bit_and, if◌then◌else◌}
 use Rattle.gh_base.specs.Kind.{kind_number, kind_numbered}
 use Rattle.gh_base.specs.declared.kind.Kind.{Kind}
+use Rattle.gh_base.specs.declared.limits.TheConstants.{OBJECT_INDICES}
 use Rattle.gh_base.specs.declared.cap_word.CapState.{CapState}
 use Rattle.gh_base.specs.declared.cap_word.CapState.TheVariants.{Empty, Valid, Revoked}
 
@@ -25,49 +26,123 @@ state_number Revoked = 2
 abbrev pub state_numbered : ℕ → CapState
 state_numbered n = if n == 0 then Empty else (if n == 1 then Valid else Revoked)
 
+-- how many values each field has, below the state
+abbrev pub kinds : ℕ
+kinds = 8
+
+abbrev pub marks : ℕ
+marks = 2
+
+abbrev pub indices : ℕ
+indices = OBJECT_INDICES
+
+abbrev pub rights_values : ℕ
+rights_values = 65536
+
+abbrev pub settings : ℕ
+settings = 4294967296
+
 -- six numbers, each in its place
 abbrev pub packed : ℕ → ℕ → ℕ → ℕ → ℕ → ℕ → ℕ
 packed state kind master object rights entry =
-    ((((state * 8 + kind) * 2 + master) * 1024 + object) * 65536 + rights) * 4294967296 + entry
+    ((((state * kinds + kind) * marks + master) * indices + object) * rights_values + rights) * settings + entry
 
--- each field of a word, read from its place
-abbrev pub state_of : ℕ → CapState
-state_of w = state_numbered (w / 4294967296 / 65536 / 1024 / 2 / 8)
+-- the number of each field of a word, read from its place
+abbrev pub state_number_of : ℕ → ℕ
+state_number_of w = w / settings / rights_values / indices / marks / kinds
 
-abbrev pub kind_of : ℕ → Option Kind
-kind_of w = kind_numbered (w / 4294967296 / 65536 / 1024 / 2 % 8)
+abbrev pub kind_number_of : ℕ → ℕ
+kind_number_of w = w / settings / rights_values / indices / marks % kinds
 
-abbrev pub master_of : ℕ → Bool
-master_of w = w / 4294967296 / 65536 / 1024 % 2 == 1
+abbrev pub master_number_of : ℕ → ℕ
+master_number_of w = w / settings / rights_values / indices % marks
 
 abbrev pub object_of : ℕ → ℕ
-object_of w = w / 4294967296 / 65536 % 1024
+object_of w = w / settings / rights_values % indices
 
 abbrev pub rights_of : ℕ → ℕ
-rights_of w = w / 4294967296 % 65536
+rights_of w = w / settings % rights_values
 
 abbrev pub set_at_of : ℕ → ℕ
-set_at_of w = w % 4294967296
+set_at_of w = w % settings
+
+-- what the numbers of a word say
+abbrev pub state_of : ℕ → CapState
+state_of w = state_numbered (state_number_of w)
+
+abbrev pub kind_of : ℕ → Option Kind
+kind_of w = kind_numbered (kind_number_of w)
+
+abbrev pub master_of : ℕ → Bool
+master_of w = master_number_of w == 1
 
 -- all fields of a word
 abbrev pub fields_of : ℕ → CapFields
-fields_of w = record { state = state_of w; kind = kind_of w; master = master_of w; object = object_of w; rights = rights_of w; set_at = set_at_of w }
+fields_of w = record {
+  state = state_of w;
+  kind = kind_of w;
+  master = master_of w;
+  object = object_of w;
+  rights = rights_of w;
+  set_at = set_at_of w;
+}
 
 -- the fields of an empty slot set by an entry
 abbrev pub empty_fields : ℕ → CapFields
-empty_fields entry = record { state = Empty; kind = kind_numbered 0; master = false; object = 0; rights = 0; set_at = entry }
+empty_fields entry = record {
+  state = Empty;
+  kind = None;
+  master = false;
+  object = 0;
+  rights = 0;
+  set_at = entry;
+}
 
 -- the fields of a word made of six numbers
 abbrev pub numbered_fields : ℕ → ℕ → ℕ → ℕ → ℕ → ℕ → CapFields
-numbered_fields state kind master object rights entry = record { state = state_numbered state; kind = kind_numbered kind; master = master == 1; object = object; rights = rights; set_at = entry }
+numbered_fields state kind master object rights entry = record {
+  state = state_numbered state;
+  kind = kind_numbered kind;
+  master = master == 1;
+  object = object;
+  rights = rights;
+  set_at = entry;
+}
 
 -- a filled slot, valid or revoked
 abbrev pub filled_state : Bool → CapState
 filled_state valid = if valid then Valid else Revoked
 
 abbrev pub filled_fields : Bool → Kind → Bool → ℕ → ℕ → ℕ → CapFields
-filled_fields valid kind master object rights entry = record { state = filled_state valid; kind = Some kind; master = master; object = object; rights = rights; set_at = entry }
+filled_fields valid kind master object rights entry = record {
+  state = filled_state valid;
+  kind = Some kind;
+  master = master;
+  object = object;
+  rights = rights;
+  set_at = entry;
+}
 
 abbrev pub filled_bits : Bool → Kind → Bool → ℕ → ℕ → ℕ → ℕ
 filled_bits valid kind master object rights entry =
     packed (state_number (filled_state valid)) (kind_number kind) (if master then 1 else 0) object rights entry
+
+-- the bits of a word that an entry revoked: state 2 and the entry's number, all else as it was
+abbrev pub revoked_bits : ℕ → ℕ → ℕ
+revoked_bits w entry =
+    packed (state_number Revoked) (kind_number_of w) (master_number_of w) (object_of w) (rights_of w) entry
+
+-- the bits of a copy: the rights that the mask leaves, no master mark, the entry's number, all else
+-- as it was
+abbrev pub masked_bits : ℕ → ℕ → ℕ → ℕ
+masked_bits w mask entry =
+    packed (state_number_of w) (kind_number_of w) 0 (object_of w) (bit_and (rights_of w) mask) entry
+
+-- the fields of a word that an entry revoked
+abbrev pub revoked_fields : ℕ → ℕ → CapFields
+revoked_fields w entry = record (fields_of w) { state = Revoked; set_at = entry }
+
+-- the fields of a copy
+abbrev pub masked_fields : ℕ → ℕ → ℕ → CapFields
+masked_fields w mask entry =
+    record (fields_of w) { master = false; rights = bit_and (rights_of w) mask; set_at = entry }

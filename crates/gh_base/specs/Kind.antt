@@ -1,7 +1,8 @@
 -- The kinds of objects, each with its number, its cost at create in units, its rights and its first stage.
-use Rattle.std.specs.Prelude.{ℕ, ◌==◌, Option, Some, None, if◌then◌else◌}
+use Rattle.std.specs.Prelude.{ℕ, ◌+◌, ◌==◌, Option, Some, None, if◌then◌else◌}
 use Rattle.gh_base.specs.declared.kind.Kind.{Kind}
 use Rattle.gh_base.specs.declared.kind.Kind.TheVariants.{Partition, Cspace, Space, Extent, Bell, Queue}
+use Rattle.gh_base.specs.declared.ids.TheConstants.Rights as right
 use Rattle.gh_base.specs.declared.kind.Stage.{Stage}
 use Rattle.gh_base.specs.declared.kind.Stage.TheVariants.{Init, Ready}
 
@@ -31,12 +32,13 @@ kind_cost Queue = 1
 
 -- all rights of the kind, with that to activate
 abbrev pub kind_rights : Kind → ℕ
-kind_rights Partition = 0x181
-kind_rights Cspace = 0x10f
-kind_rights Space = 0x103
-kind_rights Extent = 0x107
-kind_rights Bell = 0x103
-kind_rights Queue = 0x103
+kind_rights Partition = right.CREATE.0 + right.RESOURCE_MANAGER.0 + right.ACTIVATE.0
+kind_rights Cspace =
+    right.CREATE.0 + right.COPY.0 + right.DELETE.0 + right.REVOKE.0 + right.ACTIVATE.0
+kind_rights Space = right.MAP.0 + right.LOOKUP.0 + right.ACTIVATE.0
+kind_rights Extent = right.MAP.0 + right.DERIVE.0 + right.DONATE.0 + right.ACTIVATE.0
+kind_rights Bell = right.SEND.0 + right.RECEIVE.0 + right.ACTIVATE.0
+kind_rights Queue = right.SEND.0 + right.RECEIVE.0 + right.ACTIVATE.0
 
 -- the stage after create
 abbrev pub kind_stage : Kind → Stage

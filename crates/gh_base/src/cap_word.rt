@@ -1,10 +1,11 @@
 //! The capability word: what one atomic load of a slot shows.
 
-ghost use Rattle.std.specs.Prelude.{◌≡◌, ◌<◌, ◌≤◌, ◌^◌, Some, true, false, bit_and};
-ghost use Rattle.gh_base.specs.CapWord.{packed, numbered_fields, filled_bits, filled_fields, fields_of, empty_fields, state_of, kind_of, master_of, object_of, rights_of, set_at_of};
+ghost use Rattle.std.specs.Prelude.{◌≡◌, ◌<◌, true};
+ghost use Rattle.gh_base.specs.CapWord.{kinds, marks, rights_values, settings, packed, numbered_fields, filled_bits, filled_fields, fields_of, empty_fields, revoked_bits, revoked_fields, masked_bits, masked_fields, state_of, kind_of, master_of, object_of, rights_of, set_at_of};
 
 use crate::ids::{ObjIndex, Rights};
 use crate::kind::Kind;
+use crate::limits::OBJECT_INDICES;
 
 /// The state of a slot.
 #[derive(Clone, Copy, Debug, PartialEq, Eq)]
@@ -28,7 +29,7 @@ const SET_AT: u64 = 1 << 32;
 
 const RIGHTS: u64 = 1 << 16;
 
-const OBJECT: u64 = 1 << 10;
+const OBJECT: u64 = OBJECT_INDICES as u64;
 
 const MASTER: u64 = 1 << 1;
 
@@ -37,11 +38,11 @@ const KIND: u64 = 1 << 3;
 /// The word of these six numbers, each in its place.
 const fn pack(state: u64, kind: u64, master: u64, object: u64, rights: u64, set_at: u64) -> u64
     requires state_fits { state < 4 }
-    requires kind_fits { kind < 8 }
-    requires master_fits { master < 2 }
-    requires object_fits { object < 1024 }
-    requires rights_fits { rights < 65536 }
-    requires set_at_fits { set_at < 4294967296 }
+    requires kind_fits { kind < kinds }
+    requires master_fits { master < marks }
+    requires object_fits { object < OBJECT_INDICES }
+    requires rights_fits { rights < rights_values }
+    requires set_at_fits { set_at < settings }
     ensures bits { result ≡ packed state kind master object rights set_at }
     ensures fields { fields_of result ≡ numbered_fields state kind master object rights set_at }
 {
@@ -67,7 +68,7 @@ impl CapWord {
         rights: Rights,
         set_at: u32,
     ) -> CapWord
-        requires { object.0 < 1024 }
+        requires { object.0 < OBJECT_INDICES }
         ensures bits { result.0 ≡ filled_bits valid kind master object.0 rights.0 set_at }
         ensures fields { fields_of result.0 ≡ filled_fields valid kind master object.0 rights.0 set_at }
     {
@@ -85,8 +86,9 @@ impl CapWord {
 
     /// A valid capability.
     pub fn valid(kind: Kind, master: bool, object: ObjIndex, rights: Rights, set_at: u32) -> CapWord
-        requires { object.0 < 1024 }
-        ensures { fields_of result.0 ≡ filled_fields true kind master object.0 rights.0 set_at }
+        requires { object.0 < OBJECT_INDICES }
+        ensures bits { result.0 ≡ filled_bits true kind master object.0 rights.0 set_at }
+        ensures fields { fields_of result.0 ≡ filled_fields true kind master object.0 rights.0 set_at }
     {
         CapWord::filled(true, kind, master, object, rights, set_at)
     }
@@ -136,7 +138,8 @@ impl CapWord {
 
     /// The same capability, revoked by this entry.
     pub fn revoked(self, set_at: u32) -> CapWord
-        ensures { fields_of result.0 ≡ record (fields_of self.0) { state = CapState.Revoked; set_at = set_at } }
+        ensures bits { result.0 ≡ revoked_bits self.0 set_at }
+        ensures fields { fields_of result.0 ≡ revoked_fields self.0 set_at }
     {
         let kind = self.0 / SET_AT / RIGHTS / OBJECT / MASTER % KIND;
         let master = self.0 / SET_AT / RIGHTS / OBJECT % MASTER;
@@ -153,7 +156,8 @@ impl CapWord {
 
     /// The same capability with fewer rights and without the master mark, set by this entry.
     pub fn masked(self, mask: u16, set_at: u32) -> CapWord
-        ensures { fields_of result.0 ≡ record (fields_of self.0) { master = false; rights = bit_and (rights_of self.0) mask; set_at = set_at } }
+        ensures bits { result.0 ≡ masked_bits self.0 mask set_at }
+        ensures fields { fields_of result.0 ≡ masked_fields self.0 mask set_at }
     {
         let top = self.0 / SET_AT / RIGHTS / OBJECT / MASTER;
         let object = self.object().0 as u64;

@@ -3,8 +3,8 @@
 ghost use Rattle.std.specs.Prelude.{◌≡◌};
 ghost use Rattle.gh_base.specs.Reply.{register_reply, refusal};
 
-use crate::bounded::BoundedSequence;
 use crate::errno::Errno;
+use crate::message_bytes::MessageBytes;
 use crate::sequence::Sequence;
 
 /// A hypercall as a VM makes it: registers x0 to x8, and the bytes of its message buffer.
@@ -18,7 +18,8 @@ pub struct Frame {
 #[derive(Debug, Drop)]
 pub struct Reply {
     pub x: [u64; 4],
-    pub bytes: BoundedSequence<u8, 1024>,
+    /// At most 1,024.
+    pub bytes: MessageBytes,
 }
 
 impl Reply {
@@ -28,7 +29,7 @@ impl Reply {
     {
         Reply {
             x: [x0, x1, x2, x3],
-            bytes: BoundedSequence::new(),
+            bytes: MessageBytes::new(),
         }
     }
 

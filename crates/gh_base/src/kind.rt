@@ -68,12 +68,23 @@ impl Kind {
         ensures { result ≡ record { 0 = kind_rights self } }
     {
         match self {
-            Kind::Partition => Rights(0x181),
-            Kind::Cspace => Rights(0x10f),
-            Kind::Space => Rights(0x103),
-            Kind::Extent => Rights(0x107),
-            Kind::Bell => Rights(0x103),
-            Kind::Queue => Rights(0x103),
+            Kind::Partition => Rights(
+                Rights::CREATE.0 + Rights::RESOURCE_MANAGER.0 + Rights::ACTIVATE.0,
+            ),
+            Kind::Cspace => Rights(
+                Rights::CREATE.0
+                    + Rights::COPY.0
+                    + Rights::DELETE.0
+                    + Rights::REVOKE.0
+                    + Rights::ACTIVATE.0,
+            ),
+            Kind::Space => Rights(Rights::MAP.0 + Rights::LOOKUP.0 + Rights::ACTIVATE.0),
+            Kind::Extent => Rights(
+                Rights::MAP.0 + Rights::DERIVE.0 + Rights::DONATE.0 + Rights::ACTIVATE.0,
+            ),
+            Kind::Bell | Kind::Queue => {
+                Rights(Rights::SEND.0 + Rights::RECEIVE.0 + Rights::ACTIVATE.0)
+            }
         }
     }
 

@@ -33,6 +33,18 @@ pub const SPACE_ROWS: usize = 64;
 /// The most VMs, beside the resource manager.
 pub const VMS: u8 = 8;
 
+/// CPUs of a machine: that of the resource manager and one for each VM.
+pub const CPUS: usize = 9;
+
+/// The flags of a new doorbell, and of one after a reset.
+pub const NEW_BELL_FLAGS: u64 = 0;
+
+/// The enable mask of a new doorbell, and of one after a reset.
+pub const NEW_BELL_ENABLE: u64 = u64::MAX;
+
+/// The ack mask of a new doorbell, and of one after a reset.
+pub const NEW_BELL_ACK: u64 = 0;
+
 /// The most messages that a message queue can be configured to hold; the least is 1.
 pub const QUEUE_DEPTH: u64 = 64;
 
@@ -53,6 +65,13 @@ pub const CALL_FILE_CALLS: u32 = 65_536;
 
 /// The number of a CPU's last possible call, which is the exit call whatever the program.
 pub const CALL_NUMBERS: u32 = 458_752;
+
+/// The most entries of a history before which a further act may begin: the act of most entries, a
+/// revoke of all capabilities of an object with the sweep before it, has its room below 2^32.
+pub const HISTORY_ENTRIES: u32 = 4_294_963_200;
+
+/// The most entries that one act makes.
+pub const ACT_ENTRIES: usize = 4096;
 
 /// The most bytes of a boot file, a call file or a schedule.
 pub const BOOT_FILE_BYTES: usize = 8_388_608;

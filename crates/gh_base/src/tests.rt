@@ -1,7 +1,8 @@
 //! The worked layout of a capability word, and each generic call once at a concrete type.
 
 use crate::{
-    Access, BoundedSequence, CapState, CapWord, Errno, Kind, ObjIndex, Reply, Rights, Sequence,
+    Access, BoundedSequence, CapState, CapWord, Errno, Kind, MessageBytes, ObjIndex, Reply, Rights,
+    Sequence,
 };
 use std::test::Fail;
 
@@ -58,6 +59,9 @@ fn sequences_keep_their_items_in_order(rt: HostRuntime) -> Result<(), Fail> {
     );
     assert_eq!(rt; long.pop(), Some(2));
     assert!(rt; long.is_empty());
+    let message = MessageBytes::from_slice(rt.alloc(), &[7, 8])?;
+    assert_eq!(rt; message.as_slice(), [7, 8].as_slice());
+    assert!(rt; MessageBytes::from_slice(rt.alloc(), &[])?.is_empty());
     let mut short: BoundedSequence<u8, 3> = BoundedSequence::from_slice(&[1, 2]);
     short.push(3);
     assert_eq!(rt; short.as_slice(), [1, 2, 3].as_slice());

@@ -1,8 +1,8 @@
 -- A capability space as callers see it: the words of slots 1 to 127, in order.
-use Rattle.std.specs.Prelude.{◌≡◌, ◌==◌, ◌&&◌, ℕ, ◌+◌, ◌-◌, ◌≤◌, Bool, true, false, not, List, Option, Some, None, Result, Ok, Err, position, filter_map, slice_index_or, slice_set, bit_and, if◌then◌else◌}
+use Rattle.std.specs.Prelude.{◌≡◌, ◌==◌, ◌&&◌, ℕ, ◌+◌, ◌-◌, ◌≤◌, Bool, true, false, not, List, Option, Some, None, Result, Ok, Err, position, filter_map, slice_index_or, slice_set, if◌then◌else◌}
 use Rattle.std.specs.List.{enumerate_from}
 use Rattle.std.specs.Option.{option_map}
-use Rattle.gh_base.specs.CapWord.{CapFields, fields_of, state_of, master_of, object_of, rights_of}
+use Rattle.gh_base.specs.CapWord.{state_of, master_of, object_of, revoked_bits, masked_bits}
 use Rattle.gh_base.specs.declared.cap_word.CapWord.{CapWord}
 use Rattle.gh_base.specs.declared.cap_word.CapState.{CapState}
 use Rattle.gh_base.specs.declared.cap_word.CapState.TheVariants.{Empty, Valid, Revoked}
@@ -64,13 +64,17 @@ child_slot object entry = if is_child object entry.1 then Some entry.0 else None
 abbrev pub children : ℕ → List CapWord → List ℕ
 children object words = filter_map (child_slot object) (enumerate_from 1 words)
 
--- the fields of a copy: the rights that the mask leaves, no master mark, set by this entry
-abbrev pub copied_fields : ℕ → ℕ → ℕ → CapFields
-copied_fields source mask entry = record (fields_of source) { master = false; rights = bit_and (rights_of source) mask; set_at = entry }
+-- a copy: the rights that the mask leaves, no master mark, set by this entry
+abbrev pub copy_word : CapWord → ℕ → ℕ → CapWord
+copy_word source mask entry = record { 0 = masked_bits source.0 mask entry }
 
--- the fields of a word that an entry revoked
-abbrev pub revoked_fields : ℕ → ℕ → CapFields
-revoked_fields word entry = record (fields_of word) { state = Revoked; set_at = entry }
+-- a word that an entry revoked
+abbrev pub revoked_word : CapWord → ℕ → CapWord
+revoked_word word entry = record { 0 = revoked_bits word.0 entry }
+
+-- the word of a slot that an entry emptied
+abbrev pub empty_word : ℕ → CapWord
+empty_word entry = record { 0 = entry }
 
 -- what delete answers at a word in this state: 50 for an empty slot, else the word
 abbrev pub delete_answer_in : CapState → CapWord → Result CapWord Errno
@@ -94,8 +98,7 @@ revoke_answer_in Valid false word = Ok word
 abbrev pub revoke_answer : CapWord → Result CapWord Errno
 revoke_answer word = revoke_answer_in (state_of word.0) (master_of word.0) word
 
--- the slot has a word of these fields now, and every other slot keeps its word
-pub record SetsSlot (old new : List CapWord) (slot : ℕ) (fields : CapFields) : Type 0 where
+-- the slot has this word now, and every other slot keeps its word
+pub record SetsSlot (old new : List CapWord) (slot : ℕ) (word : CapWord) : Type 0 where
   pub within : IsSlot slot
-  pub changed : fields_of (word_at new slot).0 ≡ fields
-  pub others : new ≡ with_word old slot (word_at new slot)
+  pub changed : new ≡ with_word old slot word

@@ -1,13 +1,12 @@
 //! The capability space: the words of its slots, and a bit for each slot that is filled.
 
 ghost use Rattle.std.specs.Prelude.{◌≡◌, ◌+◌, ◌<◌, ◌≤◌, IfSome, IfOk, OnOk, OnErr, length, replicate};
-ghost use Rattle.gh_base.specs.CapWord.{fields_of, empty_fields, state_of};
-ghost use Rattle.gh_cspace.specs.Cspace.{never_set, word_at, with_word, IsSlot, IsFreeSlot, free_slot, children, copied_fields, revoked_fields, delete_answer, revoke_answer, SetsSlot};
+ghost use Rattle.gh_base.specs.CapWord.{state_of};
+ghost use Rattle.gh_cspace.specs.Cspace.{never_set, word_at, with_word, IsSlot, IsFreeSlot, free_slot, children, copy_word, revoked_word, empty_word, delete_answer, revoke_answer, SetsSlot};
 
-use crate::filled::{first_free, with_place};
 use crate::words::{is_child, is_free};
 use arrayvec::ArrayVec;
-use gh_base::{CSPACE_SLOTS, CapState, CapWord, Errno, ObjIndex};
+use gh_base::{CSPACE_SLOTS, CapState, CapWord, Errno, ObjIndex, first_free_place, with_place};
 use std::marker::Model;
 
 /// How many slots a capability space has; slot `s` lies at place `s - 1`.
@@ -65,7 +64,7 @@ impl Cspace {
         ensures least { result ≡ free_slot self.now }
         ensures free { IfSome result (IsFreeSlot self.now) }
     {
-        let place = first_free(self.filled);
+        let place = first_free_place(self.filled);
         (place < PLACES).then_some(place as u8 + 1)
     }
 
@@ -82,7 +81,7 @@ impl Cspace {
     pub fn copy(&mut self, slot: u8, source: CapWord, mask: u16, set_at: u32) -> CapWord
         requires free { IsFreeSlot self.old slot }
         requires source { state_of source.0 ≡ CapState.Valid }
-        ensures copied { fields_of result.0 ≡ copied_fields source.0 mask set_at }
+        ensures copied { result ≡ copy_word source mask set_at }
         ensures put { self.new ≡ with_word self.old slot result }
     {
         let word = source.masked(mask, set_at);
@@ -94,7 +93,7 @@ impl Cspace {
     /// already or the number is no slot.
     pub fn delete(&mut self, slot: u64, set_at: u32) -> Result<CapWord, Errno>
         ensures answer { result ≡ delete_answer (word_at self.old slot) }
-        ensures emptied { OnOk result (SetsSlot self.old self.new slot (empty_fields set_at)) }
+        ensures emptied { OnOk result (SetsSlot self.old self.new slot (empty_word set_at)) }
         ensures err { OnErr result (self.new ≡ self.old) }
     {
         let word = self.get(slot);
@@ -113,7 +112,7 @@ impl Cspace {
     pub fn revoke(&mut self, slot: u64, set_at: u32) -> Result<CapWord, Errno>
         ensures answer { result ≡ revoke_answer (word_at self.old slot) }
         ensures revoked { IfOk result
-            (λ word. SetsSlot self.old self.new slot (revoked_fields word.0 set_at)) }
+            (λ word. SetsSlot self.old self.new slot (revoked_word word set_at)) }
         ensures err { OnErr result (self.new ≡ self.old) }
     {
         let word = self.get(slot);

@@ -2,7 +2,6 @@
 #![tactic(auto)]
 
 mod cspace;
-mod filled;
 mod words;
 
 pub use cspace::Cspace;

@@ -3,6 +3,7 @@
 
 ghost use Rattle.std.specs.Prelude.{◌≡◌, bit_or};
 
+use gh_base::{NEW_BELL_ACK, NEW_BELL_ENABLE, NEW_BELL_FLAGS};
 use std::marker::Model;
 
 /// A doorbell's flags, enable mask and ack mask. The masks have no effect on the flags here.
@@ -39,9 +40,9 @@ impl Bell {
         ensures { result ≡ new_words }
     {
         Bell {
-            flags: 0,
-            enable: u64::MAX,
-            ack: 0,
+            flags: NEW_BELL_FLAGS,
+            enable: NEW_BELL_ENABLE,
+            ack: NEW_BELL_ACK,
         }
     }
 

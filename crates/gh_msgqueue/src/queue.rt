@@ -134,6 +134,20 @@ impl Queue {
         dropped as u64
     }
 
+    /// The most messages that there may be.
+    pub fn depth(&self) -> u16
+        ensures { result ≡ self.now.depth }
+    {
+        self.ring.capacity() as u16
+    }
+
+    /// The most bytes of a message.
+    pub fn size(&self) -> u16
+        ensures { result ≡ self.now.size }
+    {
+        self.size as u16
+    }
+
     /// The first message; none where the queue is empty.
     pub fn first(&self) -> Option<&[u8]>
         ensures first { option_copied result ≡ slice_get self.now.messages 0 }

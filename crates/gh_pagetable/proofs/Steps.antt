@@ -1,8 +1,7 @@
 -- One more step of a loop over the entries of a table.
-use Rattle.std.proofs.Common.{◌≡◌, ℕ, suc, ◌+◌, ◌-◌, ◌*◌, ◌/◌, ◌%◌, ◌<◌, ◌≤◌, false, List, [], ◌∷◌, ◌++◌, length, take, drop, get_or, slice_set, if◌then◌else◌, sym, ap, ◌∙◌, arith, mul-suc}
+use Rattle.std.proofs.Common.{◌≡◌, ℕ, suc, ◌+◌, ◌-◌, ◌*◌, ◌/◌, ◌%◌, ◌<◌, ◌≤◌, false, List, [], ◌∷◌, length, take, drop, get_or, slice_set, if◌then◌else◌, sym, ap, ◌∙◌, arith, mul-suc}
 use Rattle.std.specs.List.{flat_map}
-use Rattle.std.proofs.lemmas.List.{append-nil, append_assoc, drop_more, take_more_set}
-use Rattle.std.proofs.lemmas.List.Concat.{flat_map-append}
+use Rattle.std.proofs.lemmas.List.{drop_more, take_more_set}
 use Rattle.std.proofs.lemmas.List.Elements.{All-push}
 use Rattle.std.proofs.lemmas.Nat.{div_below}
 use Rattle.gh_pagetable.specs.Entry.{AllCover, IsTable, descriptor_of, leads_on, overwritten, run}
@@ -28,19 +27,6 @@ module _ {E : Type 0} (targets : E → List Target) (n : ℕ) where
   pages_left i count within =
       let left : count - i ≡ suc (count - (i + 1)) = omega arith in
       rw (left, mul-suc) (omega arith)
-
-  -- one more entry is filled
-  pub fill_more :
-      (es : List E) (i count : ℕ) (e' : E) (t : Target)
-      → i < length es → i < count → targets e' ≡ run t n
-      → flat_map targets (take (i + 1) (slice_set es i e')) ++ run (further t n) (n * (count - (i + 1)))
-      ≡ flat_map targets (take i es) ++ run t (n * (count - i))
-  fill_more es i count e' t there within filled =
-      let taken = take_more_set es i e' there in
-      let joined = flat_map-append targets (take i es) (e' ∷ []) in
-      let left = pages_left i count within in
-      let split = run-append t n (n * (count - (i + 1))) in
-      rw (taken, joined, left, split, filled, append-nil, append_assoc)
 
   -- one more entry leads on
   pub leads_on_more :

@@ -39,11 +39,6 @@ pub trait Entry: Drop {
         requires machine { AreNumbered target count }
         ensures { targets self.new ≡ overwritten (targets self.old) first (run target count) };
 
-    /// Sets all pages, to lead to the targets from `target` on. No table is visited.
-    fn fill(&mut self, target: Target)
-        requires { AreNumbered target PAGES }
-        ensures { targets self.new ≡ run target PAGES };
-
     /// What the entry says.
     fn descriptor(&self) -> Descriptor
         ensures value { result ≡ descriptor_of (targets self.now) }
@@ -103,11 +98,6 @@ impl Entry for LeafEntry {
     }
 
     fn set(&mut self, _first: u16, _count: u16, target: Target) {
-        self.target = target;
-    }
-
-    #[tactic(auto, unfolding(crate::specs::Entry::run))]
-    fn fill(&mut self, target: Target) {
         self.target = target;
     }
 

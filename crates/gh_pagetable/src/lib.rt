@@ -3,11 +3,13 @@
 
 mod descriptor;
 mod entry;
+mod law;
 mod page_table;
 mod table;
 mod upper;
 
 pub use descriptor::NUMBERED_PAGES;
+pub use law::tables_are_their_answers;
 pub use page_table::PageTable;
 
 #[cfg(test)]

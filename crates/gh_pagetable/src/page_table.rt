@@ -1,6 +1,6 @@
 //! The page table of an address space.
 
-ghost use Rattle.std.specs.Prelude.{◌≡◌, ◌+◌, ◌<◌, ◌≤◌, IfOk};
+ghost use Rattle.std.specs.Prelude.{◌≡◌, ◌+◌, ◌<◌, ◌≤◌, length, IfOk};
 ghost use Rattle.gh_pagetable.specs.Entry.{AreNumbered};
 ghost use Rattle.gh_pagetable.specs.Map.{ClearsRun, IsEmpty, MapsRun, SetsRun, at, tables_of};
 
@@ -80,7 +80,8 @@ impl PageTable {
     /// Where page `v` leads.
     pub fn get(&self, v: u16) -> Option<(PageNo, u8)>
         requires { v < SPACE_PAGES }
-        ensures { result ≡ at self.now v }
+        ensures target { result ≡ at self.now v }
+        ensures size { length self.now ≡ SPACE_PAGES }
     {
         table::get(&self.top, v)
     }

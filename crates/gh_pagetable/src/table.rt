@@ -104,21 +104,7 @@ fn split<E: Entry>(descriptor: Descriptor, entries: &mut [E])
         ≡ targets_of E.targets E.PAGES descriptor entries.old }
 {
     if let Descriptor::Uniform(target) = descriptor {
-        fill(entries, target);
-    }
-}
-
-/// Sets all pages, entry by entry, without visiting the tables below.
-fn fill<E: Entry>(entries: &mut [E], target: Target)
-    requires count { length entries.old ≡ ENTRIES }
-    requires machine { AreNumbered target (ENTRIES * E.PAGES) }
-    ensures table { IsTable E.targets E.PAGES entries.new }
-    ensures targets { flat_map E.targets entries.new ≡ run target (ENTRIES * E.PAGES) }
-{
-    let mut next = target;
-    for entry in entries.iter_mut() {
-        entry.fill(next);
-        next = further(next, E::PAGES);
+        set(entries, 0, ENTRIES * E::PAGES, target);
     }
 }
 

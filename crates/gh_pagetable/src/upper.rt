@@ -67,10 +67,6 @@ impl<E: LowerEntry> Entry for UpperEntry<E> {
         self.descriptor = table::update(self.descriptor, &mut self.table, first, count, target);
     }
 
-    fn fill(&mut self, target: Target) {
-        self.descriptor = Descriptor::Uniform(target);
-    }
-
     fn descriptor(&self) -> Descriptor {
         self.descriptor
     }

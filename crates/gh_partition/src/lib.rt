@@ -55,7 +55,8 @@ impl Partition {
 
     /// The units that are used, that are free and that are given away.
     pub fn units(&self) -> (u16, u16, u16)
-        ensures { result ≡ (self.now.used, free_units self.now, self.now.given) }
+        ensures each { result ≡ (self.now.used, free_units self.now, self.now.given) }
+        ensures sum { result.0 + result.1 + result.2 ≡ self.now.quota }
     {
         (self.used, self.free(), self.given)
     }

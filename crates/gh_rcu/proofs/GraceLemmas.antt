@@ -5,7 +5,8 @@ use Rattle.std.proofs.lemmas.Grind.{common_steps}
 use Rattle.std.proofs.lemmas.List.Quantifiers.{position-Some}
 use Rattle.std.proofs.lemmas.List.Sums.{prefix_len-le-length}
 use Rattle.std.proofs.lemmas.Option.{slice_get-get_or}
-use Rattle.gh_rcu.specs.Grace.{is_odd, awaited, still_awaited, started, all_noted, has_passed, HaveLeft, IsStillReading}
+use Rattle.gh_base.specs.Counters.{is_odd, HaveLeft}
+use Rattle.gh_rcu.specs.Grace.{awaited, still_awaited, started, all_noted, has_passed, IsStillReading}
 
 -- a CPU isn't waited for exactly where its counter wasn't odd or is greater now
 one_has_left : (before after : ℕ) →

@@ -1,10 +1,7 @@
 -- What callers see of a grace period: for each CPU the counter that is still waited for, if there is one.
-use Rattle.std.specs.Prelude.{◌≡◌, ◌==◌, ◌<◌, ◌≤◌, ◌%◌, ℕ, Bool, IsTrue, List, map, Option, Some, None, is_none, nat_lt, slice_set, slice_get, slice_index, slice_index_or, if◌then◌else◌}
-use Rattle.std.specs.List.{list_all, zip, AllZip}
-
--- a CPU with an odd counter is in a read section
-abbrev pub is_odd : ℕ → Bool
-is_odd counter = counter % 2 == 1
+use Rattle.std.specs.Prelude.{◌≡◌, ◌≤◌, ℕ, Bool, IsTrue, List, map, Option, Some, None, is_none, nat_lt, slice_set, slice_get, slice_index, slice_index_or, if◌then◌else◌}
+use Rattle.std.specs.List.{list_all, zip}
+use Rattle.gh_base.specs.Counters.{is_odd}
 
 -- the counter that is waited for of a CPU that starts with it: only an odd one
 abbrev pub awaited : ℕ → Option ℕ
@@ -31,10 +28,6 @@ all_noted waiting now = map (λ cpu. still_awaited cpu.0 cpu.1) (zip waiting now
 -- no CPU is waited for
 abbrev pub has_passed : List (Option ℕ) → Bool
 has_passed waiting = list_all is_none waiting
-
--- every CPU that was in a read section has left it: its counter was odd, and is greater now
-abbrev pub HaveLeft : List ℕ → List ℕ → Type 0
-HaveLeft seen now = AllZip (λ before after. IsTrue (is_odd before) → before < after) seen now
 
 -- a CPU is still in the section that it was in: this counter was its odd one, and none greater is there
 pub record IsStillReading (seen now : List ℕ) (cpu counter : ℕ) : Type 0 where

@@ -4,14 +4,8 @@ ghost use Rattle.std.specs.Prelude.{◌≡◌, ◌↔◌, ◌<◌, IsTrue, IfSom
 ghost use Rattle.std.specs.Option.{option_map};
 ghost use Rattle.gh_rcu.specs.Grace.{awaited as awaited_lem, still_awaited as still_awaited_lem};
 
-use gh_base::CpuNo;
+use gh_base::{CPUS, Counters, CpuNo, is_reading};
 use std::marker::Model;
-
-/// The CPUs of a machine: that of the resource manager and one for each VM.
-pub const CPUS: usize = 9;
-
-/// The counter of each CPU, by its number. It is odd while the CPU is in a read section.
-pub type Counters = [u64; CPUS];
 
 /// What is left to wait for: of each CPU that was in a read section at the start the counter that it
 /// had there, until a greater one is noted.
@@ -22,7 +16,7 @@ pub struct Grace {
 
 impl Model for Grace {
     ghost use Rattle.std.specs.Prelude.{◌≡◌, List, ℕ, Option, length};
-    ghost use Rattle.gh_rcu.specs.declared.grace.TheConstants.{CPUS};
+    ghost use Rattle.gh_base.specs.declared.limits.TheConstants.{CPUS};
 
     ghost Value = { List (Option ℕ) };
 
@@ -37,11 +31,7 @@ impl Model for Grace {
 fn awaited(counter: u64) -> Option<u64>
     ensures { result ≡ awaited_lem counter }
 {
-    if counter % 2 == 1 {
-        Some(counter)
-    } else {
-        None
-    }
+    is_reading(counter).then_some(counter)
 }
 
 /// What is still waited for of a CPU once its counter is seen.

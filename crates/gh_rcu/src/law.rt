@@ -1,9 +1,10 @@
 //! What a grace period that has passed, or has not, says of the counters.
 
 ghost use Rattle.std.specs.Prelude.{◌≡◌, ◌↔◌, ℕ, IsTrue, Some, slice_get};
-ghost use Rattle.gh_rcu.specs.Grace.{started, all_noted, has_passed, HaveLeft, IsStillReading};
+ghost use Rattle.gh_base.specs.Counters.{HaveLeft};
+ghost use Rattle.gh_rcu.specs.Grace.{started, all_noted, has_passed, IsStillReading};
 
-use crate::grace::Counters;
+use gh_base::Counters;
 
 /// A law, with nothing to run. Take a grace period that starts with the counters `seen`, and takes note
 /// of the counters `now`. It has passed exactly where each CPU whose counter was odd has a greater one

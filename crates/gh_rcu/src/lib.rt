@@ -4,7 +4,8 @@
 mod grace;
 mod law;
 
-pub use grace::{CPUS, Counters, Grace};
+pub use gh_base::{CPUS, Counters};
+pub use grace::Grace;
 pub use law::grace_law;
 
 #[cfg(test)]

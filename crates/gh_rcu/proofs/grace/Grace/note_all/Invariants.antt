@@ -1,5 +1,5 @@
 use Rattle.std.proofs.Common.{◌≡◌, ◌++◌, length, take, drop}
-use Rattle.gh_rcu.specs.declared.grace.TheConstants.{CPUS}
+use Rattle.gh_base.specs.declared.limits.TheConstants.{CPUS}
 use Rattle.gh_rcu.specs.Grace.{all_noted}
 use Rattle.gh_rcu.proofs.grace.Grace.note_all.Given as goal
 

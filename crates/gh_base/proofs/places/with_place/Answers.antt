@@ -2,7 +2,7 @@
 use Rattle.std.specs.Int.{w128}
 use Rattle.std.proofs.Common.{eqb, ap, sym, ◌∙◌}
 use Rattle.std.proofs.lemmas.Nat.Bits.{bit_at_set_same, bit_at_set_other, bit_at_clear_same, bit_at_clear_other}
-use Rattle.gh_cspace.proofs.filled.with_place.Goals as goal
+use Rattle.gh_base.proofs.places.with_place.Goals as goal
 
 pub returns-then-free-clause-here : goal.returns-then-free-clause-here
 returns-then-free-clause-here c =

@@ -1,19 +1,19 @@
-//! The bits that say which places are filled.
+//! The 128 places of a table as bits: a place is taken where its bit is 1.
 
 ghost use Rattle.std.specs.Prelude.{◌≡◌, ◌≢◌, ◌==◌, ℕ, ◌-◌, ◌^◌, ◌<◌};
 ghost use Rattle.std.specs.Int.{bit_at};
 
-/// The first place that isn't filled.
-pub fn first_free(bits: u128) -> usize
+/// The least place that isn't taken.
+pub fn first_free_place(bits: u128) -> usize
     requires { bits ≢ 2 ^ 128 - 1 }
     ensures within { result < 128 }
     ensures free { bit_at bits result ≡ 0 }
-    ensures filled_before { (place : ℕ) → place < result → bit_at bits place ≡ 1 }
+    ensures taken_before { (place : ℕ) → place < result → bit_at bits place ≡ 1 }
 {
     bits.trailing_ones() as usize
 }
 
-/// The bits after one place is filled or freed.
+/// The bits after one place is taken or freed.
 pub fn with_place(bits: u128, place: usize, free: bool) -> u128
     requires { place < 128 }
     ensures here { free ≡ (bit_at result place == 0) }
