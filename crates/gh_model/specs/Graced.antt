@@ -2,6 +2,8 @@
 -- reading then, and every call that was granted it, has left its section.
 use Rattle.std.specs.Prelude.{◌≡◌, ◌==◌, ◌+◌, ◌*◌, ◌-◌, ◌<◌, ◌≤◌, ℕ, Bool, true, false, List, length, take, Option, Some, None, IsTrue, IfSome, count_by, slice_get, slice_index}
 use Rattle.std.specs.List.{list_any}
+use Rattle.gh_base.specs.Counters.{HaveLeft}
+use Rattle.gh_base.specs.declared.limits.TheConstants.{CPUS}
 use Rattle.gh_base.specs.declared.mark.End.{End}
 use Rattle.gh_base.specs.declared.mark.End.TheVariants as ends
 use Rattle.gh_model.specs.declared.entry.Entry.{Entry}
@@ -11,7 +13,7 @@ use Rattle.gh_model.specs.declared.rows.ObjectRow.{ObjectRow}
 use Rattle.gh_model.specs.declared.state.State.{State}
 use Rattle.gh_model.specs.Rows.{object_row}
 use Rattle.gh_model.specs.References.{is_doomed}
-use Rattle.gh_model.specs.Marks.{Made, Seen, InTurn, has_looks, is_odd, place, place_after}
+use Rattle.gh_model.specs.Marks.{Made, Seen, InTurn, has_looks, place, place_after}
 use Rattle.gh_model.specs.History.{Event, state_at, is_retired, is_unretired, counters, reclaims}
 
 -- the counters of an object's retirement
@@ -48,11 +50,6 @@ GoesUnreferenced s (Retired serial seen) =
 GoesUnreferenced s (Reclaimed serial seen) =
     IsTrue (is_doomed s serial.0) × IsTrue (is_retired (object_row s serial.0))
 
--- a counter that was odd at the retirement is greater now
-abbrev pub HaveLeft : List ℕ → List ℕ → Type 0
-HaveLeft before now =
-    (cpu : ℕ) → cpu < 9 → IsTrue (is_odd (slice_index before cpu)) → slice_index before cpu < slice_index now cpu
-
 -- every CPU that was reading at an object's retirement has left when it is reclaimed
 abbrev pub GoesUnread : State → Entry → Type 0
 GoesUnread s (Acted cpu number) = Unit {0}
@@ -83,12 +80,12 @@ module _ (boot : State) (history : List Event) where
     pub rising : (n m cpu : ℕ) (first second : Event) (before now : List ℕ)
         → slice_get history n ≡ Some first → slice_get history m ≡ Some second → n < m
         → counters first.entry ≡ Some before → counters second.entry ≡ Some now
-        → cpu < 9 → slice_index before cpu ≤ slice_index now cpu
+        → cpu < CPUS → slice_index before cpu ≤ slice_index now cpu
     -- none is above twice the number of the CPU's calls that have looks
     pub bounded : (n cpu : ℕ) (event : Event) (seen : List ℕ)
         → slice_get history n ≡ Some event → counters event.entry ≡ Some seen
-        → cpu < 9 → slice_index seen cpu ≤ 2 * count_by has_looks (calls cpu)
+        → cpu < CPUS → slice_index seen cpu ≤ 2 * count_by has_looks (calls cpu)
     -- and each stands between the sections of the calls before it and of those behind it
     pub fits : (n cpu : ℕ) (event : Event) (seen : List ℕ)
         → slice_get history n ≡ Some event → counters event.entry ≡ Some seen
-        → cpu < 9 → InTurn (Fits event.entry (n + 1) (slice_index seen cpu)) (calls cpu)
+        → cpu < CPUS → InTurn (Fits event.entry (n + 1) (slice_index seen cpu)) (calls cpu)

@@ -118,10 +118,6 @@ has_looks made = nat_lt 0 (length made.seen)
 abbrev pub section_after : List Made → Made → ℕ
 section_after front made = if has_looks made then 2 * count_by has_looks front + 1 else 0
 
--- an odd counter: the CPU is in a section
-abbrev pub is_odd : ℕ → Bool
-is_odd counter = counter % 2 == 1
-
 -- the capability space that a CPU looks up in
 abbrev pub cspace_of : State → ℕ → ℕ
 cspace_of boot cpu = option_map_or (λ (row : CpuRow). row.cspace.0) (cpu_row boot cpu) 0

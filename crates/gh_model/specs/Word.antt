@@ -3,6 +3,7 @@ use Rattle.std.specs.Prelude.{◌≡◌, ◌==◌, ◌&&◌, ◌||◌, ◌<◌, 
 use Rattle.gh_base.specs.CapWord.{filled_bits}
 use Rattle.gh_base.specs.Kind.{kind_number}
 use Rattle.gh_base.specs.declared.cap_word.CapWord.{CapWord}
+use Rattle.gh_base.specs.declared.limits.TheConstants.{OBJECT_INDICES}
 use Rattle.gh_base.specs.declared.cap_word.Need.{Need}
 use Rattle.gh_base.specs.declared.kind.Kind.{Kind}
 use Rattle.gh_base.specs.declared.ids.Serial.{Serial}
@@ -63,7 +64,7 @@ look_reply word need = slot_reply word.row need
 -- have. An index is below 1,024
 pub record ShowsFilled (bits : ℕ) (row : CapabilityRow) (set_at : ℕ) : Type 0 where
   pub object : ℕ
-  pub is_index : object < 1024
+  pub is_index : object < OBJECT_INDICES
   pub bits_are : bits ≡ filled_bits row.valid row.kind row.master object row.rights.0 set_at
 
 -- an empty slot's bits are its setting
