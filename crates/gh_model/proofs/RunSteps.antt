@@ -351,7 +351,7 @@ module _ (boot : State) where
       called = next_call plain seat
 
       abbrev moved : Seat P
-      moved = seat_after answer after seat (next_call plain seat)
+      moved = seat_after answer after seat (next_call plain seat).mark
 
       follows : CallIs boot grew.longer seat.cpu.cpu.0 calls (made_in plain seat)
       follows = record {
@@ -394,7 +394,7 @@ module _ (boot : State) where
       its_exit : exits (made_in plain seat) ≡ is_exit seat.standing.frame
       its_exit = ap is_exit whole.its_frame
 
-      pub own_step : Own grew.longer (calls ++ made_in plain seat ∷ []) (seat_after answer after seat (next_call plain seat))
+      pub own_step : Own grew.longer (calls ++ made_in plain seat ∷ []) (seat_after answer after seat (next_call plain seat).mark)
       own_step = record {
         home = ap (λ (c : CpuNo). cspace_of boot c.0) (field (λ c. c.cpu) refl) ∙ own.home ∙ sym (ap (λ (s : Serial). s.0) (field (λ c. c.cspace) refl));
         legal = subst (λ (c : CpuNo). InTurn (CallIs boot grew.longer c.0) (calls ++ made_in plain seat ∷ [])) (sym (field (λ c. c.cpu) refl))

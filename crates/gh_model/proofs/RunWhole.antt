@@ -55,7 +55,7 @@ module _ {P : Type 0} (answer : P → Option Reply → Step) (after : P → Opti
   number_of seat = seat.cpu.cpu.0
 
   abbrev pub moved : Running P → Seat P → Seat P
-  moved w seat = seat_after answer after seat (next_call w.plain seat)
+  moved w seat = seat_after answer after seat (next_call w.plain seat).mark
 
   pub moved_number : (w : Running P) (seat : Seat P) → number_of (moved w seat) ≡ number_of seat
   moved_number w seat =

@@ -153,16 +153,16 @@ module _ {P : Type 0} (answer : P → Option Reply → Step) (after : P → Opti
   seat_behind false seat c reply =
       record { cpu = c; standing = asked answer after (c.number + 1) seat.standing.program (Some reply) }
 
-  abbrev pub seat_after : Seat P → Called → Seat P
-  seat_after seat called =
-      seat_behind (is_exit seat.standing.frame) seat (after_mark seat.cpu called.mark) called.mark.reply
+  abbrev pub seat_after : Seat P → Mark → Seat P
+  seat_after seat mark =
+      seat_behind (is_exit seat.standing.frame) seat (after_mark seat.cpu mark) mark.reply
 
   abbrev pub with_call : Running P → ℕ → Seat P → Called → Running P
   with_call w at seat called = record {
     plain = called.after;
     entries = w.entries ++ entries_of called.mark;
     marks = w.marks ++ called.mark ∷ [];
-    seats = slice_set w.seats at (seat_after seat called);
+    seats = slice_set w.seats at (seat_after seat called.mark);
   }
 
   -- the turn of a CPU: a call, unless it has ended
@@ -221,12 +221,3 @@ module _ {P : Type 0} (answer : P → Option Reply → Step) (after : P → Opti
   -- those after all have ended do nothing
   abbrev pub run_of : List BootLine → (ℕ → P) → Running P
   run_of boot program = rounds answer after last_number (run_start (boot_state boot) program)
-
--- the counts that a run keeps are not above its number of calls
-pub record IsPaced {P : Type 0} (calls : ℕ) (seat : Seat P) : Type 0 where
-  pub numbered : seat.cpu.number ≤ calls
-  pub opened : seat.cpu.sections ≤ seat.cpu.number
-
-pub record IsBounded {P : Type 0} (w : Running P) : Type 0 where
-  pub made : w.plain.entries ≤ length w.marks
-  pub paced : All (IsPaced (length w.marks)) w.seats
