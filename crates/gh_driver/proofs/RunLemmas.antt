@@ -1,6 +1,7 @@
 -- Turns and rounds, step by step, and what they keep.
-use Rattle.std.proofs.Common.{◌≡◌, ◌==◌, ◌+◌, ◌-◌, ◌<◌, ◌≤◌, ◌^◌, ◌∙◌, ℕ, zero, suc, Bool, true, false, List, [], ◌∷◌, ◌++◌, length, refl, subst, sym, ap, arith, Option, Some, None, Result, Ok, Err, get_or, slice_get, slice_set, All, if◌then◌else◌, length-append, length-set}
-use Rattle.std.specs.List.{list_all}
+use Rattle.std.proofs.Common.{◌≡◌, ◌==◌, ◌+◌, ◌-◌, ◌<◌, ◌≤◌, ◌^◌, ◌∙◌, ℕ, zero, suc, Bool, true, false, List, [], ◌∷◌, ◌++◌, length, refl, subst, sym, ap, arith, Option, Some, None, Result, Ok, Err, get_or, slice_get, slice_set, take, drop, All, if◌then◌else◌, length-append, length-set}
+use Rattle.std.specs.List.{list_all, refill}
+use Rattle.std.proofs.Math.Seq.{take-append_seam}
 use Rattle.std.proofs.lemmas.List.Elements.{All-get_or, All-set, All-weaker}
 use Rattle.std.proofs.lemmas.Option.{get_or_from_slice_get, slice_get-get_or, slice_get_within}
 use Rattle.gh_base.specs.declared.frame.Reply.{Reply}
@@ -149,3 +150,57 @@ module _ {P : Type 0} (answer : P → Option Reply → Step) (after : P → Opti
 
   pub turn_seats : (w new : Running P) (at : ℕ) → new ≡ turn answer after w at → length new.seats ≡ length w.seats
   turn_seats w new at is = ap (λ (v : Running P). length v.seats) is ∙ turn_seats_of w at (slice_get w.seats at)
+
+-- a list that is written through a borrow of all of it is what was written
+pub refilled : {X : Type 0} (xs ws : List X) → length ws ≡ length xs → refill (length xs) xs ws ≡ ws
+refilled xs ws same =
+    subst (λ (n : ℕ). take n (ws ++ drop (length ws) xs) ≡ ws) same (take-append_seam ws (drop (length ws) xs))
+
+put_back : {X : Type 0} (xs : List X) (at : ℕ) (x : X) → slice_get xs at ≡ Some x → slice_set xs at x ≡ xs
+put_back [] at x is = refl
+put_back (y ∷ xs) zero x is = let same : x ≡ y = cc in ap (λ z. z ∷ xs) same
+put_back (y ∷ xs) (suc at) x is = ap (λ ys. y ∷ ys) (put_back xs at x is)
+
+-- the run in its parts, where a seat was written through a borrow
+module _ {P : Type 0} (answer : P → Option Reply → Step) (after : P → Option Reply → P) (wants : P → Bool) (w : Running P) (view : List (Seat P)) (at : ℕ) (d : Seat P) (same : view ≡ w.seats) (within : at < length w.seats) where
+  abbrev seat : Seat P
+  seat = get_or view at d
+
+  there : slice_get w.seats at ≡ Some seat
+  there = item_there w.seats view at d same within
+
+  seats_are : (moved : Seat P) → refill (length w.seats) w.seats (slice_set view at moved) ≡ slice_set w.seats at moved
+  seats_are moved =
+      ap (λ (v : List (Seat P)). refill (length w.seats) w.seats (slice_set v at moved)) same
+      ∙ refilled w.seats (slice_set w.seats at moved) (length-set w.seats at moved)
+
+  abbrev run_with : State → List Entry → List Mark → Seat P → Running P
+  run_with plain entries marks moved = record {
+    plain = plain;
+    entries = entries;
+    marks = marks;
+    seats = refill (length w.seats) w.seats (slice_set view at moved);
+  }
+
+  unchanged : run_with w.plain w.entries w.marks seat ≡ w
+  unchanged = rw (seats_are seat, put_back w.seats at seat there) refl
+
+  -- a CPU that has ended leaves the run
+  pub turn_left : seat.cpu.ended ≡ true → run_with w.plain w.entries w.marks seat ≡ turn answer after w at
+  turn_left over = unchanged ∙ sym (turn_still answer after w at seat there over)
+
+  pub turn_left_bounded : IsBounded wants w → IsBounded wants (run_with w.plain w.entries w.marks seat)
+  turn_left_bounded bounded = subst (λ (v : Running P). IsBounded wants v) (sym unchanged) bounded
+
+  -- one that goes on has made its call
+  module _ (plain : State) (entries : List Entry) (marks : List Mark) (moved : Seat P) (going : seat.cpu.ended ≡ false) (plain_is : plain ≡ (next_call w.plain seat).after) (entries_are : entries ≡ w.entries ++ entries_of (next_call w.plain seat).mark) (marks_are : marks ≡ w.marks ++ (next_call w.plain seat).mark ∷ []) (moved_is : moved ≡ seat_after answer after seat (next_call w.plain seat).mark) where
+    parts : run_with plain entries marks moved ≡ with_call answer after w at seat (next_call w.plain seat)
+    parts = rw (seats_are moved, plain_is, entries_are, marks_are, moved_is) refl
+
+    pub turn_made : run_with plain entries marks moved ≡ turn answer after w at
+    turn_made = parts ∙ sym (turn_going answer after w at seat there going)
+
+    pub turn_made_bounded : IsReady wants moved.standing → IsBounded wants w → IsBounded wants (run_with plain entries marks moved)
+    turn_made_bounded ready bounded =
+        subst (λ (v : Running P). IsBounded wants v) (sym parts)
+        (call_bounded answer after wants w at seat there (subst (λ (s : Seat P). IsReady wants s.standing) moved_is ready) bounded)

@@ -125,5 +125,6 @@ pub(crate) fn turn<P: Program>(
         &mut run.entries,
         &mut run.marks,
         seat,
-    )
+    )?;
+    Ok(())
 }
