@@ -2,6 +2,6 @@ mod CallFileLemmas
 mod CallLineLemmas
 mod CpuLemmas
 mod NumeralLemmas
-mod ProgramLemmas
+pub mod ProgramLemmas
 mod SpellingLemmas
 mod WorkedLemmas

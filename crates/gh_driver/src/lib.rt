@@ -3,11 +3,13 @@
 
 mod ask;
 mod call;
+mod law;
 mod looks;
 mod programs;
 mod run;
 mod turn;
 mod text;
 
+pub use law::file_run_is_legal;
 pub use run::{Finished, run_step};
 pub use text::history_text;
