@@ -8,5 +8,6 @@ pub mod RunLaw
 pub mod RunLists
 pub mod RunSteps
 pub mod RunWhole
+pub mod Small
 pub mod Stays
 pub mod Tests

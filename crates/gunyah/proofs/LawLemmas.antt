@@ -1,7 +1,10 @@
 -- The run of the files under any names is legal.
 use Rattle.std.proofs.Common.{◌≡◌, ℕ, true, List, [], ◌∷◌, Option, None, Some, Result, Ok, Err, IfOk, IfSome, map, subst, refl}
-use Rattle.std.specs.Prelude.{◌||◌, ◌+◌, Bool, false, if◌then◌else◌}
-use Rattle.std.specs.List.{position, position_from}
+use Rattle.std.specs.Prelude.{◌||◌, ◌+◌, ◌≤◌, suc, Bool, false, not, length, nat_lt, if◌then◌else◌}
+use Rattle.std.specs.List.{position, position_or_len, prefix_len}
+use Rattle.std.proofs.Common.{arith}
+use Rattle.std.proofs.lemmas.Bool.{leb-true}
+use Rattle.std.proofs.lemmas.Bool.Decides.{nat_tests}
 use Rattle.gh_base.specs.declared.ids.CpuNo.{CpuNo}
 use Rattle.gh_bootfile.specs.BootFile.{boot_of, told}
 use Rattle.gh_bootfile.proofs.FitsLaw.{boot_of_fits}
@@ -45,18 +48,27 @@ same_line (Vm cspace space) = refl
 same_line (Rm cspace space partition) = refl
 same_line (Link vm extent request reply) = refl
 
-none_by : (here there others : Bool) (at : ℕ) (found : Option ℕ) → here ≡ there → (if there then Some at else found) ≡ None → (found ≡ None → others ≡ false) → (here || others) ≡ false
-none_by here true others at found same none rest = absurd (let never : ⊥ = cc in never)
-none_by here false others at found same none rest = rw same (rest none)
+none_by : (here there others : Bool) (count before : ℕ) → here ≡ there → suc count ≤ (if not there then 1 + before else 0) → (count ≤ before → others ≡ false) → (here || others) ≡ false
+none_by here true others count before same all rest = absurd (omega arith)
+none_by here false others count before same all rest = rw same (rest (omega arith))
 
-no_manager_from : (lines : List BootLine) (at : ℕ) → position_from makes_manager at lines ≡ None → has_manager lines ≡ false
-no_manager_from [] at none = refl
-no_manager_from (line ∷ lines) at none =
-    none_by (is_manager_line line) (makes_manager line) (has_manager lines) at (position_from makes_manager (at + 1) lines) (same_line line) none (λ rest. no_manager_from lines (at + 1) rest)
+none_before : (lines : List BootLine) → length lines ≤ prefix_len (λ (line : BootLine). not (makes_manager line)) lines → has_manager lines ≡ false
+none_before [] all = refl
+none_before (line ∷ lines) all =
+    none_by (is_manager_line line) (makes_manager line) (has_manager lines) (length lines) (prefix_len (λ (other : BootLine). not (makes_manager other)) lines) (same_line line) all (λ rest. none_before lines rest)
+
+not_less : (a b : ℕ) (less : Bool) → nat_lt a b ≡ less → (if less then Some a else None) ≡ None → b ≤ a
+not_less a b true is none = absurd (let never : ⊥ = cc in never)
+not_less a b false is none = leb-true b a (grind (arith, nat_tests))
+
+-- a boot file in which no line is found has no manager
+no_manager_from : (lines : List BootLine) → position makes_manager lines ≡ None → has_manager lines ≡ false
+no_manager_from lines none =
+    none_before lines (not_less (position_or_len makes_manager lines) (length lines) (nat_lt (position_or_len makes_manager lines) (length lines)) refl none)
 
 refused_fits : (found : Option ℕ) (lines value : List BootLine) → position makes_manager lines ≡ found → boot_fits lines ≡ true → refused_at found lines ≡ Ok value → IsTaken value
 refused_fits None lines value is fits e =
-    subst (λ (ls : List BootLine). IsTaken ls) (let same : lines ≡ value = cc in same) (record { fits = fits; no_manager = no_manager_from lines 0 is })
+    subst (λ (ls : List BootLine). IsTaken ls) (let same : lines ≡ value = cc in same) (record { fits = fits; no_manager = no_manager_from lines is })
 refused_fits (Some at) lines value is fits e = absurd (let never : ⊥ = cc in never)
 
 told_fits : (read : Result (List BootLine) ℕ) (value : List BootLine) → ((lines : List BootLine) → read ≡ Ok lines → boot_fits lines ≡ true) → boot_result (told read) ≡ Ok value → IsTaken value
