@@ -2,8 +2,8 @@ mod CallFileLemmas
 mod CallLineLemmas
 mod CpuLemmas
 mod NumeralLemmas
-mod ProgramLemmas
 mod RegisterLemmas
+pub mod ProgramLemmas
 mod SpellingLemmas
 mod WorkedLemmas
 mod WritingLemmas

@@ -17,7 +17,7 @@ use gh_model::{Boot, Line};
 /// Whatever replies come, the frames that a call file's program makes are those that its lines say.
 /// The function does nothing; its clause is the law.
 pub fn program_makes_its_lines(lines: &[Line], replies: &[Reply])
-    ensures { frames_made vm_answer vm_after (fresh lines.now) None replies.now
+    ensures { frames_made vm_answer vm_after (fresh lines.now) replies.now
         ≡ program_frames lines.now replies.now }
 {
     let _ = lines;

@@ -9,7 +9,11 @@ use Rattle.gh_model.specs.declared.rows.CpuRow.{CpuRow}
 use Rattle.gh_model.specs.declared.running.Running.{Running}
 use Rattle.gh_model.specs.declared.state.State.{State}
 use Rattle.gh_model.specs.Boot.{line_fits, lines_fit, after_line, empty_state, boot_state, boot_fits, is_complete, is_vm}
-use Rattle.gh_model.specs.Calls.{is_manager, rows_in_order, cpus_in_order, cpu_start, run_start, IsPaced, IsBounded}
+use Rattle.gh_model.specs.Calls.{is_manager, rows_in_order, cpus_in_order, seat_start, run_start}
+use Rattle.gh_model.specs.declared.program.Line.{Line}
+use Rattle.gh_callfile.specs.VmProgress.{Progress, has_made_one, vm_after, vm_answer}
+use Rattle.gh_driver.specs.FileRun.{file_program}
+use Rattle.gh_driver.specs.Pace.{IsPaced, IsBounded}
 use Rattle.gh_model.proofs.Tests.{and-first, and-second, at_most}
 
 -- a line that fits makes no tenth CPU
@@ -75,29 +79,29 @@ order_parts (row ∷ rows) = one_part row rows (filter is_manager rows) (filter 
 pub order_length : (rows : List CpuRow) → length (rows_in_order rows) ≤ length rows
 order_length rows = omega (arith, order_parts rows, length-append (filter is_manager rows) (filter is_vm rows))
 
--- before the first call all counts are 0
-pub start_paced : (rows : List CpuRow) → All (IsPaced 0) (map cpu_start rows)
-start_paced rows = All-map (IsPaced 0) cpu_start rows (λ k d within. record { numbered = omega arith; along = omega arith; opened = omega arith })
+-- before the first call all counts are 0, and each program waits for the reply to its first call
+pub rows_paced : (files : List (List Line)) (rows : List CpuRow) → All (IsPaced has_made_one 0) (map (λ (row : CpuRow). seat_start vm_answer vm_after row (file_program files row.cpu.0)) rows)
+rows_paced files rows = All-map (IsPaced has_made_one 0) (λ (row : CpuRow). seat_start vm_answer vm_after row (file_program files row.cpu.0)) rows (λ k d within. record { numbered = omega arith; opened = omega arith; ready = λ going. refl })
 
-pub start_bounded : (lines : List BootLine) → IsBounded (run_start (boot_state lines))
-start_bounded lines =
+pub start_bounded : (lines : List BootLine) (files : List (List Line)) → IsBounded has_made_one (run_start vm_answer vm_after (boot_state lines) (file_program files))
+start_bounded lines files =
     let none : (boot_state lines).entries ≡ 0 = fold-entries empty_state lines in
-    record { made = omega (arith, none); paced = start_paced (cpus_in_order (boot_state lines)) }
+    record { made = omega (arith, none); paced = rows_paced files (cpus_in_order (boot_state lines)) }
 
-pub start_cpus : (lines : List BootLine) → length (boot_state lines).cpus ≤ 9 → length (run_start (boot_state lines)).cpus ≤ 9
-start_cpus lines few =
+pub start_cpus : (lines : List BootLine) (files : List (List Line)) → length (boot_state lines).cpus ≤ 9 → length (run_start vm_answer vm_after (boot_state lines) (file_program files)).seats ≤ 9
+start_cpus lines files few =
     let rows : List CpuRow = (boot_state lines).cpus in
-    let same : length (map cpu_start (rows_in_order rows)) ≡ length (rows_in_order rows) = length-map (rows_in_order rows) cpu_start in
+    let same : length (map (λ (row : CpuRow). seat_start vm_answer vm_after row (file_program files row.cpu.0)) (rows_in_order rows)) ≡ length (rows_in_order rows) = length-map (rows_in_order rows) (λ (row : CpuRow). seat_start vm_answer vm_after row (file_program files row.cpu.0)) in
     let fewer : length (rows_in_order rows) ≤ length rows = order_length rows in
     omega (arith, same, fewer, few)
 
 -- what a run needs before its first round
-pub record IsFresh (w : Running) : Type 0 where
-  pub cpus : length w.cpus ≤ 9
-  pub bounded : IsBounded w
+pub record IsFresh (w : Running Progress) : Type 0 where
+  pub cpus : length w.seats ≤ 9
+  pub bounded : IsBounded has_made_one w
   pub calls : w.marks ≡ []
 
-pub start_fresh : (lines : List BootLine) (plain : State) (w : Running) → length (boot_state lines).cpus ≤ 9 → plain ≡ boot_state lines → w ≡ run_start plain → IsFresh w
-start_fresh lines plain w few booted begun =
-    let start : w ≡ run_start (boot_state lines) = begun ∙ ap (λ (s : State). run_start s) booted in
-    subst (λ (v : Running). IsFresh v) (sym start) (record { cpus = start_cpus lines few; bounded = start_bounded lines; calls = refl })
+pub start_fresh : (lines : List BootLine) (files : List (List Line)) (plain : State) (w : Running Progress) → length (boot_state lines).cpus ≤ 9 → plain ≡ boot_state lines → w ≡ run_start vm_answer vm_after plain (file_program files) → IsFresh w
+start_fresh lines files plain w few booted begun =
+    let start : w ≡ run_start vm_answer vm_after (boot_state lines) (file_program files) = begun ∙ ap (λ (s : State). run_start vm_answer vm_after s (file_program files)) booted in
+    subst (λ (v : Running Progress). IsFresh v) (sym start) (record { cpus = start_cpus lines files few; bounded = start_bounded lines files; calls = refl })

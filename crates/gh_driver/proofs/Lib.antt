@@ -1,3 +1,4 @@
 pub mod BootLemmas
+pub mod FileRunLaw
 pub mod RunLemmas
 pub mod TextLemmas

@@ -1,204 +1,206 @@
 -- Turns and rounds, step by step, and what they keep.
-use Rattle.std.proofs.Common.{◌≡◌, ◌==◌, ◌+◌, ◌-◌, ◌<◌, ◌≤◌, ◌^◌, ◌∙◌, ℕ, zero, suc, Bool, true, false, List, [], ◌∷◌, ◌++◌, length, refl, subst, sym, ap, arith, Option, Some, None, Result, Ok, Err, drop, get_or, slice_get, slice_set, All, if◌then◌else◌, length-append, length-set}
-use Rattle.std.specs.List.{list_all}
+use Rattle.std.proofs.Common.{◌≡◌, ◌==◌, ◌+◌, ◌-◌, ◌<◌, ◌≤◌, ◌^◌, ◌∙◌, ℕ, zero, suc, Bool, true, false, List, [], ◌∷◌, ◌++◌, length, refl, subst, sym, ap, arith, Option, Some, None, Result, Ok, Err, get_or, slice_get, slice_set, take, drop, All, if◌then◌else◌, length-append, length-set}
+use Rattle.std.specs.List.{list_all, refill}
+use Rattle.std.proofs.Math.Seq.{take-append_seam}
 use Rattle.std.proofs.lemmas.List.Elements.{All-get_or, All-set, All-weaker}
 use Rattle.std.proofs.lemmas.Option.{get_or_from_slice_get, slice_get-get_or, slice_get_within}
-use Rattle.gh_base.specs.declared.call.Call.{Call}
-use Rattle.gh_base.specs.declared.errno.Errno.{Errno}
-use Rattle.gh_base.specs.declared.frame.Frame.{Frame}
 use Rattle.gh_base.specs.declared.frame.Reply.{Reply}
 use Rattle.gh_base.specs.declared.mark.Mark.{Mark}
 use Rattle.gh_model.specs.declared.entry.Entry.{Entry}
-use Rattle.gh_model.specs.declared.program.Line.{Line}
+use Rattle.gh_model.specs.declared.program.Step.{Step}
 use Rattle.gh_model.specs.declared.running.CpuRun.{CpuRun}
-use Rattle.gh_model.specs.declared.running.Looked.{Looked}
 use Rattle.gh_model.specs.declared.running.Running.{Running}
+use Rattle.gh_model.specs.declared.running.Seat.{Seat}
 use Rattle.gh_model.specs.declared.state.State.{State}
-use Rattle.gh_model.specs.Act.{Verdict, Done, Refused, judge}
-use Rattle.gh_model.specs.Registers.{call_of, needs_of}
-use Rattle.gh_model.specs.Program.{next_frame, is_exit}
-use Rattle.gh_model.specs.Run.{file_of}
-use Rattle.gh_model.specs.Calls.{Called, by_verdict, by_looks, by_shape, call_with, next_call, look_all, no_looks, turn, turn_of, turns, round, rounds, has_ended, with_call, after_called, after_mark, after_call_reply, stays, entries_of, IsPaced, IsBounded}
+use Rattle.gh_model.specs.Program.{is_exit}
+use Rattle.gh_model.specs.Calls.{Called, call_with, next_call, turn, turn_of, turns, round, rounds, has_ended, with_call, seat_after, seat_behind, after_mark, entries_of}
 use Rattle.gh_model.proofs.CallsLemmas.{call_entries, turns_step, rounds_none, rounds_step}
 use Rattle.gh_model.proofs.Tests.{and-first, and-second}
-
--- a call's frame is the one that was made
-pub verdict_frame : (s : State) (c : CpuRun) (frame : Frame) (call : Call) (looked : Looked) (v : Verdict) → (by_verdict s c frame call looked v).frame ≡ frame
-verdict_frame s c frame call looked (Done new reply) = refl
-verdict_frame s c frame call looked (Refused reply) = refl
-
-pub looks_frame : (s : State) (c : CpuRun) (frame : Frame) (call : Call) (looked : Looked) (refused : Option Errno) → (by_looks s c frame call looked refused).frame ≡ frame
-looks_frame s c frame call looked (Some errno) = refl
-looks_frame s c frame call looked None = verdict_frame s c frame call looked (judge s c.cpu.0 frame call looked.words)
-
-pub shape_frame : (s : State) (c : CpuRun) (frame : Frame) (shape : Result Call Errno) → (by_shape s c frame shape).frame ≡ frame
-shape_frame s c frame (Err errno) = refl
-shape_frame s c frame (Ok call) =
-    looks_frame s c frame call (look_all s c.cspace.0 (needs_of call) (no_looks c.place)) (look_all s c.cspace.0 (needs_of call) (no_looks c.place)).refused
-
-pub call_frame : (s : State) (c : CpuRun) (frame : Frame) → (call_with s c frame).frame ≡ frame
-call_frame s c frame = shape_frame s c frame (call_of frame)
-
--- an element has what all have
-pub all_at : {X : Type 0} (P : X → Type 0) (xs : List X) (i : ℕ) (x : X) → slice_get xs i ≡ Some x → All P xs → P x
-all_at P xs i x is all =
-    let here : get_or xs i x ≡ x = get_or_from_slice_get xs i x x is in
-    subst P here (All-get_or P xs i x (slice_get_within xs i x is) all)
+use Rattle.gh_driver.specs.Pace.{IsReady, IsPaced, IsBounded}
 
 pub passes_at : {X : Type 0} (p : X → Bool) (xs : List X) (i : ℕ) (x : X) → slice_get xs i ≡ Some x → list_all p xs ≡ true → p x ≡ true
 passes_at p [] i x is all = cc
 passes_at p (y ∷ ys) zero x is all = subst (λ z. p z ≡ true) (let same : y ≡ x = cc in same) (and-first (p y) (list_all p ys) all)
 passes_at p (y ∷ ys) (suc i) x is all = passes_at p ys i x is (and-second (p y) (list_all p ys) all)
 
--- the turn of a CPU that has ended, and of one that goes on
-pub ended_turn : (w x : Running) (ended : Bool) → ended ≡ true → (if ended then w else x) ≡ w
-ended_turn w x true is = refl
-ended_turn w x false is = cc
+-- an item that is there
+pub item_there : {X : Type 0} (items xs : List X) (at : ℕ) (d : X) → xs ≡ items → at < length items → slice_get items at ≡ Some (get_or xs at d)
+item_there items xs at d same within = rw same (slice_get-get_or items at d within)
 
-pub going_turn : (w x : Running) (ended : Bool) → ended ≡ false → (if ended then w else x) ≡ x
-going_turn w x true going = cc
-going_turn w x false going = refl
+module _ {P : Type 0} (answer : P → Option Reply → Step) (after : P → Option Reply → P) where
+  -- the turn of a CPU that has ended, and of one that goes on
+  ended_turn : (w x : Running P) (ended : Bool) → ended ≡ true → (if ended then w else x) ≡ w
+  ended_turn w x true is = refl
+  ended_turn w x false is = cc
 
-pub turn_going : (files : List (List Line)) (w : Running) (at : ℕ) (c : CpuRun) → slice_get w.cpus at ≡ Some c → c.ended ≡ false → turn files w at ≡ with_call w at (after_called c (file_of files c.cpu.0) (next_call w.plain c (file_of files c.cpu.0))) (next_call w.plain c (file_of files c.cpu.0))
-turn_going files w at c is going = ap (λ (cpu : Option CpuRun). turn_of files w at cpu) is ∙ going_turn w _ c.ended going
+  going_turn : (w x : Running P) (ended : Bool) → ended ≡ false → (if ended then w else x) ≡ x
+  going_turn w x true going = cc
+  going_turn w x false going = refl
 
-pub turn_still : (files : List (List Line)) (w : Running) (at : ℕ) (c : CpuRun) → slice_get w.cpus at ≡ Some c → c.ended ≡ true → turn files w at ≡ w
-turn_still files w at c is ended = ap (λ (cpu : Option CpuRun). turn_of files w at cpu) is ∙ ended_turn w _ c.ended ended
+  pub turn_going : (w : Running P) (at : ℕ) (seat : Seat P) → slice_get w.seats at ≡ Some seat → seat.cpu.ended ≡ false → turn answer after w at ≡ with_call answer after w at seat (next_call w.plain seat)
+  turn_going w at seat is going = ap (λ (found : Option (Seat P)). turn_of answer after w at found) is ∙ going_turn w _ seat.cpu.ended going
 
--- a CPU that is there
-pub cpu_there : (cpus xs : List CpuRun) (at : ℕ) (d : CpuRun) → xs ≡ cpus → at < length cpus → slice_get cpus at ≡ Some (get_or xs at d)
-cpu_there cpus xs at d same within = rw same (slice_get-get_or cpus at d within)
+  pub turn_still : (w : Running P) (at : ℕ) (seat : Seat P) → slice_get w.seats at ≡ Some seat → seat.cpu.ended ≡ true → turn answer after w at ≡ w
+  turn_still w at seat is ended = ap (λ (found : Option (Seat P)). turn_of answer after w at found) is ∙ ended_turn w _ seat.cpu.ended ended
 
--- the counts of a CPU after fewer calls than there can be
-pub record IsSmall (c : CpuRun) : Type 0 where
-  pub number : c.number < 4294967295
-  pub sections : c.sections < 4294967295
-  pub line : c.at < 2 ^ 63
+  -- where all CPUs have ended, nothing changes
+  turn_of_ended : (w : Running P) (at : ℕ) (found : Option (Seat P)) → slice_get w.seats at ≡ found → list_all has_ended w.seats ≡ true → turn_of answer after w at found ≡ w
+  turn_of_ended w at None is all = refl
+  turn_of_ended w at (Some seat) is all = ended_turn w _ seat.cpu.ended (passes_at has_ended w.seats at seat is all)
 
-pub paced_small : (calls : ℕ) (c : CpuRun) → calls < 4128768 → IsPaced calls c → IsSmall c
-paced_small calls c few paced =
-    let numbered : c.number ≤ calls = paced.numbered in
-    let along : c.at ≤ c.number = paced.along in
-    let opened : c.sections ≤ c.number = paced.opened in
-    record { number = omega arith; sections = omega arith; line = omega arith }
+  turns_ended : (w : Running P) (at n : ℕ) → list_all has_ended w.seats ≡ true → turns answer after w at n ≡ w
+  turns_ended w at zero all = refl
+  turns_ended w at (suc n) all = ap (λ (v : Running P). turns answer after v (at + 1) n) (turn_of_ended w at (slice_get w.seats at) refl all) ∙ turns_ended w (at + 1) n all
 
-pub cpu_small : (calls : ℕ) (cpus xs : List CpuRun) (at : ℕ) (d : CpuRun) → calls < 4128768 → xs ≡ cpus → at < length cpus → All (IsPaced calls) cpus → IsSmall (get_or xs at d)
-cpu_small calls cpus xs at d few same within paced = rw same (paced_small calls (get_or cpus at d) few (All-get_or (IsPaced calls) cpus at d within paced))
+  rounds_ended : (n : ℕ) (w : Running P) → list_all has_ended w.seats ≡ true → rounds answer after n w ≡ w
+  unfolding rounds
+  rounds_ended zero w all = refl
+  rounds_ended (suc n) w all = ap (λ (v : Running P). rounds answer after n v) (turns_ended w 0 (length w.seats) all) ∙ rounds_ended n w all
 
--- a run in its parts
-abbrev pub running : State → List Entry → List Mark → List CpuRun → Running
-running plain entries marks cpus = record { plain = plain; entries = entries; marks = marks; cpus = cpus }
+  -- a turn along a round of so many
+  pub along_turns : (w new all : Running P) (at n : ℕ) → at < n → new ≡ turn answer after w at → turns answer after w at (n - at) ≡ all → turns answer after new (at + 1) (n - (at + 1)) ≡ all
+  along_turns w new all at n within is rest =
+      ap (λ (v : Running P). turns answer after v (at + 1) (n - (at + 1))) is ∙ sym (turns_step answer after w at n within) ∙ rest
 
-pub with_made : (w : Running) (at : ℕ) (c : CpuRun) (lines : List Line) (called : Called) (frame : Frame) (exits : Bool) (mark : Mark) (counted next : CpuRun) (plain : State) (entries : List Entry) (marks : List Mark) (cpus : List CpuRun) → called.frame ≡ frame → exits ≡ is_exit frame → mark ≡ called.mark → plain ≡ called.after → counted ≡ after_mark c mark → next ≡ after_call_reply counted lines exits mark.reply → entries ≡ w.entries ++ entries_of mark → marks ≡ w.marks ++ mark ∷ [] → cpus ≡ slice_set w.cpus at next → running plain entries marks cpus ≡ with_call w at (after_called c lines called) called
-with_made w at c lines called frame exits mark counted next plain entries marks cpus is_frame is_exits is_mark is_plain is_counted is_next is_entries is_marks is_cpus =
-    rw (is_cpus, is_marks, is_entries, is_next, is_counted, is_exits, is_plain, is_mark, ← is_frame) refl
+  -- a round along a run of so many
+  pub along_rounds : (w new all : Running P) (at n : ℕ) → at < n → new ≡ round answer after w → rounds answer after (n - at) w ≡ all → rounds answer after (n - (at + 1)) new ≡ all
+  along_rounds w new all at n within is rest =
+      ap (λ (v : Running P). rounds answer after (n - (at + 1)) v) is ∙ sym (rounds_step answer after n at w within) ∙ rest
 
--- the parts that a turn leaves
-pub turn_made : (files : List (List Line)) (w : Running) (at : ℕ) (c : CpuRun) (lines : List Line) (exits : Bool) (mark : Mark) (counted next : CpuRun) (plain : State) (entries : List Entry) (marks : List Mark) (cpus : List CpuRun) → slice_get w.cpus at ≡ Some c → c.ended ≡ false → lines ≡ file_of files c.cpu.0 → exits ≡ is_exit (next_frame (c.number + 1) (drop c.at lines)) → mark ≡ (next_call w.plain c lines).mark → plain ≡ (next_call w.plain c lines).after → counted ≡ after_mark c mark → next ≡ after_call_reply counted lines exits mark.reply → entries ≡ w.entries ++ entries_of mark → marks ≡ w.marks ++ mark ∷ [] → cpus ≡ slice_set w.cpus at next → running plain entries marks cpus ≡ turn files w at
-turn_made files w at c lines exits mark counted next plain entries marks cpus is going is_lines is_exits is_mark is_plain is_counted is_next is_entries is_marks is_cpus =
-    with_made w at c lines (next_call w.plain c lines) (next_frame (c.number + 1) (drop c.at lines)) exits mark counted next plain entries marks cpus (call_frame w.plain c (next_frame (c.number + 1) (drop c.at lines))) is_exits is_mark is_plain is_counted is_next is_entries is_marks is_cpus
-    ∙ ap (λ (ls : List Line). with_call w at (after_called c ls (next_call w.plain c ls)) (next_call w.plain c ls)) is_lines
-    ∙ sym (turn_going files w at c is going)
+  -- no round is left
+  pub rounds_past : (w all : Running P) (at n : ℕ) → n ≤ at → rounds answer after (n - at) w ≡ all → w ≡ all
+  rounds_past w all at n past rest =
+      let none : n - at ≡ 0 = omega arith in
+      sym (ap (λ (left : ℕ). rounds answer after left w) none ∙ rounds_none answer after w) ∙ rest
 
--- behind a call the program is at most one line on
-pub stays_paced : (calls : ℕ) (c : CpuRun) (stay : Bool) → c.number ≤ calls → c.at < c.number → c.sections ≤ c.number → IsPaced calls (if stay then record c { tries = c.tries + 1 } else record c { at = c.at + 1; tries = 0 })
-stays_paced calls c true numbered along opened = record { numbered = numbered; along = omega arith; opened = opened }
-stays_paced calls c false numbered along opened = record { numbered = numbered; along = omega arith; opened = opened }
+  -- the rounds that are left change nothing
+  pub rounds_still : (w all : Running P) (left : ℕ) (seats : List (Seat P)) (ended : Bool) → seats ≡ w.seats → ended ≡ list_all has_ended seats → ended ≡ true → rounds answer after left w ≡ all → w ≡ all
+  rounds_still w all left seats ended same is_ended is rest =
+      let every : list_all has_ended w.seats ≡ true = ap (λ (xs : List (Seat P)). list_all has_ended xs) (sym same) ∙ sym is_ended ∙ is in
+      sym (rounds_ended left w every) ∙ rest
 
-pub reply_paced : (calls : ℕ) (c : CpuRun) (lines : List Line) (exits : Bool) (reply : Reply) → c.number ≤ calls → c.at < c.number → c.sections ≤ c.number → IsPaced calls (after_call_reply c lines exits reply)
-reply_paced calls c lines true reply numbered along opened = record { numbered = numbered; along = omega arith; opened = opened }
-reply_paced calls c lines false reply numbered along opened = stays_paced calls c (stays c lines reply) numbered along opened
+  -- the counts behind a call
 
-pub one_at_most : (none : Bool) → (if none then 0 else 1) ≤ 1
-one_at_most true = omega arith
-one_at_most false = omega arith
+  behind_counts : (exit : Bool) (seat : Seat P) (c : CpuRun) (reply : Reply) → ((seat_behind answer after exit seat c reply).cpu.number ≡ c.number) × ((seat_behind answer after exit seat c reply).cpu.sections ≡ c.sections)
+  behind_counts true seat c reply = (refl, refl)
+  behind_counts false seat c reply = (refl, refl)
 
-pub called_paced : (calls : ℕ) (c : CpuRun) (lines : List Line) (called : Called) → IsPaced calls c → IsPaced (calls + 1) (after_called c lines called)
-called_paced calls c lines called paced =
-    let numbered : c.number ≤ calls = paced.numbered in
-    let along : c.at ≤ c.number = paced.along in
-    let opened : c.sections ≤ c.number = paced.opened in
-    let one : (if length called.mark.looks == 0 then 0 else 1) ≤ 1 = one_at_most (length called.mark.looks == 0) in
-    reply_paced (calls + 1) (after_mark c called.mark) lines (is_exit called.frame) called.mark.reply (omega arith) (omega arith) (omega arith)
+  one_at_most : (none : Bool) → (if none then 0 else 1) ≤ 1
+  one_at_most true = omega arith
+  one_at_most false = omega arith
 
-pub paced_later : (calls : ℕ) (c : CpuRun) → IsPaced calls c → IsPaced (calls + 1) c
-paced_later calls c paced =
-    let numbered : c.number ≤ calls = paced.numbered in
-    record { numbered = omega arith; along = paced.along; opened = paced.opened }
+  module _ (wants : P → Bool) where
+    called_paced : (calls : ℕ) (seat : Seat P) (mark : Mark) → IsPaced wants calls seat → IsReady wants (seat_after answer after seat mark).standing → IsPaced wants (calls + 1) (seat_after answer after seat mark)
+    called_paced calls seat mark paced ready =
+        let numbered : seat.cpu.number ≤ calls = paced.numbered in
+        let opened : seat.cpu.sections ≤ seat.cpu.number = paced.opened in
+        let one : (if length mark.looks == 0 then 0 else 1) ≤ 1 = one_at_most (length mark.looks == 0) in
+        let behind = behind_counts (is_exit seat.standing.frame) seat (after_mark seat.cpu mark) mark.reply in
+        let number : (seat_after answer after seat mark).cpu.number ≡ seat.cpu.number + 1 = behind.0 in
+        let sections : (seat_after answer after seat mark).cpu.sections ≡ seat.cpu.sections + (if length mark.looks == 0 then 0 else 1) = behind.1 in
+        record { numbered = omega arith; opened = omega arith; ready = ready }
 
--- a run is bounded, with at most one call more and the same CPUs
-pub record Steps (w new : Running) : Type 0 where
-  pub bounded : IsBounded new
-  pub calls : length new.marks ≤ length w.marks + 1
-  pub cpus : length new.cpus ≡ length w.cpus
+    paced_later : (calls : ℕ) (seat : Seat P) → IsPaced wants calls seat → IsPaced wants (calls + 1) seat
+    paced_later calls seat paced =
+        let numbered : seat.cpu.number ≤ calls = paced.numbered in
+        record { numbered = omega arith; opened = paced.opened; ready = paced.ready }
 
-pub stays_bounded : (w : Running) → IsBounded w → Steps w w
-stays_bounded w bounded = record { bounded = bounded; calls = omega arith; cpus = refl }
+    -- a call more keeps a run bounded
+    pub call_bounded : (w : Running P) (at : ℕ) (seat : Seat P) → slice_get w.seats at ≡ Some seat → IsReady wants (seat_after answer after seat (next_call w.plain seat).mark).standing → IsBounded wants w → IsBounded wants (with_call answer after w at seat (next_call w.plain seat))
+    call_bounded w at seat is ready bounded =
+        let called : Called = next_call w.plain seat in
+        let made : w.plain.entries ≤ length w.marks = bounded.made in
+        let entry : (next_call w.plain seat).after.entries ≤ w.plain.entries + 1 = call_entries w.plain seat.cpu seat.standing.frame in
+        let one : length (w.marks ++ (next_call w.plain seat).mark ∷ []) ≡ length w.marks + 1 = length-append w.marks ((next_call w.plain seat).mark ∷ []) in
+        let here : get_or w.seats at seat ≡ seat = get_or_from_slice_get w.seats at seat seat is in
+        let paced : IsPaced wants (length w.marks) seat = subst (IsPaced wants (length w.marks)) here (All-get_or (IsPaced wants (length w.marks)) w.seats at seat (slice_get_within w.seats at seat is) bounded.paced) in
+        let later : All (IsPaced wants (length w.marks + 1)) w.seats = All-weaker (IsPaced wants (length w.marks)) (IsPaced wants (length w.marks + 1)) (paced_later (length w.marks)) w.seats bounded.paced in
+        let all : All (IsPaced wants (length w.marks + 1)) (slice_set w.seats at (seat_after answer after seat (next_call w.plain seat).mark)) = All-set (IsPaced wants (length w.marks + 1)) w.seats at (seat_after answer after seat (next_call w.plain seat).mark) (called_paced (length w.marks) seat (next_call w.plain seat).mark paced ready) later in
+        record {
+          made = omega (arith, one);
+          paced = subst (λ (calls : ℕ). All (IsPaced wants calls) (slice_set w.seats at (seat_after answer after seat (next_call w.plain seat).mark))) (sym one) all;
+        }
 
-pub call_steps : (w : Running) (at : ℕ) (c : CpuRun) (lines : List Line) (called : Called) → called.after.entries ≤ w.plain.entries + 1 → IsPaced (length w.marks) c → IsBounded w → Steps w (with_call w at (after_called c lines called) called)
-call_steps w at c lines called entry paced bounded =
-    let made : w.plain.entries ≤ length w.marks = bounded.made in
-    let one : length (w.marks ++ called.mark ∷ []) ≡ length w.marks + 1 = length-append w.marks (called.mark ∷ []) in
-    let later : All (IsPaced (length w.marks + 1)) w.cpus = All-weaker (IsPaced (length w.marks)) (IsPaced (length w.marks + 1)) (paced_later (length w.marks)) w.cpus bounded.paced in
-    let all : All (IsPaced (length w.marks + 1)) (slice_set w.cpus at (after_called c lines called)) = All-set (IsPaced (length w.marks + 1)) w.cpus at (after_called c lines called) (called_paced (length w.marks) c lines called paced) later in
-    record {
-      bounded = record { made = omega (arith, one); paced = subst (λ (calls : ℕ). All (IsPaced calls) (slice_set w.cpus at (after_called c lines called))) (sym one) all };
-      calls = omega (arith, one);
-      cpus = length-set w.cpus at (after_called c lines called);
-    }
+    -- the counts of a seat after fewer calls than there can be
+    pub seat_paced : (w : Running P) (seats : List (Seat P)) (at : ℕ) (d : Seat P) → seats ≡ w.seats → at < length w.seats → IsBounded wants w → IsPaced wants (length w.marks) (get_or seats at d)
+    seat_paced w seats at d same within bounded =
+        rw same (All-get_or (IsPaced wants (length w.marks)) w.seats at d within bounded.paced)
 
-pub unless_ended : (w x : Running) (ended : Bool) → Steps w w → Steps w x → Steps w (if ended then w else x)
-unless_ended w x true same other = same
-unless_ended w x false same other = other
+  -- a turn makes at most one call, of as many CPUs
+  turn_marks_by : (ended : Bool) (w : Running P) (at : ℕ) (seat : Seat P) → length (if ended then w else with_call answer after w at seat (next_call w.plain seat)).marks ≤ length w.marks + 1
+  turn_marks_by true w at seat = omega arith
+  turn_marks_by false w at seat =
+      let one : length (w.marks ++ (next_call w.plain seat).mark ∷ []) ≡ length w.marks + 1 = length-append w.marks ((next_call w.plain seat).mark ∷ []) in
+      omega arith
 
-pub turn_of_steps : (files : List (List Line)) (w : Running) (at : ℕ) (cpu : Option CpuRun) → slice_get w.cpus at ≡ cpu → IsBounded w → Steps w (turn_of files w at cpu)
-turn_of_steps files w at None is bounded = stays_bounded w bounded
-turn_of_steps files w at (Some c) is bounded =
-    let lines : List Line = file_of files c.cpu.0 in
-    unless_ended w (with_call w at (after_called c lines (next_call w.plain c lines)) (next_call w.plain c lines)) c.ended (stays_bounded w bounded)
-    (call_steps w at c lines (next_call w.plain c lines) (call_entries w.plain c (next_frame (c.number + 1) (drop c.at lines))) (all_at (IsPaced (length w.marks)) w.cpus at c is bounded.paced) bounded)
+  turn_marks_of : (w : Running P) (at : ℕ) (found : Option (Seat P)) → length (turn_of answer after w at found).marks ≤ length w.marks + 1
+  turn_marks_of w at None = omega arith
+  turn_marks_of w at (Some seat) = turn_marks_by seat.cpu.ended w at seat
 
-pub turn_steps : (files : List (List Line)) (w : Running) (at : ℕ) → IsBounded w → Steps w (turn files w at)
-turn_steps files w at bounded = turn_of_steps files w at (slice_get w.cpus at) refl bounded
+  pub turn_marks : (w new : Running P) (at : ℕ) → new ≡ turn answer after w at → length new.marks ≤ length w.marks + 1
+  turn_marks w new at is = subst (λ (v : Running P). length v.marks ≤ length w.marks + 1) (sym is) (turn_marks_of w at (slice_get w.seats at))
 
--- where all CPUs have ended, nothing changes
-pub turn_of_ended : (files : List (List Line)) (w : Running) (at : ℕ) (cpu : Option CpuRun) → slice_get w.cpus at ≡ cpu → list_all has_ended w.cpus ≡ true → turn_of files w at cpu ≡ w
-turn_of_ended files w at None is all = refl
-turn_of_ended files w at (Some c) is all = ended_turn w _ c.ended (passes_at has_ended w.cpus at c is all)
+  turn_seats_by : (ended : Bool) (w : Running P) (at : ℕ) (seat : Seat P) → length (if ended then w else with_call answer after w at seat (next_call w.plain seat)).seats ≡ length w.seats
+  turn_seats_by true w at seat = refl
+  turn_seats_by false w at seat = length-set w.seats at (seat_after answer after seat (next_call w.plain seat).mark)
 
-pub turn_ended : (files : List (List Line)) (w : Running) (at : ℕ) → list_all has_ended w.cpus ≡ true → turn files w at ≡ w
-turn_ended files w at all = turn_of_ended files w at (slice_get w.cpus at) refl all
+  turn_seats_of : (w : Running P) (at : ℕ) (found : Option (Seat P)) → length (turn_of answer after w at found).seats ≡ length w.seats
+  turn_seats_of w at None = refl
+  turn_seats_of w at (Some seat) = turn_seats_by seat.cpu.ended w at seat
 
-pub turns_ended : (files : List (List Line)) (w : Running) (at n : ℕ) → list_all has_ended w.cpus ≡ true → turns files w at n ≡ w
-turns_ended files w at zero all = refl
-turns_ended files w at (suc n) all = ap (λ (v : Running). turns files v (at + 1) n) (turn_ended files w at all) ∙ turns_ended files w (at + 1) n all
+  pub turn_seats : (w new : Running P) (at : ℕ) → new ≡ turn answer after w at → length new.seats ≡ length w.seats
+  turn_seats w new at is = ap (λ (v : Running P). length v.seats) is ∙ turn_seats_of w at (slice_get w.seats at)
 
-pub rounds_ended : (n : ℕ) (files : List (List Line)) (w : Running) → list_all has_ended w.cpus ≡ true → rounds n files w ≡ w
-unfolding rounds
-rounds_ended zero files w all = refl
-rounds_ended (suc n) files w all = ap (λ (v : Running). rounds n files v) (turns_ended files w 0 (length w.cpus) all) ∙ rounds_ended n files w all
+-- a list that is written through a borrow of all of it is what was written
+pub refilled : {X : Type 0} (xs ws : List X) → length ws ≡ length xs → refill (length xs) xs ws ≡ ws
+refilled xs ws same =
+    subst (λ (n : ℕ). take n (ws ++ drop (length ws) xs) ≡ ws) same (take-append_seam ws (drop (length ws) xs))
 
--- a turn along a round of so many, and what it keeps
-pub along_turns : (files : List (List Line)) (w new all : Running) (at n : ℕ) → at < n → new ≡ turn files w at → turns files w at (n - at) ≡ all → turns files new (at + 1) (n - (at + 1)) ≡ all
-along_turns files w new all at n within is rest =
-    ap (λ (v : Running). turns files v (at + 1) (n - (at + 1))) is ∙ sym (turns_step files w at n within) ∙ rest
+put_back : {X : Type 0} (xs : List X) (at : ℕ) (x : X) → slice_get xs at ≡ Some x → slice_set xs at x ≡ xs
+put_back [] at x is = refl
+put_back (y ∷ xs) zero x is = let same : x ≡ y = cc in ap (λ z. z ∷ xs) same
+put_back (y ∷ xs) (suc at) x is = ap (λ ys. y ∷ ys) (put_back xs at x is)
 
-pub turn_along : (files : List (List Line)) (w new : Running) (at : ℕ) → new ≡ turn files w at → IsBounded w → Steps w new
-turn_along files w new at is bounded = subst (λ (v : Running). Steps w v) (sym is) (turn_steps files w at bounded)
+-- the run in its parts, where a seat was written through a borrow
+module _ {P : Type 0} (answer : P → Option Reply → Step) (after : P → Option Reply → P) (wants : P → Bool) (w : Running P) (view : List (Seat P)) (at : ℕ) (d : Seat P) (same : view ≡ w.seats) (within : at < length w.seats) where
+  abbrev seat : Seat P
+  seat = get_or view at d
 
--- a round along a run of so many
-pub along_rounds : (files : List (List Line)) (w new all : Running) (at n : ℕ) → at < n → new ≡ round files w → rounds (n - at) files w ≡ all → rounds (n - (at + 1)) files new ≡ all
-along_rounds files w new all at n within is rest =
-    ap (λ (v : Running). rounds (n - (at + 1)) files v) is ∙ sym (rounds_step n at files w within) ∙ rest
+  there : slice_get w.seats at ≡ Some seat
+  there = item_there w.seats view at d same within
 
--- no round is left
-pub rounds_past : (files : List (List Line)) (w all : Running) (at n : ℕ) → n ≤ at → rounds (n - at) files w ≡ all → w ≡ all
-rounds_past files w all at n past rest =
-    let none : n - at ≡ 0 = omega arith in
-    sym (ap (λ (left : ℕ). rounds left files w) none ∙ rounds_none files w) ∙ rest
+  seats_are : (moved : Seat P) → refill (length w.seats) w.seats (slice_set view at moved) ≡ slice_set w.seats at moved
+  seats_are moved =
+      ap (λ (v : List (Seat P)). refill (length w.seats) w.seats (slice_set v at moved)) same
+      ∙ refilled w.seats (slice_set w.seats at moved) (length-set w.seats at moved)
 
--- the rounds that are left change nothing
-pub rounds_still : (files : List (List Line)) (w all : Running) (left : ℕ) (cpus : List CpuRun) (ended : Bool) → cpus ≡ w.cpus → ended ≡ list_all has_ended cpus → ended ≡ true → rounds left files w ≡ all → w ≡ all
-rounds_still files w all left cpus ended same is_ended is rest =
-    let every : list_all has_ended w.cpus ≡ true = ap (λ (xs : List CpuRun). list_all has_ended xs) (sym same) ∙ sym is_ended ∙ is in
-    sym (rounds_ended left files w every) ∙ rest
+  abbrev run_with : State → List Entry → List Mark → Seat P → Running P
+  run_with plain entries marks moved = record {
+    plain = plain;
+    entries = entries;
+    marks = marks;
+    seats = refill (length w.seats) w.seats (slice_set view at moved);
+  }
+
+  unchanged : run_with w.plain w.entries w.marks seat ≡ w
+  unchanged = rw (seats_are seat, put_back w.seats at seat there) refl
+
+  -- a CPU that has ended leaves the run
+  pub turn_left : seat.cpu.ended ≡ true → run_with w.plain w.entries w.marks seat ≡ turn answer after w at
+  turn_left over = unchanged ∙ sym (turn_still answer after w at seat there over)
+
+  pub turn_left_bounded : IsBounded wants w → IsBounded wants (run_with w.plain w.entries w.marks seat)
+  turn_left_bounded bounded = subst (λ (v : Running P). IsBounded wants v) (sym unchanged) bounded
+
+  -- one that goes on has made its call
+  module _ (plain : State) (entries : List Entry) (marks : List Mark) (moved : Seat P) (going : seat.cpu.ended ≡ false) (plain_is : plain ≡ (next_call w.plain seat).after) (entries_are : entries ≡ w.entries ++ entries_of (next_call w.plain seat).mark) (marks_are : marks ≡ w.marks ++ (next_call w.plain seat).mark ∷ []) (moved_is : moved ≡ seat_after answer after seat (next_call w.plain seat).mark) where
+    parts : run_with plain entries marks moved ≡ with_call answer after w at seat (next_call w.plain seat)
+    parts = rw (seats_are moved, plain_is, entries_are, marks_are, moved_is) refl
+
+    pub turn_made : run_with plain entries marks moved ≡ turn answer after w at
+    turn_made = parts ∙ sym (turn_going answer after w at seat there going)
+
+    pub turn_made_bounded : IsReady wants moved.standing → IsBounded wants w → IsBounded wants (run_with plain entries marks moved)
+    turn_made_bounded ready bounded =
+        subst (λ (v : Running P). IsBounded wants v) (sym parts)
+        (call_bounded answer after wants w at seat there (subst (λ (s : Seat P). IsReady wants s.standing) moved_is ready) bounded)

@@ -1,1 +1,3 @@
+pub mod FileRun
 pub mod Mapped
+pub mod Pace

@@ -1,14 +1,13 @@
 //! One whole call of a CPU.
 
-ghost use Rattle.std.specs.Prelude.{◌≡◌, ◌+◌, ◌<◌, ◌≤◌, ◌^◌, drop, Ok, None, Some, IfOk, IfSome, OnOk};
-ghost use Rattle.gh_model.specs.Calls.{call_mark, by_shape, by_looks, call_with as called_with, next_call, act_end, no_looks};
+ghost use Rattle.std.specs.Prelude.{◌≡◌, ◌<◌, Ok, None, IfOk, OnOk};
+ghost use Rattle.gh_model.specs.Calls.{call_mark, by_shape, by_looks, call_with as called_with, act_end};
 ghost use Rattle.gh_model.specs.Legal.{is_short};
-ghost use Rattle.gh_model.specs.Program.{next_frame, exit_frame, is_exit};
 
 use crate::looks::{grants, look_up, unlooked};
-use gh_base::{CALL_NUMBERS, Call, End, Errno, Frame, Mark, NoMemory, Reply, Sequence};
+use gh_base::{Call, End, Errno, Frame, Mark, NoMemory, Reply, Sequence};
 use gh_frames::{needs, read_call};
-use gh_model::{CpuRun, Judged, Line, Looked, Plain};
+use gh_model::{CpuRun, Judged, Looked, Plain};
 use std::alloc::Global;
 
 /// The mark of a call that ends so.
@@ -69,8 +68,9 @@ fn acted(
     ensures mark { IfOk result (λ mark. mark ≡ (by_looks plain.old c.now frame.now call.now looked None).mark) }
     ensures state { OnOk result (plain.new ≡ (by_looks plain.old c.now frame.now call.now looked None).after) }
 {
-    let grants = grants(alloc, looked.words.as_slice())?;
-    match plain.act(alloc, c.cpu, call, grants.as_slice())? {
+    let count = needs(call).len();
+    let grants = grants(alloc, looked.words.as_slice(), count)?;
+    match plain.act(alloc, c.cpu, frame, call, grants.as_slice())? {
         Judged::Done(reply) => {
             let number = plain.entries();
             Ok(mark(c, looked, End::Entry { number }, reply))
@@ -104,7 +104,12 @@ fn looked_up(
 }
 
 /// The call that makes this frame.
-fn call_of(alloc: Global, plain: &mut Plain, c: &CpuRun, frame: &Frame) -> Result<Mark, NoMemory>
+pub(crate) fn make_call(
+    alloc: Global,
+    plain: &mut Plain,
+    c: &CpuRun,
+    frame: &Frame,
+) -> Result<Mark, NoMemory>
     requires entries { plain.old.entries < 4294963200 }
     requires number { c.now.number < 4294967295 }
     ensures mark { IfOk result (λ mark. mark ≡ (called_with plain.old c.now frame.now).mark) }
@@ -113,65 +118,5 @@ fn call_of(alloc: Global, plain: &mut Plain, c: &CpuRun, frame: &Frame) -> Resul
     match read_call(frame) {
         Err(errno) => Ok(mark(c, unlooked(c.place), End::Frame, Reply::refusal(errno))),
         Ok(call) => looked_up(alloc, plain, c, frame, &call),
-    }
-}
-
-/// The exit call's function, in x0 of a frame.
-const EXIT: u64 = 0xc600_8240;
-
-fn exit(alloc: Global) -> Frame
-    ensures { result ≡ exit_frame }
-{
-    Frame {
-        x: [EXIT, 0, 0, 0, 0, 0, 0, 0, 0],
-        bytes: Sequence::new(alloc),
-    }
-}
-
-fn exits(frame: &Frame) -> bool
-    ensures { result ≡ is_exit frame.now }
-{
-    frame.x[0] % 0x1_0000_0000 == EXIT
-}
-
-/// The line that the CPU makes next; none where it makes the exit call.
-fn next_line<'a>(c: &CpuRun, lines: &'a [Line]) -> Option<&'a Line>
-    requires number { c.now.number < 4294967295 }
-    ensures none { result ≡ None → next_frame (c.now.number + 1) (drop c.now.at lines.now) ≡ exit_frame }
-    ensures some { IfSome result (λ line. next_frame (c.now.number + 1) (drop c.now.at lines.now) ≡ line.now.frame) }
-{
-    if c.number + 1 == CALL_NUMBERS {
-        None
-    } else {
-        lines.get(c.at)
-    }
-}
-
-/// Whether the CPU's next call is the exit call.
-pub(crate) fn next_exits(c: &CpuRun, lines: &[Line]) -> bool
-    requires number { c.now.number < 4294967295 }
-    ensures { result ≡ is_exit (next_frame (c.now.number + 1) (drop c.now.at lines.now)) }
-{
-    match next_line(c, lines) {
-        None => true,
-        Some(line) => exits(&line.frame),
-    }
-}
-
-/// The CPU's next call.
-pub(crate) fn make_call(
-    alloc: Global,
-    plain: &mut Plain,
-    c: &CpuRun,
-    lines: &[Line],
-) -> Result<Mark, NoMemory>
-    requires entries { plain.old.entries < 4294963200 }
-    requires number { c.now.number < 4294967295 }
-    ensures mark { IfOk result (λ mark. mark ≡ (next_call plain.old c.now lines.now).mark) }
-    ensures state { OnOk result (plain.new ≡ (next_call plain.old c.now lines.now).after) }
-{
-    match next_line(c, lines) {
-        None => call_of(alloc, plain, c, &exit(alloc)),
-        Some(line) => call_of(alloc, plain, c, &line.frame),
     }
 }

@@ -1,6 +1,6 @@
 //! The capability lookups of a call.
 
-ghost use Rattle.std.specs.Prelude.{◌≡◌, ◌<◌, ◌≤◌, length, map, IfOk, Option, Result};
+ghost use Rattle.std.specs.Prelude.{◌≡◌, ◌<◌, ◌≤◌, length, map, take, IfOk, Option, Result};
 ghost use Rattle.gh_model.specs.Word.{word_at};
 ghost use Rattle.gh_model.specs.Act.{granted};
 ghost use Rattle.gh_model.specs.Calls.{no_looks, with_look, look_all, refusal_of};
@@ -72,10 +72,14 @@ fn object(word: &Word) -> Serial
     }
 }
 
-/// The objects that the words grant.
-pub(crate) fn grants(alloc: Global, words: &[Word]) -> Result<Vec<Serial>, NoMemory>
-    ensures { IfOk result (λ grants. grants.items ≡ map granted words.now) }
+/// The objects that so many of the words grant.
+pub(crate) fn grants(alloc: Global, words: &[Word], count: usize) -> Result<Vec<Serial>, NoMemory>
+    ensures { IfOk result (λ grants. grants.items ≡ map granted (take count words.now)) }
 {
-    let grants: Vec<Serial> = words.iter().map(|word| object(word)).collect(alloc)?;
+    let grants: Vec<Serial> = words
+        .iter()
+        .take(count)
+        .map(|word| object(word))
+        .collect(alloc)?;
     Ok(grants)
 }

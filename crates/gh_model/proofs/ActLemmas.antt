@@ -1,14 +1,28 @@
 -- What an act keeps, and what a refused act answers.
-use Rattle.std.proofs.Common.{◌≡◌, ◌≢◌, ◌==◌, ◌+◌, ℕ, Bool, true, false, List, [], refl, subst, slice_index, not, if◌then◌else◌}
+use Rattle.std.proofs.Common.{◌≡◌, ◌≢◌, ◌==◌, ◌+◌, ℕ, Bool, true, false, List, [], Option, Some, None, refl, subst, sym, ap, ◌∙◌, map, slice_get, slice_index, not, if◌then◌else◌}
+use Rattle.std.specs.List.{position_or_len}
+use Rattle.std.proofs.lemmas.Option.{get_or_from_slice_get}
+use Rattle.std.proofs.Math.Seq.{map-set_same}
 use Rattle.gh_base.specs.Reply.{refusal}
 use Rattle.gh_base.specs.declared.call.Call.{Call}
 use Rattle.gh_base.specs.declared.call.Call.TheVariants.{Identify, Exit, BellSend, Create, ConfigurePartition, ConfigureQueue}
 use Rattle.gh_base.specs.declared.errno.Errno.TheVariants.{Unimplemented, CapRevoked, ObjState}
 use Rattle.gh_base.specs.declared.frame.Reply.{Reply}
 use Rattle.gh_base.specs.declared.ids.Serial.{Serial}
+use Rattle.gh_model.specs.declared.rows.CpuRow.{CpuRow}
 use Rattle.gh_model.specs.declared.state.State.{State}
-use Rattle.gh_model.specs.Act.{Verdict, Done, Refused, act, effect, counted, any_doomed, all_active, with_bell_flags, with_exit, first_grant}
+use Rattle.gh_model.specs.Rows.{is_cpu, put_row}
+use Rattle.gh_model.specs.Act.{Verdict, Done, Refused, act, effect, counted, any_doomed, all_active, with_bell_flags, with_exit, first_grant, as_exited}
 use Rattle.gh_model.specs.Legal.{is_short}
+
+abbrev pub row_number : CpuRow → ℕ
+row_number row = row.cpu.0
+
+-- a row that is changed keeps what the change leaves
+pub put_keeps : {A : Type 0} (f : CpuRow → A) (change : CpuRow → CpuRow) (rows : List CpuRow) (at : ℕ) (found : Option CpuRow) → ((row : CpuRow) → f (change row) ≡ f row) → slice_get rows at ≡ found → map f (put_row change rows at found) ≡ map f rows
+put_keeps f change rows at None same is = refl
+put_keeps f change rows at (Some row) same is =
+    map-set_same f rows at (change row) row (same row ∙ ap f (sym (get_or_from_slice_get rows at row row is)))
 
 -- one entry more, and no slot set
 pub record Keeps (s new : State) : Type 0 where
@@ -16,18 +30,19 @@ pub record Keeps (s new : State) : Type 0 where
   pub taken : new.taken ≡ []
   pub caps : new.caps ≡ s.caps
   pub set_at : new.set_at ≡ s.set_at
+  pub cpus : map row_number new.cpus ≡ map row_number s.cpus
 
-pub effect_keeps : (s : State) (cpu : ℕ) (call : Call) (grants : List Serial) (new : State) (reply : Reply) → effect s cpu call grants ≡ Done new reply → Keeps s new
-effect_keeps s cpu Identify grants new reply is =
+pub effect_keeps : (s : State) (cpu : ℕ) (call : Call) (bytes : List ℕ) (grants : List Serial) (new : State) (reply : Reply) → effect s cpu call bytes grants ≡ Done new reply → Keeps s new
+effect_keeps s cpu Identify bytes grants new reply is =
     let same : counted s ≡ new = cc in
-    subst (λ (t : State). Keeps s t) same (record { entries = refl; taken = refl; caps = refl; set_at = refl })
-effect_keeps s cpu (BellSend cap flags) grants new reply is =
+    subst (λ (t : State). Keeps s t) same (record { entries = refl; taken = refl; caps = refl; set_at = refl; cpus = refl })
+effect_keeps s cpu (BellSend bell flags) bytes grants new reply is =
     let same : counted (with_bell_flags s (first_grant grants) flags) ≡ new = cc in
-    subst (λ (t : State). Keeps s t) same (record { entries = refl; taken = refl; caps = refl; set_at = refl })
-effect_keeps s cpu Exit grants new reply is =
+    subst (λ (t : State). Keeps s t) same (record { entries = refl; taken = refl; caps = refl; set_at = refl; cpus = refl })
+effect_keeps s cpu Exit bytes grants new reply is =
     let same : counted (with_exit s cpu) ≡ new = cc in
-    subst (λ (t : State). Keeps s t) same (record { entries = refl; taken = refl; caps = refl; set_at = refl })
-effect_keeps s cpu _ grants new reply is = absurd (let never : ⊥ = cc in never)
+    subst (λ (t : State). Keeps s t) same (record { entries = refl; taken = refl; caps = refl; set_at = refl; cpus = put_keeps row_number as_exited s.cpus (position_or_len (is_cpu cpu) s.cpus) (slice_get s.cpus (position_or_len (is_cpu cpu) s.cpus)) (λ row. refl) refl })
+effect_keeps s cpu _ bytes grants new reply is = absurd (let never : ⊥ = cc in never)
 
 -- the effect comes to what two refusals before it don't forestall
 pub unless_two : (a b : Bool) (first second : Reply) (others : Verdict) (new : State) (reply : Reply) → (if a then Refused first else (if not b then Refused second else others)) ≡ Done new reply → others ≡ Done new reply
@@ -36,9 +51,9 @@ unless_two false true first second others new reply is = is
 unless_two false false first second others new reply is = absurd (let never : ⊥ = cc in never)
 
 -- an act that is done makes one entry and sets no slot
-pub act_keeps : (s : State) (cpu : ℕ) (call : Call) (grants : List Serial) (new : State) (reply : Reply) → act s cpu call grants ≡ Done new reply → Keeps s new
-act_keeps s cpu call grants new reply is =
-    effect_keeps s cpu call grants new reply (unless_two (any_doomed s grants) (all_active s grants) (refusal CapRevoked) (refusal ObjState) (effect s cpu call grants) new reply is)
+pub act_keeps : (s : State) (cpu : ℕ) (call : Call) (bytes : List ℕ) (grants : List Serial) (new : State) (reply : Reply) → act s cpu call bytes grants ≡ Done new reply → Keeps s new
+act_keeps s cpu call bytes grants new reply is =
+    effect_keeps s cpu call bytes grants new reply (unless_two (any_doomed s grants) (all_active s grants) (refusal CapRevoked) (refusal ObjState) (effect s cpu call bytes grants) new reply is)
 
 -- a refusal: x0 isn't 0, and no want of units
 pub record IsRefusal (call : Call) (reply : Reply) : Type 0 where
@@ -60,11 +75,11 @@ stage_refuses call = record { number = λ (e : 33 ≡ 0). cc; not_short = short_
 pub unbuilt_refuses : (call : Call) → IsRefusal call (refusal Unimplemented)
 unbuilt_refuses call = record { number = λ (e : 0xffff_ffff_ffff_ffff ≡ 0). cc; not_short = short_by_number call (refusal Unimplemented) refl }
 
-pub effect_refuses : (s : State) (cpu : ℕ) (call : Call) (grants : List Serial) (reply : Reply) → effect s cpu call grants ≡ Refused reply → IsRefusal call reply
-effect_refuses s cpu Identify grants reply is = absurd (let never : ⊥ = cc in never)
-effect_refuses s cpu (BellSend cap flags) grants reply is = absurd (let never : ⊥ = cc in never)
-effect_refuses s cpu Exit grants reply is = absurd (let never : ⊥ = cc in never)
-effect_refuses s cpu call grants reply is =
+pub effect_refuses : (s : State) (cpu : ℕ) (call : Call) (bytes : List ℕ) (grants : List Serial) (reply : Reply) → effect s cpu call bytes grants ≡ Refused reply → IsRefusal call reply
+effect_refuses s cpu Identify bytes grants reply is = absurd (let never : ⊥ = cc in never)
+effect_refuses s cpu (BellSend bell flags) bytes grants reply is = absurd (let never : ⊥ = cc in never)
+effect_refuses s cpu Exit bytes grants reply is = absurd (let never : ⊥ = cc in never)
+effect_refuses s cpu call bytes grants reply is =
     let same : refusal Unimplemented ≡ reply = cc in
     subst (λ (r : Reply). IsRefusal call r) same (unbuilt_refuses call)
 
@@ -76,6 +91,6 @@ refused_by call false false others reply other is =
     let same : refusal ObjState ≡ reply = cc in subst (λ (r : Reply). IsRefusal call r) same (stage_refuses call)
 
 -- an act that is refused answers a refusal
-pub act_refuses : (s : State) (cpu : ℕ) (call : Call) (grants : List Serial) (reply : Reply) → act s cpu call grants ≡ Refused reply → IsRefusal call reply
-act_refuses s cpu call grants reply is =
-    refused_by call (any_doomed s grants) (all_active s grants) (effect s cpu call grants) reply (effect_refuses s cpu call grants reply) is
+pub act_refuses : (s : State) (cpu : ℕ) (call : Call) (bytes : List ℕ) (grants : List Serial) (reply : Reply) → act s cpu call bytes grants ≡ Refused reply → IsRefusal call reply
+act_refuses s cpu call bytes grants reply is =
+    refused_by call (any_doomed s grants) (all_active s grants) (effect s cpu call bytes grants) reply (effect_refuses s cpu call bytes grants reply) is

@@ -2,9 +2,12 @@ pub mod ActLemmas
 pub mod BootLemmas
 pub mod CallsLemmas
 pub mod CpuRows
-pub mod LooksLaw
+pub mod Ends
+pub mod Looks
 pub mod RunLaw
 pub mod RunLists
 pub mod RunSteps
 pub mod RunWhole
+pub mod Small
+pub mod Stays
 pub mod Tests

@@ -1,249 +1,241 @@
--- A call of a CPU is legal where it is made, and its entry, if it has one, is the next.
-use Rattle.std.proofs.Common.{◌≡◌, ◌==◌, ◌+◌, ◌*◌, ◌-◌, ◌<◌, ◌≤◌, ◌∙◌, ℕ, Bool, false, List, [], ◌∷◌, ◌++◌, ◌⊎◌, inl, inr, length, take, drop, refl, subst, sym, ap, arith, Option, Some, None, Result, Ok, Err, slice_get, map, if◌then◌else◌, append_assoc}
-use Rattle.std.proofs.lemmas.List.{take-append-le, length-append}
-use Rattle.std.proofs.lemmas.List.Sums.{fold-append}
-use Rattle.gh_base.specs.Reply.{refusal}
-use Rattle.gh_base.specs.declared.call.Call.{Call}
-use Rattle.gh_base.specs.declared.errno.Errno.{Errno}
+-- The whole run of a boot file is legal, graced and by its programs.
+use Rattle.std.proofs.Common.{◌≡◌, ◌≢◌, ◌==◌, ◌≤◌, ◌∙◌, ℕ, zero, suc, Bool, true, false, List, [], ◌∷◌, ◌++◌, inr, refl, subst, sym, ap, arith, Option, Some, None, slice_get, map, fold, filter, find, IsTrue, IsSome, if◌then◌else◌, eq-eqb}
+use Rattle.std.specs.Prelude.{count_by}
+use Rattle.std.specs.List.{last_or}
+use Rattle.std.proofs.lemmas.List.{append-nil}
+use Rattle.std.proofs.lemmas.Bool.Decides.{nat_tests}
+use Rattle.std.proofs.lemmas.Bool.{eqb-true}
 use Rattle.gh_base.specs.declared.frame.Frame.{Frame}
 use Rattle.gh_base.specs.declared.frame.Reply.{Reply}
-use Rattle.gh_base.specs.declared.mark.End.{End}
 use Rattle.gh_base.specs.declared.mark.End.TheVariants as ends
-use Rattle.gh_model.specs.declared.entry.Entry.TheVariants.{Acted}
-use Rattle.gh_model.specs.declared.program.Line.{Line}
-use Rattle.gh_model.specs.declared.running.CpuRun.{CpuRun}
-use Rattle.gh_model.specs.declared.running.Looked.{Looked}
+use Rattle.gh_model.specs.declared.boot_line.BootLine.{BootLine}
+use Rattle.gh_model.specs.declared.boot_line.BootLine.TheVariants.{Pages, Partition, Cspace, Addrspace, Doorbell, RootExtent, Extent, Msgqueue, Map, Cap, Vm, Rm, Link}
+use Rattle.gh_model.specs.declared.entry.Entry.{Entry}
+use Rattle.gh_model.specs.declared.program.Step.{Step}
+use Rattle.gh_model.specs.declared.rows.CpuRow.{CpuRow}
+use Rattle.gh_model.specs.declared.running.Running.{Running}
+use Rattle.gh_model.specs.declared.running.Seat.{Seat}
 use Rattle.gh_model.specs.declared.state.State.{State}
-use Rattle.gh_model.specs.declared.word.Word.{Word}
-use Rattle.gh_model.specs.Registers.{call_of, needs_of}
-use Rattle.gh_model.specs.Act.{Verdict, Done, Refused, judge, granted}
-use Rattle.gh_model.specs.History.{Event, after_event, after_call, after_verdict, replay, state_at}
-use Rattle.gh_model.specs.Marks.{Made, place_after_mark, found_words, is_entry_end, event_of}
-use Rattle.gh_model.specs.Legal.{FrameIs, is_short}
-use Rattle.gh_model.specs.Program.{next_frame}
-use Rattle.gh_model.specs.Calls.{Called, call_mark, unmade, by_verdict, by_looks, by_shape, next_call, no_looks}
-use Rattle.gh_model.proofs.ActLemmas.{Keeps, act_keeps, act_refuses}
-use Rattle.gh_model.proofs.LooksLaw.{fresh, look_all_is, EndsAs, Sees, looks_are, words_are, place_stays, place_after_fresh, grants_are}
-use Rattle.gh_model.proofs.RunLists.{slice_get_left, slice_get_seam}
+use Rattle.gh_model.specs.Boot.{boot_state, boot_fits, after_line, empty_state}
+use Rattle.gh_model.specs.Rows.{cpu_row, is_cpu}
+use Rattle.gh_model.specs.History.{Event, counters, state_at}
+use Rattle.gh_model.specs.Marks.{Made, InTurn, cspace_of, frame_of, reply_of}
+use Rattle.gh_model.specs.Legal.{CallIs, IsNumbered, IsLegal, is_part, is_exit_call}
+use Rattle.gh_model.specs.Graced.{GoesUnreferenced, GoesUnread, IsGraced}
+use Rattle.gh_model.specs.Program.{last_number}
+use Rattle.gh_model.specs.Programs.{frames_made}
+use Rattle.gh_model.specs.Run.{FollowPrograms, IsRun, is_mark_of}
+use Rattle.gh_model.specs.Calls.{seat_start, run_start, run_of, rows_in_order}
+use Rattle.gh_model.proofs.ActLemmas.{row_number}
+use Rattle.gh_model.proofs.CpuRows.{Found, Stands, Comes, IsNumbered as HaveNumbers, found_here, found_counts, counted_found, from_map, to_map, from_order, count_order, boot_numbered}
+use Rattle.gh_model.proofs.Ends.{IsAct}
+use Rattle.gh_model.proofs.RunLists.{no_item}
+use Rattle.gh_model.proofs.RunSteps.{calls_of, Steady, Own}
+use Rattle.gh_model.proofs.RunWhole.{number_of, Between, Pace, AllPaced, pace_over, marks_of_calls, rounds_between, rounds_paced}
 
--- a CPU before its next call: the history with the frames and words of its acts, the state, and the CPU
-pub record Caller : Type 0 where
-  pub history : List Event
-  pub plain : State
-  pub cpu : CpuRun
+-- acts are no parts, and keep no counters
 
-abbrev pub made_of : Called → Made
-made_of called = record { mark = called.mark; frame = called.frame }
+part_of_act : (entry : Entry) → IsAct entry → is_part entry ≡ false
+part_of_act entry acts = ap is_part acts.is
 
-abbrev pub event_by : Called → Event
-event_by called = record { entry = Acted called.mark.cpu called.mark.number; frame = called.frame; words = called.words }
+counters_of_act : (entry : Entry) → IsAct entry → counters entry ≡ None
+counters_of_act entry acts = ap counters acts.is
 
-abbrev pub events_by : Called → End → List Event
-events_by called ends.Frame = []
-events_by called ends.Refused = []
-events_by called ends.Dead = []
-events_by called (ends.Act at) = []
-events_by called (ends.Short at held) = []
-events_by called (ends.Entry number) = event_by called ∷ []
+unreferenced_act : (s : State) (entry : Entry) → IsAct entry → GoesUnreferenced s entry
+unreferenced_act s entry acts = subst (λ (e : Entry). GoesUnreferenced s e) (sym acts.is) tt
 
-abbrev pub events_of : Called → List Event
-events_of called = events_by called called.mark.end
+unread_act : (s : State) (entry : Entry) → IsAct entry → GoesUnread s entry
+unread_act s entry acts = subst (λ (e : Entry). GoesUnread s e) (sym acts.is) tt
 
-abbrev pub frame_of : List Line → Caller → Frame
-frame_of lines x = next_frame (x.cpu.number + 1) (drop x.cpu.at lines)
+never_kept : (entry : Entry) (seen : List ℕ) → IsAct entry → counters entry ≡ Some seen → ⊥
+never_kept entry seen acts kept = let none : counters entry ≡ None = counters_of_act entry acts in cc
 
--- the history is the front of another
-abbrev pub IsFront : List Event → List Event → Type 0
-IsFront front whole = (rest : List Event) × (whole ≡ front ++ rest)
+-- where all entries are acts there is grace
+acts_graced : (boot : State) (history : List Event) (calls : ℕ → List Made) → ((n : ℕ) (event : Event) → slice_get history n ≡ Some event → IsAct event.entry) → IsGraced boot history calls
+acts_graced boot history calls acts = record {
+  unreferenced = λ n event is. unreferenced_act (state_at boot history n) event.entry (acts n event is);
+  unread = λ n event is. unread_act (state_at boot history n) event.entry (acts n event is);
+  rising = λ n m cpu first second before now is also less kept_first kept_second small. absurd (never_kept first.entry before (acts n first is) kept_first);
+  bounded = λ n cpu event seen is kept small. absurd (never_kept event.entry seen (acts n event is) kept);
+  fits = λ n cpu event seen is kept small. absurd (never_kept event.entry seen (acts n event is) kept);
+}
 
-pub front_length : (front whole : List Event) → IsFront front whole → length front ≤ length whole
-front_length front whole (rest, is) =
-    let sum : length (front ++ rest) ≡ length front + length rest = length-append front rest in
-    subst (λ (w : List Event). length front ≤ length w) (sym is) (omega arith)
+nothing_left : (ended : Bool) (frames : List Frame) → frames ++ (if ended then [] else []) ≡ frames
+nothing_left true frames = append-nil frames
+nothing_left false frames = append-nil frames
 
-pub front_state : (boot : State) (front whole : List Event) (n : ℕ) → IsFront front whole → n ≤ length front → state_at boot whole n ≡ state_at boot front n
-front_state boot front whole n (rest, is) within =
-    subst (λ (w : List Event). state_at boot w n ≡ state_at boot front n) (sym is) (ap (replay boot) (take-append-le n front rest within))
+module _ {P : Type 0} (answer : P → Option Reply → Step) (after : P → Option Reply → P) (boot : State) (program : ℕ → P) where
+  -- the seat of a number that the boot file has
+  record IsSeated (w : Running P) (n : ℕ) : Type 0 where
+    seat : Seat P
+    at : ℕ
+    is : slice_get w.seats at ≡ Some seat
+    numbered : number_of answer after seat ≡ n
 
-pub front_item : (front whole : List Event) (n : ℕ) → IsFront front whole → n < length front → slice_get whole n ≡ slice_get front n
-front_item front whole n (rest, is) within =
-    subst (λ (w : List Event). slice_get w n ≡ slice_get front n) (sym is) (slice_get_left front rest n within)
+  seated : (w : Running P) (n : ℕ) → Between answer after boot program w → IsSome (cpu_row boot n) → IsSeated w n
+  seated w n between known =
+      let counted : 1 ≤ count_by (is_cpu n) (rows_in_order boot.cpus) = subst (λ (k : ℕ). 1 ≤ k) (sym (count_order n boot.cpus)) (found_counts (is_cpu n) boot.cpus known) in
+      let found : Found (is_cpu n) (rows_in_order boot.cpus) = counted_found (is_cpu n) (rows_in_order boot.cpus) counted in
+      let comes : Comes (number_of answer after) w.seats found.at found.item.cpu.0 = from_map (number_of answer after) w.seats found.at found.item.cpu.0 (subst (λ (ns : List ℕ). slice_get ns found.at ≡ Some found.item.cpu.0) (sym between.numbers) (to_map row_number (rows_in_order boot.cpus) found.at found.item found.is)) in
+      record { seat = comes.item; at = found.at; is = comes.is; numbered = comes.gives ∙ eqb-true found.item.cpu.0 n found.passes }
 
-pub take_all : (events : List Event) → take (length events) events ≡ events
-take_all [] = refl
-take_all (event ∷ events) = ap (λ (others : List Event). event ∷ others) (take_all events)
+  none_of : (n : ℕ) (made : List Made) → cpu_row boot n ≡ None → ((i : ℕ) (m : Made) → slice_get made i ≡ Some m → IsSome (cpu_row boot m.mark.cpu.0)) → calls_of made n ≡ []
+  none_of n [] none known = refl
+  none_of n (m ∷ made) none known =
+      let here : IsSome (cpu_row boot m.mark.cpu.0) = known zero m refl in
+      let differs : m.mark.cpu.0 ≢ n = λ (same : m.mark.cpu.0 ≡ n). (let row : cpu_row boot m.mark.cpu.0 ≡ None = ap (cpu_row boot) same ∙ none in let never : IsSome (cpu_row boot n) = subst (λ (k : ℕ). IsSome (cpu_row boot k)) same here in let false_is : IsSome {T = CpuRow} None = subst (λ (o : Option CpuRow). IsSome o) none never in let no_more : ⊥ = cc in no_more) in
+      ap (λ (b : Bool). if◌then◌else◌ {A = List Made} b (m ∷ calls_of made n) (calls_of made n)) (let other : (m.mark.cpu.0 == n) ≡ false = grind (arith, nat_tests) in other)
+      ∙ none_of n made none (λ i other is. known (suc i) other is)
 
-pub front_behind : (front more whole : List Event) → IsFront (front ++ more) whole → IsFront front whole
-front_behind front more whole (rest, is) = (more ++ rest, is ∙ append_assoc front more rest)
+  -- what holds of each CPU's calls, and of no calls, holds of every number's
+  each_number : (w : Running P) (between : Between answer after boot program w) (Q : ℕ → List Made → Type 0) (n : ℕ) (row : Option CpuRow) → cpu_row boot n ≡ row → ((seat : Seat P) → Own boot answer after program between.history (calls_of between.made (number_of answer after seat)) seat → Q (number_of answer after seat) (calls_of between.made (number_of answer after seat))) → Q n [] → Q n (calls_of between.made n)
+  each_number w between Q n None is each none =
+      subst (λ (calls : List Made). Q n calls) (sym (none_of n between.made is between.known)) none
+  each_number w between Q n (Some row) is each none =
+      let here : IsSeated w n = seated w n between (rw is refl) in
+      subst (λ (k : ℕ). Q k (calls_of between.made k)) here.numbered (each here.seat (between.each here.at here.seat here.is))
 
--- a CPU's call without an entry leaves the state
-pub record NoEntry (x : Caller) (called : Called) : Type 0 where
-  pub none : events_of called ≡ []
-  pub same : called.after ≡ x.plain
-  pub place : place_after_mark x.cpu.place (made_of called) ≤ length x.history
-  pub not_entry : (number : ℕ) → is_entry_end number called.mark.end ≡ false
+  -- at the end nothing is left of a program
+  frames_whole : (history : List Event) (calls : List Made) (seat : Seat P) → Own boot answer after program history calls seat → map frame_of calls ≡ frames_made answer after (program (number_of answer after seat)) (map reply_of calls)
+  frames_whole history calls seat own =
+      sym (ap (frames_made answer after (program seat.cpu.cpu.0)) (sym (append-nil (map reply_of calls))) ∙ own.goes [] ∙ nothing_left seat.cpu.ended (map frame_of calls))
 
--- with one it is the next entry
-pub record OneEntry (x : Caller) (called : Called) : Type 0 where
-  pub one : events_of called ≡ event_by called ∷ []
-  pub end : called.mark.end ≡ ends.Entry (length x.history + 1)
-  pub made : after_event x.plain (event_by called) ≡ called.after
-  pub keeps : Keeps x.plain called.after
+  -- a whole run whose CPUs have all ended
+  module _ (w : Running P) (between : Between answer after boot program w) (over : AllPaced answer after 0 w) where
+    abbrev calls : ℕ → List Made
+    calls = calls_of between.made
 
-module _ (boot : State) (whole : List Event) (lines : List Line) where
-  -- what a call is made upon
-  pub record Here (x : Caller) : Type 0 where
-    pub now : replay boot x.history ≡ x.plain
-    pub counted : x.plain.entries ≡ length x.history
-    pub no_parts : x.plain.taken ≡ []
-    pub sees : Sees boot whole x.plain x.cpu.cspace.0 (length x.history)
-    pub state : state_at boot whole (length x.history) ≡ x.plain
-    pub within : x.cpu.place ≤ length x.history
+    alive_all : (cpu i : ℕ) (made : Made) → slice_get (calls_of between.made cpu) i ≡ Some made → made.mark.end ≢ ends.Dead
+    alive_all cpu i made is = each_number w between (λ k cs. (j : ℕ) (m : Made) → slice_get cs j ≡ Some m → m.mark.end ≢ ends.Dead) cpu (cpu_row boot cpu) refl (λ seat own. own.alive) (λ j m at. absurd (no_item j m at)) i made is
 
-  -- the call is legal, and its entry, if it has one, is the next
-  pub record Good (x : Caller) (called : Called) : Type 0 where
-    pub cpu_is : called.mark.cpu ≡ x.cpu.cpu
-    pub number_is : called.mark.number ≡ x.cpu.number + 1
-    pub section_is : called.mark.section ≡ (if length called.mark.looks == 0 then 0 else 2 * x.cpu.sections + 1)
-    pub frame_is : called.frame ≡ frame_of lines x
-    pub legal : IsFront (x.history ++ events_of called) whole → FrameIs boot whole x.cpu.cspace.0 x.cpu.place (call_of called.frame) (made_of called)
-    pub entry : NoEntry x called ⊎ OneEntry x called
+    pub whole_legal : IsLegal boot between.history (calls_of between.made)
+    whole_legal = record {
+      agree = record {
+        calls_are = λ n. each_number w between (λ k cs. InTurn (CallIs boot between.history k) cs) n (cpu_row boot n) refl (λ seat own. own.legal) (λ i made is. absurd (no_item i made is));
+        entries = between.told.ends;
+        parts = λ n event is part. absurd (let acts : is_part event.entry ≡ false = part_of_act event.entry (between.told.acts n event is) in let never : ⊥ = cc in never);
+        deaths = λ cpu i made seen is dead last. absurd (alive_all cpu i made is dead);
+      };
+      whole = record {
+        numbered = λ n. each_number w between (λ k cs. InTurn IsNumbered cs) n (cpu_row boot n) refl (λ seat own. own.numbered) (λ i made is. absurd (no_item i made is));
+        exits = λ n known. let here : IsSeated w n = seated w n between known in
+            subst (λ (k : ℕ). IsTrue (is_exit_call (last_or None (calls_of between.made k)))) here.numbered
+            ((between.each here.at here.seat here.is).ended (pace_over answer after here.seat (over here.at here.seat here.is)));
+        cpus = λ n none. none_of n between.made none between.known;
+      };
+    }
 
-  pub good_frame : (x : Caller) (errno : Errno) → Here x → call_of (frame_of lines x) ≡ Err errno → Good x (unmade x.plain x.cpu (frame_of lines x) (no_looks x.cpu.place) ends.Frame (refusal errno))
-  good_frame x errno here is = record {
-    cpu_is = refl;
-    number_is = refl;
-    section_is = refl;
-    frame_is = refl;
-    legal = λ front. subst (λ (r : Result Call Errno). FrameIs boot whole x.cpu.cspace.0 x.cpu.place r (made_of (unmade x.plain x.cpu (frame_of lines x) (no_looks x.cpu.place) ends.Frame (refusal errno)))) (sym is) (refl, refl, refl);
-    entry = inl (record { none = refl; same = refl; place = here.within; not_entry = λ number. refl });
+    pub whole_follows : FollowPrograms (λ cpu. frames_made answer after (program cpu)) (calls_of between.made)
+    whole_follows = λ n. each_number w between (λ k cs. map frame_of cs ≡ frames_made answer after (program k) (map reply_of cs)) n (cpu_row boot n) refl (λ seat own. frames_whole between.history (calls_of between.made (number_of answer after seat)) seat own) refl
+
+-- before the first call
+
+-- the row of a boot file's CPU is found by its number
+row_found : (boot : State) (i : ℕ) (row : CpuRow) → HaveNumbers boot → slice_get (rows_in_order boot.cpus) i ≡ Some row → find (is_cpu row.cpu.0) boot.cpus ≡ Some row
+row_found boot i row numbered is =
+    let stands : Stands boot.cpus row = from_order boot.cpus i row is in
+    found_here (is_cpu row.cpu.0) boot.cpus stands.at row (numbered.once row.cpu.0) stands.is (eq-eqb row.cpu.0 row.cpu.0 refl)
+
+-- what no boot line changes
+pub record IsFresh (s : State) : Type 0 where
+  pub unset : s.set_at ≡ []
+  pub none : s.entries ≡ 0
+  pub empty : s.taken ≡ []
+
+pub line_fresh : (s : State) (line : BootLine) → IsFresh s → IsFresh (after_line s line)
+line_fresh s (Pages count) h = record { unset = h.unset; none = h.none; empty = h.empty }
+line_fresh s (Partition quota) h = record { unset = h.unset; none = h.none; empty = h.empty }
+line_fresh s (Cspace partition) h = record { unset = h.unset; none = h.none; empty = h.empty }
+line_fresh s (Addrspace partition) h = record { unset = h.unset; none = h.none; empty = h.empty }
+line_fresh s (Doorbell partition) h = record { unset = h.unset; none = h.none; empty = h.empty }
+line_fresh s (RootExtent partition) h = record { unset = h.unset; none = h.none; empty = h.empty }
+line_fresh s (Extent partition parent offset count access held_offset held_count) h = record { unset = h.unset; none = h.none; empty = h.empty }
+line_fresh s (Msgqueue partition depth size) h = record { unset = h.unset; none = h.none; empty = h.empty }
+line_fresh s (Map space extent base offset count access) h = record { unset = h.unset; none = h.none; empty = h.empty }
+line_fresh s (Cap cspace slot object rights master) h = record { unset = h.unset; none = h.none; empty = h.empty }
+line_fresh s (Vm cspace space) h = record { unset = h.unset; none = h.none; empty = h.empty }
+line_fresh s (Rm cspace space partition) h = record { unset = h.unset; none = h.none; empty = h.empty }
+line_fresh s (Link vm extent request reply) h = record { unset = h.unset; none = h.none; empty = h.empty }
+
+pub lines_fresh : (s : State) (lines : List BootLine) → IsFresh s → IsFresh (fold after_line s lines)
+lines_fresh s [] h = h
+lines_fresh s (line ∷ lines) h = lines_fresh (after_line s line) lines (line_fresh s line h)
+
+pub boot_fresh : (lines : List BootLine) → IsFresh (boot_state lines)
+boot_fresh lines = lines_fresh empty_state lines (record { unset = refl; none = refl; empty = refl })
+
+module _ {P : Type 0} (answer : P → Option Reply → Step) (after : P → Option Reply → P) (program : ℕ → P) where
+  abbrev row_seat : CpuRow → Seat P
+  row_seat row = seat_start answer after row (program row.cpu.0)
+
+  numbers_at_start : (rows : List CpuRow) → map (number_of answer after) (map row_seat rows) ≡ map row_number rows
+  numbers_at_start [] = refl
+  numbers_at_start (row ∷ rows) = ap (λ (ns : List ℕ). row.cpu.0 ∷ ns) (numbers_at_start rows)
+
+  own_start : (boot : State) (row : CpuRow) → cspace_of boot row.cpu.0 ≡ row.cspace.0 → Own boot answer after program [] [] (row_seat row)
+  own_start boot row home = record {
+    home = home;
+    legal = λ i made is. absurd (no_item i made is);
+    numbered = λ i made is. absurd (no_item i made is);
+    alive = λ i made is. absurd (no_item i made is);
+    counts = refl;
+    sections = refl;
+    placed = refl;
+    within = omega arith;
+    goes = λ replies. refl;
+    going = λ open_. refl;
+    ended = λ over. absurd (let never : ⊥ = cc in never);
   }
 
-  abbrev pub looked_of : Caller → Call → Looked
-  looked_of x call = fresh x.plain x.cpu.cspace.0 x.cpu.place (needs_of call)
+  start_each : (boot : State) → HaveNumbers boot → (i : ℕ) (seat : Seat P) → slice_get (map row_seat (rows_in_order boot.cpus)) i ≡ Some seat → Own boot answer after program [] [] seat
+  start_each boot numbered i seat is =
+      let comes : Comes row_seat (rows_in_order boot.cpus) i seat = from_map row_seat (rows_in_order boot.cpus) i seat is in
+      let found : find (is_cpu comes.item.cpu.0) boot.cpus ≡ Some comes.item = row_found boot i comes.item numbered comes.is in
+      subst (λ (s : Seat P). Own boot answer after program [] [] s) comes.gives (own_start boot comes.item (rw found refl))
 
-  pub good_refused : (x : Caller) (call : Call) (errno : Errno) → Here x → call_of (frame_of lines x) ≡ Ok call → (looked_of x call).refused ≡ Some errno → Good x (unmade x.plain x.cpu (frame_of lines x) (looked_of x call) ends.Refused (refusal errno))
-  good_refused x call errno here is refused = record {
-    cpu_is = refl;
-    number_is = refl;
-    section_is = refl;
-    frame_is = refl;
-    legal = λ front. subst (λ (r : Result Call Errno). FrameIs boot whole x.cpu.cspace.0 x.cpu.place r (made_of (unmade x.plain x.cpu (frame_of lines x) (looked_of x call) ends.Refused (refusal errno)))) (sym is) (
-      looks_are boot whole x.plain x.cpu.cspace.0 (length x.history) x.cpu.place (needs_of call) (call_mark x.cpu (looked_of x call) ends.Refused (refusal errno)) here.sees here.within
-          (subst (λ (o : Option Errno). EndsAs (call_mark x.cpu (looked_of x call) ends.Refused (refusal errno)) o) (sym refused) (refl, refl)),
-      tt,
-    );
-    entry = inl (record {
-      none = refl;
-      same = refl;
-      place = subst (λ (n : ℕ). n ≤ length x.history) (sym (place_after_fresh x.plain x.cpu.cspace.0 x.cpu.place (needs_of call))) (place_stays boot whole x.plain x.cpu.cspace.0 (length x.history) x.cpu.place (needs_of call) here.sees here.within);
-      not_entry = λ number. refl;
-    });
+  start_steady : (boot : State) (n : ℕ) → boot.taken ≡ [] → n ≡ 0 → Steady boot (state_at boot [] n)
+  start_steady boot n empty first =
+      subst (λ (m : ℕ). Steady boot (state_at boot [] m)) (sym first) (record { caps = refl; set_at = refl; no_parts = empty; cpus = refl })
+
+  between_start : (boot : State) → HaveNumbers boot → boot.entries ≡ 0 → boot.taken ≡ [] → Between answer after boot program (run_start answer after boot program)
+  between_start boot numbered none empty = record {
+    history = [];
+    made = [];
+    entries = refl;
+    marks = refl;
+    told = record {
+      now = refl;
+      counted = none;
+      steady = λ n within. start_steady boot n empty (omega arith);
+      acts = λ n event is. absurd (no_item n event is);
+      ends = λ n event is. absurd (no_item n event is);
+    };
+    each = start_each boot numbered;
+    numbers = numbers_at_start (rows_in_order boot.cpus);
+    known = λ i m is. absurd (no_item i m is);
   }
 
-  -- an act that was refused
-  pub good_act : (x : Caller) (call : Call) (reply : Reply) → Here x → call_of (frame_of lines x) ≡ Ok call → (looked_of x call).refused ≡ None → judge x.plain x.cpu.cpu.0 (frame_of lines x) call (looked_of x call).words ≡ Refused reply → Good x (unmade x.plain x.cpu (frame_of lines x) (looked_of x call) (ends.Act x.plain.entries) reply)
-  good_act x call reply here is open_ judged = record {
-    cpu_is = refl;
-    number_is = refl;
-    section_is = refl;
-    frame_is = refl;
-    legal = λ front. subst (λ (r : Result Call Errno). FrameIs boot whole x.cpu.cspace.0 x.cpu.place r (made_of (unmade x.plain x.cpu (frame_of lines x) (looked_of x call) (ends.Act x.plain.entries) reply))) (sym is) (
-      looks_are boot whole x.plain x.cpu.cspace.0 (length x.history) x.cpu.place (needs_of call) (call_mark x.cpu (looked_of x call) (ends.Act x.plain.entries) reply) here.sees here.within
-          (subst (λ (o : Option Errno). EndsAs (call_mark x.cpu (looked_of x call) (ends.Act x.plain.entries) reply) o) (sym open_) tt),
-      (
-        record {
-          within = subst (λ (n : ℕ). n ≤ length whole) (sym here.counted) here.sees.bounded;
-          not_before = subst (λ (n : ℕ). n ≤ x.plain.entries) (sym (place_after_fresh x.plain x.cpu.cspace.0 x.cpu.place (needs_of call))) (subst (λ (n : ℕ). (looked_of x call).place ≤ n) (sym here.counted) (place_stays boot whole x.plain x.cpu.cspace.0 (length x.history) x.cpu.place (needs_of call) here.sees here.within));
-          reply = subst (λ (s : State). judge s x.cpu.cpu.0 (frame_of lines x) call (found_words boot whole x.cpu.cspace.0 (looked_of x call).looks) ≡ Refused reply) (sym (ap (state_at boot whole) here.counted ∙ here.state)) (subst (λ (ws : List Word). judge x.plain x.cpu.cpu.0 (frame_of lines x) call ws ≡ Refused reply) (sym (words_are boot whole x.plain x.cpu.cspace.0 (length x.history) x.cpu.place (needs_of call) here.sees here.within)) judged);
-          is_refusal = (act_refuses x.plain x.cpu.cpu.0 call (map granted (looked_of x call).words) reply judged).number;
-          no_parts = subst (λ (s : State). s.taken ≡ []) (sym (ap (state_at boot whole) here.counted ∙ here.state)) here.no_parts;
-        },
-        (act_refuses x.plain x.cpu.cpu.0 call (map granted (looked_of x call).words) reply judged).not_short,
-      ),
-    );
-    entry = inl (record {
-      none = refl;
-      same = refl;
-      place = subst (λ (n : ℕ). n ≤ length x.history) (sym here.counted) (omega arith);
-      not_entry = λ number. refl;
-    });
-  }
+  start_paced : (boot : State) → AllPaced answer after last_number (run_start answer after boot program)
+  start_paced boot i seat is =
+      let comes : Comes row_seat (rows_in_order boot.cpus) i seat = from_map row_seat (rows_in_order boot.cpus) i seat is in
+      subst (λ (s : Seat P). Pace answer after last_number s) comes.gives (record { pace = inr (omega arith, refl); last = λ going one. absurd (let never : ⊥ = cc in never) })
 
-  -- behind the next entry the state is what it makes
-  pub state_behind : (x : Caller) (event : Event) (new : State) → IsFront (x.history ++ event ∷ []) whole → replay boot x.history ≡ x.plain → after_event x.plain event ≡ new → new.entries ≡ length x.history + 1 → state_at boot whole new.entries ≡ new
-  state_behind x event new front now made number =
-      let count : length (x.history ++ event ∷ []) ≡ length x.history + 1 = length-append x.history (event ∷ []) in
-      let within : new.entries ≤ length (x.history ++ event ∷ []) = omega arith in
-      let all : new.entries ≡ length (x.history ++ event ∷ []) = omega arith in
-      front_state boot (x.history ++ event ∷ []) whole new.entries front within
-      ∙ ap (λ (n : ℕ). replay boot (take n (x.history ++ event ∷ []))) all
-      ∙ ap (replay boot) (take_all (x.history ++ event ∷ []))
-      ∙ fold-append after_event boot x.history (event ∷ [])
-      ∙ ap (λ (s : State). after_event s event) now ∙ made
-
-  abbrev pub done_call : Caller → Call → State → Reply → Called
-  done_call x call new reply = record { mark = call_mark x.cpu (looked_of x call) (ends.Entry new.entries) reply; frame = frame_of lines x; words = (looked_of x call).words; after = new }
-
-  pub entry_number : (x : Caller) (new : State) → Here x → Keeps x.plain new → new.entries ≡ length x.history + 1
-  entry_number x new here keeps = keeps.entries ∙ ap (λ (n : ℕ). n + 1) here.counted
-
-  pub event_made : (x : Caller) (call : Call) (new : State) (reply : Reply) → call_of (frame_of lines x) ≡ Ok call → (looked_of x call).refused ≡ None → judge x.plain x.cpu.cpu.0 (frame_of lines x) call (looked_of x call).words ≡ Done new reply → after_event x.plain (event_by (done_call x call new reply)) ≡ new
-  event_made x call new reply is open_ judged =
-      subst (λ (r : Result Call Errno). after_call x.plain x.cpu.cpu.0 (frame_of lines x) r (looked_of x call).words ≡ new) (sym is)
-      (rw (grants_are x.plain x.cpu.cspace.0 x.cpu.place (needs_of call) open_)
-      (subst (λ (v : Verdict). after_verdict x.plain v ≡ new) (sym judged) refl))
-
-  -- an act that was done
-  pub good_done : (x : Caller) (call : Call) (new : State) (reply : Reply) → Here x → call_of (frame_of lines x) ≡ Ok call → (looked_of x call).refused ≡ None → judge x.plain x.cpu.cpu.0 (frame_of lines x) call (looked_of x call).words ≡ Done new reply → Good x (done_call x call new reply)
-  good_done x call new reply here is open_ judged =
-      let keeps : Keeps x.plain new = act_keeps x.plain x.cpu.cpu.0 call (map granted (looked_of x call).words) new reply judged in
-      let number : new.entries ≡ length x.history + 1 = entry_number x new here keeps in
-      let before : new.entries - 1 ≡ length x.history = omega arith in
-      let event : Event = event_by (done_call x call new reply) in
-      let made : after_event x.plain event ≡ new = event_made x call new reply is open_ judged in
-      let words : found_words boot whole x.cpu.cspace.0 (looked_of x call).looks ≡ (looked_of x call).words = words_are boot whole x.plain x.cpu.cspace.0 (length x.history) x.cpu.place (needs_of call) here.sees here.within in
+  -- the run of a boot file is a run of these programs
+  pub run_is_run : (lines : List BootLine) → boot_fits lines ≡ true → IsRun lines (λ cpu. frames_made answer after (program cpu)) (run_of answer after lines program).entries (run_of answer after lines program).marks (run_of answer after lines program).plain
+  run_is_run lines fits =
+      let boot : State = boot_state lines in
+      let fresh : IsFresh (boot_state lines) = boot_fresh lines in
+      let numbered : HaveNumbers (boot_state lines) = boot_numbered lines fits in
+      let w : Running P = run_of answer after lines program in
+      let between : Between answer after (boot_state lines) program (run_of answer after lines program) = rounds_between answer after boot program numbered fresh.unset last_number (run_start answer after boot program) (between_start boot numbered fresh.none fresh.empty) in
+      let over : AllPaced answer after 0 (run_of answer after lines program) = rounds_paced answer after last_number (run_start answer after boot program) (start_paced boot) in
       record {
-        cpu_is = refl;
-        number_is = refl;
-        section_is = refl;
-        frame_is = refl;
-        legal = λ front. subst (λ (r : Result Call Errno). FrameIs boot whole x.cpu.cspace.0 x.cpu.place r (made_of (done_call x call new reply))) (sym is) (
-          looks_are boot whole x.plain x.cpu.cspace.0 (length x.history) x.cpu.place (needs_of call) (call_mark x.cpu (looked_of x call) (ends.Entry new.entries) reply) here.sees here.within
-              (subst (λ (o : Option Errno). EndsAs (call_mark x.cpu (looked_of x call) (ends.Entry new.entries) reply) o) (sym open_) tt),
-          record {
-            from_one = omega arith;
-            after_looks = subst (λ (n : ℕ). n < new.entries) (sym (place_after_fresh x.plain x.cpu.cspace.0 x.cpu.place (needs_of call))) (let stays : (looked_of x call).place ≤ length x.history = place_stays boot whole x.plain x.cpu.cspace.0 (length x.history) x.cpu.place (needs_of call) here.sees here.within in omega arith);
-            event = subst (λ (n : ℕ). slice_get whole n ≡ Some (event_of boot whole x.cpu.cspace.0 (made_of (done_call x call new reply)))) (sym before)
-                (subst (λ (w : List Event). slice_get w (length x.history) ≡ Some (event_of boot whole x.cpu.cspace.0 (made_of (done_call x call new reply)))) (sym (front.1 ∙ append_assoc x.history (event ∷ []) front.0))
-                (slice_get_seam x.history event front.0 ∙ ap (λ (ws : List Word). Some (record { entry = Acted x.cpu.cpu (x.cpu.number + 1); frame = frame_of lines x; words = ws })) (sym words)));
-            reply = subst (λ (s : State). judge s x.cpu.cpu.0 (frame_of lines x) call (found_words boot whole x.cpu.cspace.0 (looked_of x call).looks) ≡ Done (state_at boot whole new.entries) reply) (sym (ap (state_at boot whole) before ∙ here.state))
-                (subst (λ (ws : List Word). judge x.plain x.cpu.cpu.0 (frame_of lines x) call ws ≡ Done (state_at boot whole new.entries) reply) (sym words)
-                (subst (λ (s : State). judge x.plain x.cpu.cpu.0 (frame_of lines x) call (looked_of x call).words ≡ Done s reply) (sym (state_behind x event new front here.now made number)) judged));
-          },
-        );
-        entry = inr (record { one = refl; end = ap ends.Entry number; made = made; keeps = keeps });
+        history = between.history;
+        calls = calls_of between.made;
+        its_entries = between.entries;
+        its_marks = λ n. marks_of_calls between.made n ∙ ap (filter (is_mark_of n)) between.marks;
+        its_state = between.told.now;
+        legal = whole_legal answer after boot program w between over;
+        graced = acts_graced boot between.history (calls_of between.made) between.told.acts;
+        programs = whole_follows answer after boot program w between over;
       }
-
-  -- the call by its verdict
-  pub good_verdict : (x : Caller) (call : Call) (v : Verdict) → Here x → call_of (frame_of lines x) ≡ Ok call → (looked_of x call).refused ≡ None → judge x.plain x.cpu.cpu.0 (frame_of lines x) call (looked_of x call).words ≡ v → Good x (by_verdict x.plain x.cpu (frame_of lines x) call (looked_of x call) v)
-  good_verdict x call (Done new reply) here is open_ judged = good_done x call new reply here is open_ judged
-  good_verdict x call (Refused reply) here is open_ judged =
-      let not_short : is_short call reply ≡ false = (act_refuses x.plain x.cpu.cpu.0 call (map granted (looked_of x call).words) reply judged).not_short in
-      subst (λ (short : Bool). Good x (unmade x.plain x.cpu (frame_of lines x) (looked_of x call) (if short then ends.Short x.plain.entries [] else ends.Act x.plain.entries) reply)) (sym not_short) (good_act x call reply here is open_ judged)
-
-  pub good_looks : (x : Caller) (call : Call) (refused : Option Errno) → Here x → call_of (frame_of lines x) ≡ Ok call → (looked_of x call).refused ≡ refused → Good x (by_looks x.plain x.cpu (frame_of lines x) call (looked_of x call) refused)
-  good_looks x call (Some errno) here is refused = good_refused x call errno here is refused
-  good_looks x call None here is refused = good_verdict x call (judge x.plain x.cpu.cpu.0 (frame_of lines x) call (looked_of x call).words) here is refused refl
-
-  pub good_shape : (x : Caller) (shape : Result Call Errno) → Here x → call_of (frame_of lines x) ≡ shape → Good x (by_shape x.plain x.cpu (frame_of lines x) shape)
-  good_shape x (Err errno) here is = good_frame x errno here is
-  good_shape x (Ok call) here is =
-      subst (λ (looked : Looked). Good x (by_looks x.plain x.cpu (frame_of lines x) call looked looked.refused)) (sym (look_all_is x.plain x.cpu.cspace.0 x.cpu.place (needs_of call))) (good_looks x call (looked_of x call).refused here is refl)
-
-  -- the CPU's next call
-  abbrev pub called_of : Caller → Called
-  called_of x = next_call x.plain x.cpu lines
-
-  pub good_call : (x : Caller) → Here x → Good x (called_of x)
-  good_call x here = good_shape x (call_of (frame_of lines x)) here refl

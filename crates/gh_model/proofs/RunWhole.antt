@@ -1,180 +1,33 @@
 -- A whole run: every CPU ends, and the run is legal, graced and by the programs.
-use Rattle.std.proofs.Common.{◌≡◌, ◌≢◌, ◌==◌, ◌+◌, ◌<◌, ◌≤◌, ◌∙◌, ℕ, zero, suc, Bool, true, false, List, [], ◌∷◌, ◌++◌, ◌⊎◌, inl, inr, length, drop, refl, subst, sym, ap, arith, Option, Some, None, Result, Ok, Err, slice_get, map, fold, find, IsTrue, IsSome, if◌then◌else◌, append_assoc, eq-eqb}
-use Rattle.std.specs.Prelude.{slice_set, count_by, nat_lt}
-use Rattle.std.proofs.lemmas.List.{append-nil, map-append, length-set}
-use Rattle.std.proofs.lemmas.List.Elements.{filter-append}
+use Rattle.std.proofs.Common.{◌≡◌, ◌≢◌, ◌==◌, ◌+◌, ◌<◌, ◌≤◌, ◌∙◌, ℕ, zero, suc, Bool, true, false, List, [], ◌∷◌, ◌++◌, ◌⊎◌, inl, inr, length, refl, subst, sym, ap, arith, Option, Some, None, slice_get, map, filter, IsSome, if◌then◌else◌, eq-eqb}
+use Rattle.std.specs.Prelude.{slice_set, nat_lt}
+use Rattle.std.proofs.lemmas.List.{map-append, length-set}
 use Rattle.std.proofs.lemmas.Option.{get_or_from_slice_get, slice_get_within}
 use Rattle.std.proofs.Math.Seq.{map-set_same}
 use Rattle.std.proofs.lemmas.Bool.Decides.{eqb_tells, nat_tests}
-use Rattle.std.proofs.lemmas.Bool.{eqb-true}
-use Rattle.std.specs.List.{last_or}
-use Rattle.gh_base.specs.declared.call.Call.{Call}
-use Rattle.gh_base.specs.declared.errno.Errno.{Errno}
-use Rattle.gh_base.specs.declared.frame.Frame.{Frame}
+use Rattle.gh_base.specs.declared.frame.Reply.{Reply}
 use Rattle.gh_base.specs.declared.ids.CpuNo.{CpuNo}
-use Rattle.gh_base.specs.declared.mark.End.{End}
-use Rattle.gh_base.specs.declared.mark.End.TheVariants as ends
-use Rattle.gh_model.specs.declared.boot_line.BootLine.{BootLine}
-use Rattle.gh_model.specs.declared.boot_line.BootLine.TheVariants.{Pages, Partition, Cspace, Addrspace, Doorbell, RootExtent, Extent, Msgqueue, Map, Cap, Vm, Rm, Link}
+use Rattle.gh_base.specs.declared.mark.Mark.{Mark}
 use Rattle.gh_model.specs.declared.entry.Entry.{Entry}
-use Rattle.gh_model.specs.declared.entry.Entry.TheVariants.{Acted, Part, Retired, Reclaimed}
-use Rattle.gh_model.specs.declared.program.Line.{Line}
-use Rattle.gh_model.specs.declared.rows.CpuRow.{CpuRow}
+use Rattle.gh_model.specs.declared.program.Step.{Step}
 use Rattle.gh_model.specs.declared.running.CpuRun.{CpuRun}
-use Rattle.gh_model.specs.declared.running.Looked.{Looked}
 use Rattle.gh_model.specs.declared.running.Running.{Running}
+use Rattle.gh_model.specs.declared.running.Seat.{Seat}
 use Rattle.gh_model.specs.declared.state.State.{State}
-use Rattle.gh_model.specs.Boot.{boot_state, boot_fits, after_line, empty_state}
 use Rattle.gh_model.specs.Rows.{cpu_row, is_cpu}
-use Rattle.gh_model.specs.Act.{Verdict, Done, Refused, judge}
-use Rattle.gh_model.specs.Registers.{call_of, needs_of}
-use Rattle.gh_model.specs.History.{Event, state_at}
-use Rattle.gh_model.specs.Marks.{Made, InTurn, is_of_cpu, calls_of, cspace_of}
-use Rattle.gh_model.specs.Legal.{CallIs, ends_in_exit}
-use Rattle.gh_model.specs.Graced.{GoesUnreferenced, GoesUnread, kept_counters}
-use Rattle.gh_model.specs.Program.{next_frame, is_exit, last_number, program_frames}
-use Rattle.gh_model.specs.Run.{file_of, IsRunBy, IsRun}
-use Rattle.gh_model.specs.Calls.{Called, by_verdict, by_looks, by_shape, next_call, look_all, no_looks, after_called, after_mark, stays, turn_of, turns, rounds, with_call, end_entries, cpu_start, run_of, rows_in_order}
+use Rattle.gh_model.specs.Registers.{call_of}
+use Rattle.gh_model.specs.History.{Event, entry_of}
+use Rattle.gh_model.specs.Marks.{Made, mark_of}
+use Rattle.gh_model.specs.Program.{is_exit, exit_frame, last_number}
+use Rattle.gh_model.specs.Programs.{asked}
+use Rattle.gh_model.specs.Run.{is_mark_of}
+use Rattle.gh_model.specs.Calls.{after_mark, seat_behind, seat_after, next_call, turn_of, turn, turns, round, rounds, with_call, entries_of, rows_in_order}
+use Rattle.gh_model.proofs.ActLemmas.{row_number}
 use Rattle.gh_model.proofs.CallsLemmas.{rounds_none, rounds_more}
-use Rattle.gh_model.proofs.CpuRows.{no_item, Found, Stands, Comes, IsNumbered, same_place, found_here, found_counts, counted_found, from_map, to_map, from_order, count_order, boot_numbered}
-use Rattle.gh_model.proofs.RunLists.{snoc_cases}
-use Rattle.gh_model.proofs.RunLaw.{Caller, Here, Good, made_of, events_by, events_of, IsFront, front_behind, good_call}
-use Rattle.gh_model.proofs.RunSteps.{IsActed, Steady, Told, Own, Grown, field_same, ended_by, own_later, here_of, grown, own_step}
-
-pub verdict_frame : (s : State) (c : CpuRun) (frame : Frame) (call : Call) (looked : Looked) (v : Verdict) → (by_verdict s c frame call looked v).frame ≡ frame
-verdict_frame s c frame call looked (Done new reply) = refl
-verdict_frame s c frame call looked (Refused reply) = refl
-
-pub looks_frame : (s : State) (c : CpuRun) (frame : Frame) (call : Call) (looked : Looked) (refused : Option Errno) → (by_looks s c frame call looked refused).frame ≡ frame
-looks_frame s c frame call looked (Some errno) = refl
-looks_frame s c frame call looked None = verdict_frame s c frame call looked (judge s c.cpu.0 frame call looked.words)
-
-pub shape_frame : (s : State) (c : CpuRun) (frame : Frame) (shape : Result Call Errno) → (by_shape s c frame shape).frame ≡ frame
-shape_frame s c frame (Err errno) = refl
-shape_frame s c frame (Ok call) = looks_frame s c frame call (look_all s c.cspace.0 (needs_of call) (no_looks c.place)) (look_all s c.cspace.0 (needs_of call) (no_looks c.place)).refused
-
--- a run between two calls: the history with its frames and words, the calls of all CPUs, the state, and the CPUs
-pub record Whole : Type 0 where
-  pub history : List Event
-  pub made : List Made
-  pub plain : State
-  pub cpus : List CpuRun
-
-abbrev pub caller : Whole → CpuRun → Caller
-caller w c = record { history = w.history; plain = w.plain; cpu = c }
-
--- a CPU's next call
-abbrev pub call_in : List (List Line) → Whole → CpuRun → Called
-call_in files w c = next_call w.plain c (file_of files c.cpu.0)
-
-abbrev pub cpu_behind : List (List Line) → Whole → CpuRun → CpuRun
-cpu_behind files w c = after_called c (file_of files c.cpu.0) (call_in files w c)
-
-abbrev pub joined : List (List Line) → Whole → ℕ → CpuRun → Whole
-joined files w at c = record { history = w.history ++ events_of (call_in files w c); made = w.made ++ made_of (call_in files w c) ∷ []; plain = (call_in files w c).after; cpus = slice_set w.cpus at (cpu_behind files w c) }
-
--- the turn of a CPU: a call, unless it has ended
-abbrev pub turned_of : List (List Line) → Whole → ℕ → Option CpuRun → Whole
-turned_of files w at None = w
-turned_of files w at (Some c) = if c.ended then w else joined files w at c
-
-abbrev pub turned : List (List Line) → Whole → ℕ → Whole
-turned files w at = turned_of files w at (slice_get w.cpus at)
-
--- so many CPUs from one on, each in turn
-unfoldable pub all_turned : List (List Line) → Whole → ℕ → ℕ → Whole
-all_turned files w at zero = w
-all_turned files w at (suc more) = all_turned files (turned files w at) (at + 1) more
-
-pub turned_none : (files : List (List Line)) (w : Whole) (at : ℕ) → all_turned files w at zero ≡ w
-unfolding all_turned
-turned_none files w at = refl
-
-pub turned_more : (files : List (List Line)) (w : Whole) (at more : ℕ) → all_turned files w at (suc more) ≡ all_turned files (turned files w at) (at + 1) more
-unfolding all_turned
-turned_more files w at more = refl
-
--- one round: each CPU in turn
-abbrev pub rounded : List (List Line) → Whole → Whole
-rounded files w = all_turned files w 0 (length w.cpus)
-
--- so many rounds
-unfoldable pub all_rounded : ℕ → List (List Line) → Whole → Whole
-all_rounded zero files w = w
-all_rounded (suc more) files w = all_rounded more files (rounded files w)
-
-pub rounded_none : (files : List (List Line)) (w : Whole) → all_rounded zero files w ≡ w
-unfolding all_rounded
-rounded_none files w = refl
-
-pub rounded_more : (more : ℕ) (files : List (List Line)) (w : Whole) → all_rounded (suc more) files w ≡ all_rounded more files (rounded files w)
-unfolding all_rounded
-rounded_more more files w = refl
-
--- what a run shows: its entries and its marks
-
-abbrev pub shown : Whole → Running
-shown w = record { plain = w.plain; entries = map (λ (event : Event). event.entry) w.history; marks = map (λ (made : Made). made.mark) w.made; cpus = w.cpus }
-
-pub entries_shown : (called : Called) (end : End) → map (λ (event : Event). event.entry) (events_by called end) ≡ end_entries called.mark end
-entries_shown called ends.Frame = refl
-entries_shown called ends.Refused = refl
-entries_shown called ends.Dead = refl
-entries_shown called (ends.Act at) = refl
-entries_shown called (ends.Short at held) = refl
-entries_shown called (ends.Entry number) = refl
-
-pub call_shown : (files : List (List Line)) (w : Whole) (at : ℕ) (c : CpuRun) → with_call (shown w) at (cpu_behind files w c) (call_in files w c) ≡ shown (joined files w at c)
-call_shown files w at c =
-    rw (map-append (λ (event : Event). event.entry) w.history (events_of (call_in files w c)), entries_shown (call_in files w c) (call_in files w c).mark.end, map-append (λ (made : Made). made.mark) w.made (made_of (call_in files w c) ∷ [])) refl
-
-pub turn_shown_by : (ended : Bool) (files : List (List Line)) (w : Whole) (at : ℕ) (c : CpuRun) → (if ended then shown w else with_call (shown w) at (cpu_behind files w c) (call_in files w c)) ≡ shown (if ended then w else joined files w at c)
-turn_shown_by true files w at c = refl
-turn_shown_by false files w at c = call_shown files w at c
-
-pub turn_shown : (files : List (List Line)) (w : Whole) (at : ℕ) (o : Option CpuRun) → turn_of files (shown w) at o ≡ shown (turned_of files w at o)
-turn_shown files w at None = refl
-turn_shown files w at (Some c) = turn_shown_by c.ended files w at c
-
-pub turns_shown : (files : List (List Line)) (w : Whole) (at more : ℕ) → turns files (shown w) at more ≡ shown (all_turned files w at more)
-turns_shown files w at zero = ap shown (sym (turned_none files w at))
-turns_shown files w at (suc more) =
-    ap (λ (r : Running). turns files r (at + 1) more) (turn_shown files w at (slice_get w.cpus at))
-    ∙ turns_shown files (turned files w at) (at + 1) more ∙ ap shown (sym (turned_more files w at more))
-
-pub rounds_shown : (more : ℕ) (files : List (List Line)) (w : Whole) → rounds more files (shown w) ≡ shown (all_rounded more files w)
-rounds_shown zero files w = rounds_none files (shown w) ∙ ap shown (sym (rounded_none files w))
-rounds_shown (suc more) files w =
-    rounds_more more files (shown w) ∙ ap (rounds more files) (turns_shown files w 0 (length w.cpus))
-    ∙ rounds_shown more files (rounded files w) ∙ ap shown (sym (rounded_more more files w))
-
--- the history only grows
-
-pub front_self : (events : List Event) → IsFront events events
-front_self events = ([], sym (append-nil events))
-
-pub front_trans : (a b c : List Event) → IsFront a b → IsFront b c → IsFront a c
-front_trans a b c (more, is) (others, also) = (more ++ others, also ∙ ap (λ (es : List Event). es ++ others) is ∙ append_assoc a more others)
-
-pub turn_front_by : (ended : Bool) (files : List (List Line)) (w : Whole) (at : ℕ) (c : CpuRun) → IsFront w.history (if ended then w else joined files w at c).history
-turn_front_by true files w at c = front_self w.history
-turn_front_by false files w at c = (events_of (call_in files w c), refl)
-
-pub turn_front : (files : List (List Line)) (w : Whole) (at : ℕ) (o : Option CpuRun) → IsFront w.history (turned_of files w at o).history
-turn_front files w at None = front_self w.history
-turn_front files w at (Some c) = turn_front_by c.ended files w at c
-
-pub turns_front : (files : List (List Line)) (w : Whole) (at more : ℕ) → IsFront w.history (all_turned files w at more).history
-turns_front files w at zero = subst (λ (v : Whole). IsFront w.history v.history) (sym (turned_none files w at)) (front_self w.history)
-turns_front files w at (suc more) =
-    subst (λ (v : Whole). IsFront w.history v.history) (sym (turned_more files w at more))
-    (front_trans w.history (turned files w at).history (all_turned files (turned files w at) (at + 1) more).history (turn_front files w at (slice_get w.cpus at)) (turns_front files (turned files w at) (at + 1) more))
-
-pub rounds_front : (more : ℕ) (files : List (List Line)) (w : Whole) → IsFront w.history (all_rounded more files w).history
-rounds_front zero files w = subst (λ (v : Whole). IsFront w.history v.history) (sym (rounded_none files w)) (front_self w.history)
-rounds_front (suc more) files w =
-    subst (λ (v : Whole). IsFront w.history v.history) (sym (rounded_more more files w))
-    (front_trans w.history (rounded files w).history (all_rounded more files (rounded files w)).history (turns_front files w 0 (length w.cpus)) (rounds_front more files (rounded files w)))
+use Rattle.gh_model.proofs.CpuRows.{Stands, Comes, IsNumbered as HaveNumbers, same_place, found_here, from_map, to_map, from_order, count_order}
+use Rattle.gh_model.proofs.RunLists.{snoc_cases, no_item}
+use Rattle.gh_model.proofs.Ends.{whole_is}
+use Rattle.gh_model.proofs.RunSteps.{calls_of, calls_same, calls_other, cpu_field, ended_by, Told, Own, Grown, IsCall, made_in, here_of, own_later, own_step, grown}
 
 -- the CPU that had its turn, and the others
 
@@ -187,404 +40,258 @@ set_cases (w ∷ xs) (suc at) (suc i) x y z here is =
     elim (set_cases xs at i x y z here is) as (λ _. ((suc i ≡ suc at) × (y ≡ z)) ⊎ ((suc i ≢ suc at) × (slice_get (w ∷ xs) (suc i) ≡ Some z)))
     [ inl same ↦ inl (ap (λ (n : ℕ). suc n) same.0, same.1) | inr other ↦ inr ((λ (same : suc i ≡ suc at). other.0 (omega arith)), other.1) ]
 
--- one call more of this CPU
-pub calls_same : (m : Made) (made : List Made) (n : ℕ) → m.mark.cpu.0 ≡ n → calls_of n (made ++ m ∷ []) ≡ calls_of n made ++ m ∷ []
-calls_same m made n is =
-    filter-append (is_of_cpu n) made (m ∷ [])
-    ∙ ap (λ (b : Bool). calls_of n made ++ (if b then m ∷ [] else [])) (eq-eqb m.mark.cpu.0 n is)
+-- the marks of a CPU are those of its calls
+marks_by : (here : Bool) (m : Made) (calls : List Made) (marks : List Mark) → map mark_of calls ≡ marks → map mark_of (if here then m ∷ calls else calls) ≡ (if here then m.mark ∷ marks else marks)
+marks_by true m calls marks is = ap (λ (ms : List Mark). m.mark ∷ ms) is
+marks_by false m calls marks is = is
 
--- none of another
-pub calls_other : (m : Made) (made : List Made) (n : ℕ) → m.mark.cpu.0 ≢ n → calls_of n (made ++ m ∷ []) ≡ calls_of n made
-calls_other m made n differs =
-    let other : (m.mark.cpu.0 == n) ≡ false = grind (arith, nat_tests) in
-    filter-append (is_of_cpu n) made (m ∷ [])
-    ∙ ap (λ (b : Bool). calls_of n made ++ (if b then m ∷ [] else [])) other ∙ append-nil (calls_of n made)
+pub marks_of_calls : (made : List Made) (n : ℕ) → map mark_of (calls_of made n) ≡ filter (is_mark_of n) (map mark_of made)
+marks_of_calls [] n = refl
+marks_of_calls (m ∷ made) n =
+    marks_by (m.mark.cpu.0 == n) m (calls_of made n) (filter (is_mark_of n) (map mark_of made)) (marks_of_calls made n)
 
-pub moved_cpu : (files : List (List Line)) (w : Whole) (c : CpuRun) → (cpu_behind files w c).cpu ≡ c.cpu
-moved_cpu files w c =
-    let after : CpuRun = after_mark c (call_in files w c).mark in
-    field_same (λ d. d.cpu) (is_exit (call_in files w c).frame) (stays after (file_of files c.cpu.0) (call_in files w c).mark.reply) (record after { ended = true }) (record after { tries = after.tries + 1 }) (record after { at = after.at + 1; tries = 0 }) c.cpu refl refl refl
+module _ {P : Type 0} (answer : P → Option Reply → Step) (after : P → Option Reply → P) where
+  abbrev pub number_of : Seat P → ℕ
+  number_of seat = seat.cpu.cpu.0
 
-pub moved_number : (files : List (List Line)) (w : Whole) (c : CpuRun) → (cpu_behind files w c).number ≡ c.number + 1
-moved_number files w c =
-    let after : CpuRun = after_mark c (call_in files w c).mark in
-    field_same (λ d. d.number) (is_exit (call_in files w c).frame) (stays after (file_of files c.cpu.0) (call_in files w c).mark.reply) (record after { ended = true }) (record after { tries = after.tries + 1 }) (record after { at = after.at + 1; tries = 0 }) (c.number + 1) refl refl refl
+  abbrev pub moved : Running P → Seat P → Seat P
+  moved w seat = seat_after answer after seat (next_call w.plain seat).mark
 
-abbrev pub number_of : CpuRun → ℕ
-number_of c = c.cpu.0
+  pub moved_number : (w : Running P) (seat : Seat P) → number_of (moved w seat) ≡ number_of seat
+  moved_number w seat =
+      cpu_field answer after (λ c. c.cpu.0) (is_exit seat.standing.frame) seat (after_mark seat.cpu (next_call w.plain seat).mark) (next_call w.plain seat).mark.reply refl
 
-abbrev pub row_number : CpuRow → ℕ
-row_number row = row.cpu.0
+  module _ (boot : State) (program : ℕ → P) where
+    -- what holds between the calls of a run: there is a history with its calls
+    pub record Between (w : Running P) : Type 0 where
+      pub history : List Event
+      pub made : List Made
+      pub entries : map entry_of history ≡ w.entries
+      pub marks : map mark_of made ≡ w.marks
+      pub told : Told boot history made w.plain
+      pub each : (i : ℕ) (seat : Seat P) → slice_get w.seats i ≡ Some seat → Own boot answer after program history (calls_of made (number_of seat)) seat
+      pub numbers : map number_of w.seats ≡ map row_number (rows_in_order boot.cpus)
+      pub known : (i : ℕ) (m : Made) → slice_get made i ≡ Some m → IsSome (cpu_row boot m.mark.cpu.0)
 
-module _ (boot : State) (whole : List Event) (files : List (List Line)) where
-  -- what holds between the calls of a run
-  pub record Between (w : Whole) : Type 0 where
-    pub told : Told boot whole w.history w.made w.plain
-    pub each : (i : ℕ) (c : CpuRun) → slice_get w.cpus i ≡ Some c → Own boot whole (file_of files c.cpu.0) (length w.history) (calls_of c.cpu.0 w.made) c
-    pub numbers : map number_of w.cpus ≡ map row_number (rows_in_order boot.cpus)
-    pub known : (i : ℕ) (m : Made) → slice_get w.made i ≡ Some m → IsSome (cpu_row boot m.mark.cpu.0)
+    module _ (numbered : HaveNumbers boot) where
+      -- the row of a CPU's seat
+      row_of : (w : Running P) (i : ℕ) (seat : Seat P) → map number_of w.seats ≡ map row_number (rows_in_order boot.cpus) → slice_get w.seats i ≡ Some seat → Comes row_number (rows_in_order boot.cpus) i (number_of seat)
+      row_of w i seat numbers is =
+          from_map row_number (rows_in_order boot.cpus) i (number_of seat) (subst (λ (ns : List ℕ). slice_get ns i ≡ Some (number_of seat)) numbers (to_map number_of w.seats i seat is))
 
-  -- the row of a running CPU
-  pub row_of : (w : Whole) (i : ℕ) (c : CpuRun) → map number_of w.cpus ≡ map row_number (rows_in_order boot.cpus) → slice_get w.cpus i ≡ Some c → Comes row_number (rows_in_order boot.cpus) i c.cpu.0
-  row_of w i c numbers is =
-      from_map row_number (rows_in_order boot.cpus) i c.cpu.0 (subst (λ (ns : List ℕ). slice_get ns i ≡ Some c.cpu.0) numbers (to_map number_of w.cpus i c is))
+      -- two seats have two numbers
+      apart : (w : Running P) (i j : ℕ) (c d : Seat P) → map number_of w.seats ≡ map row_number (rows_in_order boot.cpus) → slice_get w.seats i ≡ Some c → slice_get w.seats j ≡ Some d → i ≢ j → number_of c ≢ number_of d
+      apart w i j c d numbers is also differs = λ same.
+          let first : Comes row_number (rows_in_order boot.cpus) i (number_of c) = row_of w i c numbers is in
+          let second : Comes row_number (rows_in_order boot.cpus) j (number_of d) = row_of w j d numbers also in
+          differs (same_place (is_cpu (number_of c)) (rows_in_order boot.cpus) i j first.item second.item (subst (λ (n : ℕ). n ≤ 1) (sym (count_order (number_of c) boot.cpus)) (numbered.once (number_of c))) first.is (eq-eqb first.item.cpu.0 (number_of c) first.gives) second.is (eq-eqb second.item.cpu.0 (number_of c) (second.gives ∙ sym same)))
 
-  -- two running CPUs have two numbers
-  pub apart : (w : Whole) (i j : ℕ) (c d : CpuRun) → IsNumbered boot → map number_of w.cpus ≡ map row_number (rows_in_order boot.cpus) → slice_get w.cpus i ≡ Some c → slice_get w.cpus j ≡ Some d → i ≢ j → c.cpu.0 ≢ d.cpu.0
-  apart w i j c d numbered numbers is also differs = λ same.
-      let first : Comes row_number (rows_in_order boot.cpus) i c.cpu.0 = row_of w i c numbers is in
-      let second : Comes row_number (rows_in_order boot.cpus) j d.cpu.0 = row_of w j d numbers also in
-      differs (same_place (is_cpu c.cpu.0) (rows_in_order boot.cpus) i j first.item second.item (subst (λ (n : ℕ). n ≤ 1) (sym (count_order c.cpu.0 boot.cpus)) (numbered.once c.cpu.0)) first.is (eq-eqb first.item.cpu.0 c.cpu.0 first.gives) second.is (eq-eqb second.item.cpu.0 c.cpu.0 (second.gives ∙ sym same)))
+      -- a seat's CPU is one of the boot file
+      is_known : (w : Running P) (i : ℕ) (seat : Seat P) → map number_of w.seats ≡ map row_number (rows_in_order boot.cpus) → slice_get w.seats i ≡ Some seat → IsSome (cpu_row boot (number_of seat))
+      is_known w i seat numbers is =
+          let row : Comes row_number (rows_in_order boot.cpus) i (number_of seat) = row_of w i seat numbers is in
+          let stands : Stands boot.cpus row.item = from_order boot.cpus i row.item row.is in
+          rw (found_here (is_cpu (number_of seat)) boot.cpus stands.at row.item (numbered.once (number_of seat)) stands.is (eq-eqb row.item.cpu.0 (number_of seat) row.gives)) refl
 
-  -- a running CPU is one of the boot file
-  pub is_known : (w : Whole) (i : ℕ) (c : CpuRun) → IsNumbered boot → map number_of w.cpus ≡ map row_number (rows_in_order boot.cpus) → slice_get w.cpus i ≡ Some c → IsSome (cpu_row boot c.cpu.0)
-  is_known w i c numbered numbers is =
-      let row : Comes row_number (rows_in_order boot.cpus) i c.cpu.0 = row_of w i c numbers is in
-      let stands : Stands boot.cpus row.item = from_order boot.cpus i row.item row.is in
-      rw (found_here (is_cpu c.cpu.0) boot.cpus stands.at row.item (numbered.once c.cpu.0) stands.is (eq-eqb row.item.cpu.0 c.cpu.0 row.gives)) refl
+      -- one call more of a CPU
+      module _ (unset : boot.set_at ≡ []) (w : Running P) (at : ℕ) (seat : Seat P) (between : Between w) (here : slice_get w.seats at ≡ Some seat) (going : seat.cpu.ended ≡ false) where
+        abbrev calls : List Made
+        calls = calls_of between.made (number_of seat)
 
-  pub joined_each : (w : Whole) (at : ℕ) (c : CpuRun) → IsNumbered boot → Between w → slice_get w.cpus at ≡ Some c → Own boot whole (file_of files c.cpu.0) (length (joined files w at c).history) (calls_of c.cpu.0 w.made ++ made_of (call_in files w c) ∷ []) (cpu_behind files w c) → (call_in files w c).mark.cpu ≡ c.cpu → length w.history ≤ length (joined files w at c).history → (i : ℕ) (d : CpuRun) → slice_get (slice_set w.cpus at (cpu_behind files w c)) i ≡ Some d → Own boot whole (file_of files d.cpu.0) (length (joined files w at c).history) (calls_of d.cpu.0 (joined files w at c).made) d
-  joined_each w at c numbered between here own mine longer i d is =
-      elim (set_cases w.cpus at i c (cpu_behind files w c) d here is) as (λ _. Own boot whole (file_of files d.cpu.0) (length (joined files w at c).history) (calls_of d.cpu.0 (joined files w at c).made) d) [
-        | inl same ↦ subst (λ (e : CpuRun). Own boot whole (file_of files e.cpu.0) (length (joined files w at c).history) (calls_of e.cpu.0 (joined files w at c).made) e) same.1
-            (subst (λ (n : CpuNo). Own boot whole (file_of files n.0) (length (joined files w at c).history) (calls_of n.0 (joined files w at c).made) (cpu_behind files w c)) (sym (moved_cpu files w c))
-            (subst (λ (calls : List Made). Own boot whole (file_of files c.cpu.0) (length (joined files w at c).history) calls (cpu_behind files w c)) (sym (calls_same (made_of (call_in files w c)) w.made c.cpu.0 (ap (λ (n : CpuNo). n.0) mine))) own))
-        | inr other ↦ subst (λ (calls : List Made). Own boot whole (file_of files d.cpu.0) (length (joined files w at c).history) calls d)
-            (sym (calls_other (made_of (call_in files w c)) w.made d.cpu.0 (λ same. apart w at i c d numbered between.numbers here other.1 (λ place. other.0 (sym place)) (sym (ap (λ (n : CpuNo). n.0) mine) ∙ same))))
-            (own_later boot whole (file_of files d.cpu.0) (length w.history) (length (joined files w at c).history) (calls_of d.cpu.0 w.made) d longer (between.each i d other.1))
+        abbrev m : Made
+        m = made_in boot answer after program w.plain seat
+
+        its_own : Own boot answer after program between.history (calls_of between.made (number_of seat)) seat
+        its_own = between.each at seat here
+
+        its_row : IsSome (cpu_row boot (number_of seat))
+        its_row = is_known w at seat between.numbers here
+
+        whole : IsCall boot answer after program between.history w.plain seat
+        whole = whole_is boot between.history w.plain seat.cpu (here_of boot answer after program between.history between.made calls w.plain seat unset its_row between.told its_own) seat.standing.frame (call_of seat.standing.frame)
+
+        grew : Grown boot answer after program between.history between.made w.plain seat
+        grew = grown boot answer after program between.history between.made w.plain seat between.told whole
+
+        mine : m.mark.cpu.0 ≡ number_of seat
+        mine = ap (λ (c : CpuNo). c.0) whole.cpu
+
+        joined_each : (i : ℕ) (other : Seat P) → slice_get (slice_set w.seats at (moved w seat)) i ≡ Some other → Own boot answer after program grew.longer (calls_of (between.made ++ m ∷ []) (number_of other)) other
+        joined_each i other is =
+            elim (set_cases w.seats at i seat (moved w seat) other here is) as (λ _. Own boot answer after program grew.longer (calls_of (between.made ++ m ∷ []) (number_of other)) other) [
+              | inl same ↦ subst (λ (s : Seat P). Own boot answer after program grew.longer (calls_of (between.made ++ m ∷ []) (number_of s)) s) same.1
+                  (subst (λ (cs : List Made). Own boot answer after program grew.longer cs (moved w seat)) (sym (ap (calls_of (between.made ++ m ∷ [])) (moved_number w seat) ∙ calls_same m between.made (number_of seat) mine))
+                  (own_step boot answer after program between.history between.made calls w.plain seat its_own going whole grew))
+              | inr differs ↦ subst (λ (cs : List Made). Own boot answer after program grew.longer cs other)
+                  (sym (calls_other m between.made (number_of other) (λ same. apart w at i seat other between.numbers here differs.1 (λ place. differs.0 (sym place)) (sym mine ∙ same))))
+                  (own_later boot answer after program between.history grew.longer (calls_of between.made (number_of other)) other grew.front (between.each i other differs.1))
+            ]
+
+        joined : Between (with_call answer after w at seat (next_call w.plain seat))
+        joined = record {
+          history = grew.longer;
+          made = between.made ++ m ∷ [];
+          entries = grew.entries ∙ ap (λ (es : List Entry). es ++ entries_of (next_call w.plain seat).mark) between.entries;
+          marks = map-append mark_of between.made (m ∷ []) ∙ ap (λ (ms : List Mark). ms ++ m.mark ∷ []) between.marks;
+          told = grew.told;
+          each = joined_each;
+          numbers = map-set_same number_of w.seats at (moved w seat) seat (moved_number w seat ∙ ap number_of (sym (get_or_from_slice_get w.seats at seat seat here))) ∙ between.numbers;
+          known = λ i n is. elim (snoc_cases between.made m n i is) as (λ _. IsSome (cpu_row boot n.mark.cpu.0)) [
+            | inl before ↦ between.known i n before.1
+            | inr last ↦ subst (λ (k : Made). IsSome (cpu_row boot k.mark.cpu.0)) last.1 (subst (λ (n : ℕ). IsSome (cpu_row boot n)) (sym mine) its_row)
+          ];
+        }
+
+      module _ (unset : boot.set_at ≡ []) where
+        turn_by : (ended : Bool) (w : Running P) (at : ℕ) (seat : Seat P) → seat.cpu.ended ≡ ended → Between w → slice_get w.seats at ≡ Some seat → Between (if ended then w else with_call answer after w at seat (next_call w.plain seat))
+        turn_by true w at seat is between here = between
+        turn_by false w at seat is between here = joined unset w at seat between here is
+
+        turn_between : (w : Running P) (at : ℕ) (found : Option (Seat P)) → slice_get w.seats at ≡ found → Between w → Between (turn_of answer after w at found)
+        turn_between w at None is between = between
+        turn_between w at (Some seat) is between = turn_by seat.cpu.ended w at seat refl between is
+
+        turns_between : (w : Running P) (at more : ℕ) → Between w → Between (turns answer after w at more)
+        turns_between w at zero between = between
+        turns_between w at (suc more) between =
+            turns_between (turn answer after w at) (at + 1) more (turn_between w at (slice_get w.seats at) refl between)
+
+        -- what holds between the calls holds to the end
+        pub rounds_between : (more : ℕ) (w : Running P) → Between w → Between (rounds answer after more w)
+        rounds_between zero w between = subst (λ (v : Running P). Between v) (sym (rounds_none answer after w)) between
+        rounds_between (suc more) w between =
+            subst (λ (v : Running P). Between v) (sym (rounds_more answer after more w))
+            (rounds_between more (round answer after w) (turns_between w 0 (length w.seats) between))
+
+  -- every program ends
+
+  -- so many rounds before the last, a CPU has ended, or made a call in each round so far; its call of the last number is the
+  -- exit call
+  pub record Pace (k : ℕ) (seat : Seat P) : Type 0 where
+    pub pace : (seat.cpu.ended ≡ true) ⊎ ((0 < k) × (seat.cpu.number + k ≡ last_number))
+    pub last : seat.cpu.ended ≡ false → seat.cpu.number + 1 ≡ last_number → seat.standing.frame ≡ exit_frame
+
+  asked_last : (number : ℕ) (program : P) (reply : Option Reply) → number ≡ last_number → (asked answer after number program reply).frame ≡ exit_frame
+  asked_last number program reply is = rw (eq-eqb number last_number is) refl
+
+  last_by : (exit : Bool) (seat : Seat P) (c : CpuRun) (reply : Reply) → (seat_behind answer after exit seat c reply).cpu.ended ≡ false → (seat_behind answer after exit seat c reply).cpu.number + 1 ≡ last_number → (seat_behind answer after exit seat c reply).standing.frame ≡ exit_frame
+  last_by true seat c reply going is = absurd (let never : ⊥ = cc in never)
+  last_by false seat c reply going is = asked_last (c.number + 1) seat.standing.program (Some reply) is
+
+  exit_is : is_exit exit_frame ≡ true
+  exit_is = refl
+
+  moved_ends : (w : Running P) (seat : Seat P) → seat.cpu.ended ≡ false → (moved w seat).cpu.ended ≡ is_exit seat.standing.frame
+  moved_ends w seat going = ended_by answer after (is_exit seat.standing.frame) seat (after_mark seat.cpu (next_call w.plain seat).mark) (next_call w.plain seat).mark.reply going
+
+  moved_counts : (w : Running P) (seat : Seat P) → (moved w seat).cpu.number ≡ seat.cpu.number + 1
+  moved_counts w seat = cpu_field answer after (λ c. c.number) (is_exit seat.standing.frame) seat (after_mark seat.cpu (next_call w.plain seat).mark) (next_call w.plain seat).mark.reply refl
+
+  pace_by : (k : ℕ) (w : Running P) (seat : Seat P) → seat.cpu.ended ≡ false → Pace (suc k) seat → (seat.cpu.ended ≡ true) ⊎ ((0 < suc k) × (seat.cpu.number + suc k ≡ last_number)) → ((moved w seat).cpu.ended ≡ true) ⊎ ((0 < k) × ((moved w seat).cpu.number + k ≡ last_number))
+  pace_by k w seat going paced (inl over) = absurd (let never : ⊥ = cc in never)
+  pace_by zero w seat going paced (inr count) =
+      inl (moved_ends w seat going ∙ ap is_exit (paced.last going (let one : seat.cpu.number + 1 ≡ seat.cpu.number + suc zero = omega arith in one ∙ count.1)) ∙ exit_is)
+  pace_by (suc k) w seat going paced (inr count) =
+      inr (omega arith, ap (λ (n : ℕ). n + suc k) (moved_counts w seat) ∙ (let sum : seat.cpu.number + 1 + suc k ≡ seat.cpu.number + suc (suc k) = omega arith in sum) ∙ count.1)
+
+  pace_moved : (k : ℕ) (w : Running P) (seat : Seat P) → seat.cpu.ended ≡ false → Pace (suc k) seat → Pace k (moved w seat)
+  pace_moved k w seat going paced = record {
+    pace = pace_by k w seat going paced paced.pace;
+    last = last_by (is_exit seat.standing.frame) seat (after_mark seat.cpu (next_call w.plain seat).mark) (next_call w.plain seat).mark.reply;
+  }
+
+  pace_ended : (j k : ℕ) (seat : Seat P) → seat.cpu.ended ≡ true → Pace j seat → Pace k seat
+  pace_ended j k seat over paced = record { pace = inl over; last = paced.last }
+
+  -- the rounds that a CPU has before it, in a round that has come to the CPU at a place
+  abbrev pub rounds_before : ℕ → ℕ → ℕ → ℕ
+  rounds_before k at i = if nat_lt i at then k else suc k
+
+  abbrev pub PacedTo : ℕ → ℕ → Running P → Type 0
+  PacedTo k at w = (i : ℕ) (seat : Seat P) → slice_get w.seats i ≡ Some seat → Pace (rounds_before k at i) seat
+
+  -- a CPU at another place has as many rounds before it as it had
+  same_rounds : (k at i : ℕ) → i ≢ at → rounds_before k at i ≡ rounds_before k (at + 1) i
+  same_rounds k at i differs =
+      ap (λ (b : Bool). if b then k else suc k) (let same : nat_lt i at ≡ nat_lt i (at + 1) = grind (arith, nat_tests) in same)
+
+  rounds_here : (k at : ℕ) → rounds_before k at at ≡ suc k
+  rounds_here k at =
+      ap (λ (b : Bool). if b then k else suc k) (let not_behind : nat_lt at at ≡ false = grind (arith, nat_tests) in not_behind)
+
+  rounds_behind : (k at i : ℕ) → i < at → rounds_before k at i ≡ k
+  rounds_behind k at i within =
+      ap (λ (b : Bool). if b then k else suc k) (let behind : nat_lt i at ≡ true = grind (arith, nat_tests) in behind)
+
+  rounds_ahead : (k i : ℕ) → rounds_before k 0 i ≡ suc k
+  rounds_ahead k i =
+      ap (λ (b : Bool). if b then k else suc k) (let ahead : nat_lt i 0 ≡ false = grind (arith, nat_tests) in ahead)
+
+  -- the CPU that had its turn is a round further
+  paced_at : (k : ℕ) (w : Running P) (at : ℕ) (seat : Seat P) → PacedTo k at w → slice_get w.seats at ≡ Some seat → seat.cpu.ended ≡ false → PacedTo k (at + 1) (with_call answer after w at seat (next_call w.plain seat))
+  paced_at k w at seat paced here going = λ (i : ℕ) (other : Seat P) (is : slice_get (slice_set w.seats at (moved w seat)) i ≡ Some other).
+      elim (set_cases w.seats at i seat (moved w seat) other here is) as (λ _. Pace (rounds_before k (at + 1) i) other) [
+        | inl same ↦ subst (λ (n : ℕ). Pace n other) (sym (rounds_behind k (at + 1) i (let place : i ≡ at = same.0 in omega arith)))
+            (subst (λ (s : Seat P). Pace k s) same.1 (pace_moved k w seat going (subst (λ (n : ℕ). Pace n seat) (rounds_here k at) (paced at seat here))))
+        | inr differs ↦ subst (λ (n : ℕ). Pace n other) (same_rounds k at i differs.0) (paced i other differs.1)
       ]
 
-  -- one call more of a CPU
-  pub joined_between : (w : Whole) (at : ℕ) (c : CpuRun) → IsNumbered boot → boot.set_at ≡ [] → Between w → slice_get w.cpus at ≡ Some c → c.ended ≡ false → IsFront (joined files w at c).history whole → Between (joined files w at c)
-  joined_between w at c numbered unset between here going front =
-      let lines : List Line = file_of files c.cpu.0 in
-      let x : Caller = caller w c in
-      let calls : List Made = calls_of c.cpu.0 w.made in
-      let own : Own boot whole (file_of files c.cpu.0) (length w.history) (calls_of c.cpu.0 w.made) c = between.each at c here in
-      let ready : Here boot whole (file_of files c.cpu.0) (caller w c) = here_of boot whole lines x w.made calls unset between.told own (front_behind w.history (events_of (call_in files w c)) whole front) in
-      let good : Good boot whole (file_of files c.cpu.0) (caller w c) (call_in files w c) = good_call boot whole lines x ready in
-      let grew : Grown boot whole (w.history ++ events_of (call_in files w c)) w.made (caller w c) (call_in files w c) = grown boot whole w.made x (call_in files w c) between.told good.entry in
-      let behind : Own boot whole (file_of files c.cpu.0) (length (w.history ++ events_of (call_in files w c))) (calls_of c.cpu.0 w.made ++ made_of (call_in files w c) ∷ []) (cpu_behind files w c) = own_step boot whole lines x w.made calls own going front good grew in
-      record {
-        told = grew.told;
-        each = λ i d is. joined_each w at c numbered between here behind good.cpu_is grew.longer i d is;
-        numbers = map-set_same number_of w.cpus at (cpu_behind files w c) c (ap (λ (n : CpuNo). n.0) (moved_cpu files w c) ∙ ap number_of (sym (get_or_from_slice_get w.cpus at c c here))) ∙ between.numbers;
-        known = λ i m is. elim (snoc_cases w.made (made_of (call_in files w c)) m i is) as (λ _. IsSome (cpu_row boot m.mark.cpu.0)) [
-          | inl before ↦ between.known i m before.1
-          | inr last ↦ subst (λ (n : Made). IsSome (cpu_row boot n.mark.cpu.0)) last.1 (subst (λ (n : CpuNo). IsSome (cpu_row boot n.0)) (sym good.cpu_is) (is_known w at c numbered between.numbers here))
-        ];
-      }
+  -- one that has ended is where it was
+  paced_ended : (k : ℕ) (w : Running P) (at : ℕ) (seat : Seat P) → PacedTo k at w → slice_get w.seats at ≡ Some seat → seat.cpu.ended ≡ true → PacedTo k (at + 1) w
+  paced_ended k w at seat paced here over = λ (i : ℕ) (other : Seat P) (is : slice_get w.seats i ≡ Some other).
+      elim (eqb_tells i at) as (λ _. Pace (rounds_before k (at + 1) i) other) [
+        | inl same ↦ pace_ended (rounds_before k at i) (rounds_before k (at + 1) i) other (let there : slice_get w.seats i ≡ Some seat = subst (λ (n : ℕ). slice_get w.seats n ≡ Some seat) (sym same.1) here in let one : seat ≡ other = cc in subst (λ (s : Seat P). s.cpu.ended ≡ true) one over) (paced i other is)
+        | inr differs ↦ subst (λ (n : ℕ). Pace n other) (same_rounds k at i (λ (place : i ≡ at). let yes : (i == at) ≡ true = eq-eqb i at place in let never : ⊥ = cc in never)) (paced i other is)
+      ]
 
-  pub turned_between_by : (ended : Bool) (w : Whole) (at : ℕ) (c : CpuRun) → IsNumbered boot → boot.set_at ≡ [] → c.ended ≡ ended → Between w → slice_get w.cpus at ≡ Some c → IsFront (if ended then w else joined files w at c).history whole → Between (if ended then w else joined files w at c)
-  turned_between_by true w at c numbered unset is between here front = between
-  turned_between_by false w at c numbered unset is between here front = joined_between w at c numbered unset between here is front
+  paced_past : (k : ℕ) (w : Running P) (at : ℕ) → PacedTo k at w → slice_get w.seats at ≡ None → PacedTo k (at + 1) w
+  paced_past k w at paced none = λ (i : ℕ) (other : Seat P) (is : slice_get w.seats i ≡ Some other).
+      subst (λ (n : ℕ). Pace n other) (same_rounds k at i (λ (place : i ≡ at). let there : slice_get w.seats at ≡ Some other = subst (λ (n : ℕ). slice_get w.seats n ≡ Some other) place is in let never : ⊥ = cc in never)) (paced i other is)
 
-  pub turned_between : (w : Whole) (at : ℕ) (o : Option CpuRun) → IsNumbered boot → boot.set_at ≡ [] → slice_get w.cpus at ≡ o → Between w → IsFront (turned_of files w at o).history whole → Between (turned_of files w at o)
-  turned_between w at None numbered unset is between front = between
-  turned_between w at (Some c) numbered unset is between front = turned_between_by c.ended w at c numbered unset refl between is front
+  turn_paced_by : (ended : Bool) (k : ℕ) (w : Running P) (at : ℕ) (seat : Seat P) → seat.cpu.ended ≡ ended → PacedTo k at w → slice_get w.seats at ≡ Some seat → PacedTo k (at + 1) (if ended then w else with_call answer after w at seat (next_call w.plain seat))
+  turn_paced_by true k w at seat is paced here = paced_ended k w at seat paced here is
+  turn_paced_by false k w at seat is paced here = paced_at k w at seat paced here is
 
-  pub all_turned_between : (w : Whole) (at more : ℕ) → IsNumbered boot → boot.set_at ≡ [] → Between w → IsFront (all_turned files w at more).history whole → Between (all_turned files w at more)
-  all_turned_between w at zero numbered unset between front = subst (λ (v : Whole). Between v) (sym (turned_none files w at)) between
-  all_turned_between w at (suc more) numbered unset between front =
-      let later : IsFront (all_turned files (turned files w at) (at + 1) more).history whole = subst (λ (v : Whole). IsFront v.history whole) (turned_more files w at more) front in
-      let now : IsFront (turned files w at).history whole = front_trans (turned files w at).history (all_turned files (turned files w at) (at + 1) more).history whole (turns_front files (turned files w at) (at + 1) more) later in
-      subst (λ (v : Whole). Between v) (sym (turned_more files w at more))
-      (all_turned_between (turned files w at) (at + 1) more numbered unset (turned_between w at (slice_get w.cpus at) numbered unset refl between now) later)
+  turn_paced : (k : ℕ) (w : Running P) (at : ℕ) (found : Option (Seat P)) → slice_get w.seats at ≡ found → PacedTo k at w → PacedTo k (at + 1) (turn_of answer after w at found)
+  turn_paced k w at None is paced = paced_past k w at paced is
+  turn_paced k w at (Some seat) is paced = turn_paced_by seat.cpu.ended k w at seat refl paced is
 
-  -- what holds between the calls holds to the end
-  pub all_rounded_between : (more : ℕ) (w : Whole) → IsNumbered boot → boot.set_at ≡ [] → Between w → IsFront (all_rounded more files w).history whole → Between (all_rounded more files w)
-  all_rounded_between zero w numbered unset between front = subst (λ (v : Whole). Between v) (sym (rounded_none files w)) between
-  all_rounded_between (suc more) w numbered unset between front =
-      let later : IsFront (all_rounded more files (rounded files w)).history whole = subst (λ (v : Whole). IsFront v.history whole) (rounded_more more files w) front in
-      let now : IsFront (rounded files w).history whole = front_trans (rounded files w).history (all_rounded more files (rounded files w)).history whole (rounds_front more files (rounded files w)) later in
-      subst (λ (v : Whole). Between v) (sym (rounded_more more files w))
-      (all_rounded_between more (rounded files w) numbered unset (all_turned_between w 0 (length w.cpus) numbered unset between now) later)
+  turn_length_by : (ended : Bool) (w : Running P) (at : ℕ) (seat : Seat P) → length (if ended then w else with_call answer after w at seat (next_call w.plain seat)).seats ≡ length w.seats
+  turn_length_by true w at seat = refl
+  turn_length_by false w at seat = length-set w.seats at (moved w seat)
 
--- every program ends
+  turn_length : (w : Running P) (at : ℕ) (found : Option (Seat P)) → length (turn_of answer after w at found).seats ≡ length w.seats
+  turn_length w at None = refl
+  turn_length w at (Some seat) = turn_length_by seat.cpu.ended w at seat
 
--- so many rounds before the last, a CPU has ended, or made a call in each round so far
-abbrev pub Pace : ℕ → CpuRun → Type 0
-Pace zero c = c.ended ≡ true
-Pace (suc k) c = (c.ended ≡ true) ⊎ (c.number + suc k ≡ last_number)
+  turns_paced : (k : ℕ) (w : Running P) (at more : ℕ) → at + more ≡ length w.seats → PacedTo k at w → PacedTo k (length w.seats) (turns answer after w at more)
+  turns_paced k w at zero is paced =
+      subst (λ (n : ℕ). PacedTo k n w) (let place : at ≡ length w.seats = omega arith in place) paced
+  turns_paced k w at (suc more) is paced =
+      let same : length (turn answer after w at).seats ≡ length w.seats = turn_length w at (slice_get w.seats at) in
+      subst (λ (n : ℕ). PacedTo k n (turns answer after (turn answer after w at) (at + 1) more)) same
+      (turns_paced k (turn answer after w at) (at + 1) more (omega arith) (turn_paced k w at (slice_get w.seats at) refl paced))
 
-pub pace_ended : (k : ℕ) (c : CpuRun) → c.ended ≡ true → Pace k c
-pace_ended zero c over = over
-pace_ended (suc k) c over = inl over
+  turns_length : (w : Running P) (at more : ℕ) → length (turns answer after w at more).seats ≡ length w.seats
+  turns_length w at zero = refl
+  turns_length w at (suc more) =
+      turns_length (turn answer after w at) (at + 1) more ∙ turn_length w at (slice_get w.seats at)
 
-pub last_exits : (number : ℕ) (left : List Line) → number ≡ last_number → is_exit (next_frame number left) ≡ true
-last_exits number left is = rw (eq-eqb number last_number is) refl
+  abbrev pub AllPaced : ℕ → Running P → Type 0
+  AllPaced k w = (i : ℕ) (seat : Seat P) → slice_get w.seats i ≡ Some seat → Pace k seat
 
--- the call of the last number ends its program
-pub last_ends : (files : List (List Line)) (w : Whole) (c : CpuRun) → c.ended ≡ false → c.number + 1 ≡ last_number → (cpu_behind files w c).ended ≡ true
-last_ends files w c going is =
-    let lines : List Line = file_of files c.cpu.0 in
-    let after : CpuRun = after_mark c (call_in files w c).mark in
-    ended_by (is_exit (call_in files w c).frame) (stays after lines (call_in files w c).mark.reply) after going
-    ∙ ap is_exit (shape_frame w.plain c (next_frame (c.number + 1) (drop c.at lines)) (call_of (next_frame (c.number + 1) (drop c.at lines))))
-    ∙ last_exits (c.number + 1) (drop c.at lines) is
+  round_paced : (k : ℕ) (w : Running P) → AllPaced (suc k) w → AllPaced k (round answer after w)
+  round_paced k w paced = λ (i : ℕ) (seat : Seat P) (is : slice_get (round answer after w).seats i ≡ Some seat).
+      let within : i < length (round answer after w).seats = slice_get_within (round answer after w).seats i seat is in
+      let same : length (round answer after w).seats ≡ length w.seats = turns_length w 0 (length w.seats) in
+      let all : PacedTo k (length w.seats) (round answer after w) = turns_paced k w 0 (length w.seats) (omega arith) (λ j other also. subst (λ (n : ℕ). Pace n other) (sym (rounds_ahead k j)) (paced j other also)) in
+      subst (λ (n : ℕ). Pace n seat) (rounds_behind k (length w.seats) i (omega arith)) (all i seat is)
 
-pub pace_joined : (k : ℕ) (files : List (List Line)) (w : Whole) (c : CpuRun) → c.ended ≡ false → Pace (suc k) c → Pace k (cpu_behind files w c)
-pace_joined zero files w c going (inl over) = absurd (let never : ⊥ = cc in never)
-pace_joined zero files w c going (inr count) = last_ends files w c going (let one : c.number + 1 ≡ c.number + suc zero = omega arith in one ∙ count)
-pace_joined (suc k) files w c going (inl over) = absurd (let never : ⊥ = cc in never)
-pace_joined (suc k) files w c going (inr count) =
-    inr (ap (λ (n : ℕ). n + suc k) (moved_number files w c) ∙ (let sum : c.number + 1 + suc k ≡ c.number + suc (suc k) = omega arith in sum) ∙ count)
+  -- every CPU has ended after the last round
+  pub rounds_paced : (k : ℕ) (w : Running P) → AllPaced k w → AllPaced 0 (rounds answer after k w)
+  rounds_paced zero w paced = subst (λ (v : Running P). AllPaced 0 v) (sym (rounds_none answer after w)) paced
+  rounds_paced (suc k) w paced =
+      subst (λ (v : Running P). AllPaced 0 v) (sym (rounds_more answer after k w)) (rounds_paced k (round answer after w) (round_paced k w paced))
 
--- the rounds that a CPU has before it, in a round that has come to the CPU at a place
-abbrev pub rounds_before : ℕ → ℕ → ℕ → ℕ
-rounds_before k at i = if nat_lt i at then k else suc k
-
-abbrev pub PacedTo : ℕ → ℕ → Whole → Type 0
-PacedTo k at w = (i : ℕ) (c : CpuRun) → slice_get w.cpus i ≡ Some c → Pace (rounds_before k at i) c
-
--- a CPU at another place has as many rounds before it as it had
-pub same_rounds : (k at i : ℕ) → i ≢ at → rounds_before k at i ≡ rounds_before k (at + 1) i
-same_rounds k at i differs =
-    ap (λ (b : Bool). if b then k else suc k) (let same : nat_lt i at ≡ nat_lt i (at + 1) = grind (arith, nat_tests) in same)
-
-pub rounds_here : (k at : ℕ) → rounds_before k at at ≡ suc k
-rounds_here k at =
-    ap (λ (b : Bool). if b then k else suc k) (let not_behind : nat_lt at at ≡ false = grind (arith, nat_tests) in not_behind)
-
-pub rounds_behind : (k at i : ℕ) → i < at → rounds_before k at i ≡ k
-rounds_behind k at i within =
-    ap (λ (b : Bool). if b then k else suc k) (let behind : nat_lt i at ≡ true = grind (arith, nat_tests) in behind)
-
-pub rounds_ahead : (k i : ℕ) → rounds_before k 0 i ≡ suc k
-rounds_ahead k i =
-    ap (λ (b : Bool). if b then k else suc k) (let ahead : nat_lt i 0 ≡ false = grind (arith, nat_tests) in ahead)
-
--- the CPU that had its turn is a round further
-pub paced_at : (k : ℕ) (files : List (List Line)) (w : Whole) (at : ℕ) (c : CpuRun) → PacedTo k at w → slice_get w.cpus at ≡ Some c → c.ended ≡ false → PacedTo k (at + 1) (joined files w at c)
-paced_at k files w at c paced here going = λ (i : ℕ) (d : CpuRun) (is : slice_get (slice_set w.cpus at (cpu_behind files w c)) i ≡ Some d).
-    elim (set_cases w.cpus at i c (cpu_behind files w c) d here is) as (λ _. Pace (rounds_before k (at + 1) i) d) [
-      | inl same ↦ subst (λ (n : ℕ). Pace n d) (sym (rounds_behind k (at + 1) i (let place : i ≡ at = same.0 in omega arith)))
-          (subst (λ (e : CpuRun). Pace k e) same.1 (pace_joined k files w c going (subst (λ (n : ℕ). Pace n c) (rounds_here k at) (paced at c here))))
-      | inr other ↦ subst (λ (n : ℕ). Pace n d) (same_rounds k at i other.0) (paced i d other.1)
-    ]
-
--- one that has ended is where it was
-pub paced_ended : (k : ℕ) (w : Whole) (at : ℕ) (c : CpuRun) → PacedTo k at w → slice_get w.cpus at ≡ Some c → c.ended ≡ true → PacedTo k (at + 1) w
-paced_ended k w at c paced here over = λ (i : ℕ) (d : CpuRun) (is : slice_get w.cpus i ≡ Some d).
-    elim (eqb_tells i at) as (λ _. Pace (rounds_before k (at + 1) i) d) [
-      | inl same ↦ pace_ended (rounds_before k (at + 1) i) d (let there : slice_get w.cpus i ≡ Some c = subst (λ (n : ℕ). slice_get w.cpus n ≡ Some c) (sym same.1) here in let one : c ≡ d = cc in subst (λ (e : CpuRun). e.ended ≡ true) one over)
-      | inr differs ↦ subst (λ (n : ℕ). Pace n d) (same_rounds k at i (λ (place : i ≡ at). let yes : (i == at) ≡ true = eq-eqb i at place in let never : ⊥ = cc in never)) (paced i d is)
-    ]
-
-pub paced_past : (k : ℕ) (w : Whole) (at : ℕ) → PacedTo k at w → slice_get w.cpus at ≡ None → PacedTo k (at + 1) w
-paced_past k w at paced none = λ (i : ℕ) (d : CpuRun) (is : slice_get w.cpus i ≡ Some d).
-    subst (λ (n : ℕ). Pace n d) (same_rounds k at i (λ (place : i ≡ at). let there : slice_get w.cpus at ≡ Some d = subst (λ (n : ℕ). slice_get w.cpus n ≡ Some d) place is in let never : ⊥ = cc in never)) (paced i d is)
-
-pub turned_paced_by : (ended : Bool) (k : ℕ) (files : List (List Line)) (w : Whole) (at : ℕ) (c : CpuRun) → c.ended ≡ ended → PacedTo k at w → slice_get w.cpus at ≡ Some c → PacedTo k (at + 1) (if ended then w else joined files w at c)
-turned_paced_by true k files w at c is paced here = paced_ended k w at c paced here is
-turned_paced_by false k files w at c is paced here = paced_at k files w at c paced here is
-
-pub turned_paced : (k : ℕ) (files : List (List Line)) (w : Whole) (at : ℕ) (o : Option CpuRun) → slice_get w.cpus at ≡ o → PacedTo k at w → PacedTo k (at + 1) (turned_of files w at o)
-turned_paced k files w at None is paced = paced_past k w at paced is
-turned_paced k files w at (Some c) is paced = turned_paced_by c.ended k files w at c refl paced is
-
-pub turned_length_by : (ended : Bool) (files : List (List Line)) (w : Whole) (at : ℕ) (c : CpuRun) → length (if ended then w else joined files w at c).cpus ≡ length w.cpus
-turned_length_by true files w at c = refl
-turned_length_by false files w at c = length-set w.cpus at (cpu_behind files w c)
-
-pub turned_length : (files : List (List Line)) (w : Whole) (at : ℕ) (o : Option CpuRun) → length (turned_of files w at o).cpus ≡ length w.cpus
-turned_length files w at None = refl
-turned_length files w at (Some c) = turned_length_by c.ended files w at c
-
-pub all_turned_paced : (k : ℕ) (files : List (List Line)) (w : Whole) (at more : ℕ) → at + more ≡ length w.cpus → PacedTo k at w → PacedTo k (length w.cpus) (all_turned files w at more)
-all_turned_paced k files w at zero is paced =
-    subst (λ (v : Whole). PacedTo k (length w.cpus) v) (sym (turned_none files w at))
-    (subst (λ (n : ℕ). PacedTo k n w) (let place : at ≡ length w.cpus = omega arith in place) paced)
-all_turned_paced k files w at (suc more) is paced =
-    let same : length (turned files w at).cpus ≡ length w.cpus = turned_length files w at (slice_get w.cpus at) in
-    subst (λ (v : Whole). PacedTo k (length w.cpus) v) (sym (turned_more files w at more))
-    (subst (λ (n : ℕ). PacedTo k n (all_turned files (turned files w at) (at + 1) more)) same
-    (all_turned_paced k files (turned files w at) (at + 1) more (omega arith) (turned_paced k files w at (slice_get w.cpus at) refl paced)))
-
-pub all_turned_length : (files : List (List Line)) (w : Whole) (at more : ℕ) → length (all_turned files w at more).cpus ≡ length w.cpus
-all_turned_length files w at zero = ap (λ (v : Whole). length v.cpus) (turned_none files w at)
-all_turned_length files w at (suc more) =
-    ap (λ (v : Whole). length v.cpus) (turned_more files w at more)
-    ∙ all_turned_length files (turned files w at) (at + 1) more ∙ turned_length files w at (slice_get w.cpus at)
-
-abbrev pub AllPaced : ℕ → Whole → Type 0
-AllPaced k w = (i : ℕ) (c : CpuRun) → slice_get w.cpus i ≡ Some c → Pace k c
-
-pub rounded_paced : (k : ℕ) (files : List (List Line)) (w : Whole) → AllPaced (suc k) w → AllPaced k (rounded files w)
-rounded_paced k files w paced = λ (i : ℕ) (c : CpuRun) (is : slice_get (rounded files w).cpus i ≡ Some c).
-    let within : i < length (rounded files w).cpus = slice_get_within (rounded files w).cpus i c is in
-    let same : length (rounded files w).cpus ≡ length w.cpus = all_turned_length files w 0 (length w.cpus) in
-    let all : PacedTo k (length w.cpus) (rounded files w) = all_turned_paced k files w 0 (length w.cpus) (omega arith) (λ j d also. subst (λ (n : ℕ). Pace n d) (sym (rounds_ahead k j)) (paced j d also)) in
-    subst (λ (n : ℕ). Pace n c) (rounds_behind k (length w.cpus) i (omega arith)) (all i c is)
-
--- every CPU has ended after the last round
-pub all_rounded_paced : (k : ℕ) (files : List (List Line)) (w : Whole) → AllPaced k w → AllPaced 0 (all_rounded k files w)
-all_rounded_paced zero files w paced = subst (λ (v : Whole). AllPaced 0 v) (sym (rounded_none files w)) paced
-all_rounded_paced (suc k) files w paced =
-    subst (λ (v : Whole). AllPaced 0 v) (sym (rounded_more k files w)) (all_rounded_paced k files (rounded files w) (rounded_paced k files w paced))
-
-pub acted_unreferenced : (s : State) (entry : Entry) → IsActed entry → GoesUnreferenced s entry
-acted_unreferenced s (Acted c number) h = tt
-acted_unreferenced s (Part c number space slot) h = absurd h
-acted_unreferenced s (Retired serial seen) h = absurd h
-acted_unreferenced s (Reclaimed serial seen) h = absurd h
-
-pub acted_unread : (boot : State) (history : List Event) (made : List Made) (s : State) (entry : Entry) → IsActed entry → GoesUnread boot history made s entry
-acted_unread boot history made s (Acted c number) h = tt
-acted_unread boot history made s (Part c number space slot) h = absurd h
-acted_unread boot history made s (Retired serial seen) h = absurd h
-acted_unread boot history made s (Reclaimed serial seen) h = absurd h
-
-pub acted_keeps_none : (entry : Entry) → IsActed entry → kept_counters entry ≡ None
-acted_keeps_none (Acted c number) h = refl
-acted_keeps_none (Part c number space slot) h = absurd h
-acted_keeps_none (Retired serial seen) h = absurd h
-acted_keeps_none (Reclaimed serial seen) h = absurd h
-
-pub never_kept : (entry : Entry) (seen : List ℕ) → IsActed entry → kept_counters entry ≡ Some seen → ⊥
-never_kept entry seen acts kept = let none : kept_counters entry ≡ None = acted_keeps_none entry acts in cc
-
--- a run before its first call
-abbrev pub whole_start : State → Whole
-whole_start boot = record { history = []; made = []; plain = boot; cpus = map cpu_start (rows_in_order boot.cpus) }
-
-pub numbers_at_start : (rows : List CpuRow) → map number_of (map cpu_start rows) ≡ map row_number rows
-numbers_at_start [] = refl
-numbers_at_start (row ∷ rows) = ap (λ (ns : List ℕ). row.cpu.0 ∷ ns) (numbers_at_start rows)
-
-pub own_start : (boot : State) (whole : List Event) (lines : List Line) (row : CpuRow) → cspace_of boot row.cpu.0 ≡ row.cspace.0 → Own boot whole lines 0 [] (cpu_start row)
-own_start boot whole lines row home = record {
-  home = home;
-  legal = λ i item is. absurd (no_item i item is);
-  counts = refl;
-  sections = refl;
-  placed = refl;
-  within = omega arith;
-  position = refl;
-  frames = refl;
-  going = λ open_. refl;
-  ended = λ over. absurd (let never : ⊥ = cc in never);
-}
-
--- the row of a boot file's CPU is found by its number
-pub row_found : (boot : State) (i : ℕ) (row : CpuRow) → IsNumbered boot → slice_get (rows_in_order boot.cpus) i ≡ Some row → find (is_cpu row.cpu.0) boot.cpus ≡ Some row
-row_found boot i row numbered is =
-    let stands : Stands boot.cpus row = from_order boot.cpus i row is in
-    found_here (is_cpu row.cpu.0) boot.cpus stands.at row (numbered.once row.cpu.0) stands.is (eq-eqb row.cpu.0 row.cpu.0 refl)
-
-pub start_each : (boot : State) (whole : List Event) (files : List (List Line)) → IsNumbered boot → (i : ℕ) (c : CpuRun) → slice_get (map cpu_start (rows_in_order boot.cpus)) i ≡ Some c → Own boot whole (file_of files c.cpu.0) 0 (calls_of c.cpu.0 []) c
-start_each boot whole files numbered i c is =
-    let comes : Comes cpu_start (rows_in_order boot.cpus) i c = from_map cpu_start (rows_in_order boot.cpus) i c is in
-    let found : find (is_cpu comes.item.cpu.0) boot.cpus ≡ Some comes.item = row_found boot i comes.item numbered comes.is in
-    subst (λ (d : CpuRun). Own boot whole (file_of files d.cpu.0) 0 (calls_of d.cpu.0 []) d) comes.gives
-    (own_start boot whole (file_of files comes.item.cpu.0) comes.item (rw found refl))
-
-pub between_start : (boot : State) (whole : List Event) (files : List (List Line)) → IsNumbered boot → boot.entries ≡ 0 → boot.taken ≡ [] → Between boot whole files (whole_start boot)
-between_start boot whole files numbered none empty = record {
-  told = record {
-    now = refl;
-    counted = none;
-    steady = λ n within. let first : n ≡ 0 = omega arith in subst (λ (m : ℕ). Steady boot whole (state_at boot [] m)) (sym first) (record { caps = refl; set_at = refl; no_parts = empty });
-    acts = λ n event is. absurd (no_item n event is);
-    once = λ n event is. absurd (no_item n event is);
-    unused = λ n c k beyond. refl;
-  };
-  each = start_each boot whole files numbered;
-  numbers = numbers_at_start (rows_in_order boot.cpus);
-  known = λ i m is. absurd (no_item i m is);
-}
-
--- the CPU of a number that the boot file has
-pub running_cpu : (boot : State) (whole : List Event) (files : List (List Line)) (w : Whole) (n : ℕ) → Between boot whole files w → IsSome (cpu_row boot n) → (c : CpuRun) × (i : ℕ) × (slice_get w.cpus i ≡ Some c) × (c.cpu.0 ≡ n)
-running_cpu boot whole files w n between known =
-    let counted : 1 ≤ count_by (is_cpu n) (rows_in_order boot.cpus) = subst (λ (k : ℕ). 1 ≤ k) (sym (count_order n boot.cpus)) (found_counts (is_cpu n) boot.cpus known) in
-    let found : Found (is_cpu n) (rows_in_order boot.cpus) = counted_found (is_cpu n) (rows_in_order boot.cpus) counted in
-    let comes : Comes number_of w.cpus found.at found.item.cpu.0 = from_map number_of w.cpus found.at found.item.cpu.0 (subst (λ (ns : List ℕ). slice_get ns found.at ≡ Some found.item.cpu.0) (sym between.numbers) (to_map row_number (rows_in_order boot.cpus) found.at found.item found.is)) in
-    (comes.item, found.at, comes.is, comes.gives ∙ eqb-true found.item.cpu.0 n found.passes)
-
-pub none_of : (boot : State) (n : ℕ) (made : List Made) → cpu_row boot n ≡ None → ((i : ℕ) (m : Made) → slice_get made i ≡ Some m → IsSome (cpu_row boot m.mark.cpu.0)) → calls_of n made ≡ []
-none_of boot n [] none known = refl
-none_of boot n (m ∷ made) none known =
-    let here : IsSome (cpu_row boot m.mark.cpu.0) = known zero m refl in
-    let differs : m.mark.cpu.0 ≢ n = λ (same : m.mark.cpu.0 ≡ n). (let row : cpu_row boot m.mark.cpu.0 ≡ None = ap (cpu_row boot) same ∙ none in let never : IsSome (cpu_row boot n) = subst (λ (k : ℕ). IsSome (cpu_row boot k)) same here in let false_is : IsSome {T = CpuRow} None = subst (λ (o : Option CpuRow). IsSome o) none never in let no_more : ⊥ = cc in no_more) in
-    ap (λ (b : Bool). if◌then◌else◌ {A = List Made} b (m ∷ calls_of n made) (calls_of n made)) (let other : (m.mark.cpu.0 == n) ≡ false = grind (arith, nat_tests) in other)
-    ∙ none_of boot n made none (λ i other is. known (suc i) other is)
-
--- what holds of each CPU's calls, and of no calls, holds of every number's
-pub each_number : (boot : State) (whole : List Event) (files : List (List Line)) (w : Whole) (P : ℕ → List Made → Type 0) (n : ℕ) (o : Option CpuRow) → cpu_row boot n ≡ o → Between boot whole files w → ((c : CpuRun) → Own boot whole (file_of files c.cpu.0) (length w.history) (calls_of c.cpu.0 w.made) c → P c.cpu.0 (calls_of c.cpu.0 w.made)) → P n [] → P n (calls_of n w.made)
-each_number boot whole files w P n None is between each none =
-    subst (λ (calls : List Made). P n calls) (sym (none_of boot n w.made is between.known)) none
-each_number boot whole files w P n (Some row) is between each none =
-    let running : (c : CpuRun) × (i : ℕ) × (slice_get w.cpus i ≡ Some c) × (c.cpu.0 ≡ n) = running_cpu boot whole files w n between (rw is refl) in
-    subst (λ (k : ℕ). P k (calls_of k w.made)) running.3 (each running.0 (between.each running.1 running.0 running.2))
-
--- a whole run whose CPUs have all ended is a run
-pub whole_run : (boot : State) (files : List (List Line)) (w : Whole) → Between boot w.history files w → AllPaced 0 w → IsRunBy boot files w.history w.made
-whole_run boot files w between over = record {
-  legal = record {
-    entries = between.told.once;
-    calls = λ n. each_number boot w.history files w (λ k calls. InTurn (CallIs boot w.history k) calls) n (cpu_row boot n) refl between (λ c own. own.legal) (λ i item is. absurd (no_item i item is));
-    cpus = between.known;
-    exits = λ n known. let running : (c : CpuRun) × (i : ℕ) × (slice_get w.cpus i ≡ Some c) × (c.cpu.0 ≡ n) = running_cpu boot w.history files w n between known in
-        subst (λ (k : ℕ). IsTrue (ends_in_exit (last_or None (calls_of k w.made)))) running.3 ((between.each running.1 running.0 running.2).ended (over running.1 running.0 running.2));
-  };
-  graced = record {
-    unreferenced = λ n event is. acted_unreferenced (state_at boot w.history n) event.entry (between.told.acts n event is);
-    unread = λ n event is. acted_unread boot w.history w.made (state_at boot w.history n) event.entry (between.told.acts n event is);
-    rising = λ n m cpu before after first second less is also kept_first kept_second. absurd (never_kept first.entry before (between.told.acts n first is) kept_first);
-    fits = λ n seen event is kept. absurd (never_kept event.entry seen (between.told.acts n event is) kept);
-  };
-  programs = λ n. each_number boot w.history files w (λ k calls. map (λ (call : Made). call.frame) calls ≡ program_frames (file_of files k) (map (λ (call : Made). call.mark.reply) calls)) n (cpu_row boot n) refl between (λ c own. own.frames) refl;
-}
-
--- what no boot line changes
-pub record IsFresh (s : State) : Type 0 where
-  pub unset : s.set_at ≡ []
-  pub none : s.entries ≡ 0
-  pub empty : s.taken ≡ []
-
-pub line_fresh : (s : State) (line : BootLine) → IsFresh s → IsFresh (after_line s line)
-line_fresh s (Pages count) h = record { unset = h.unset; none = h.none; empty = h.empty }
-line_fresh s (Partition quota) h = record { unset = h.unset; none = h.none; empty = h.empty }
-line_fresh s (Cspace partition) h = record { unset = h.unset; none = h.none; empty = h.empty }
-line_fresh s (Addrspace partition) h = record { unset = h.unset; none = h.none; empty = h.empty }
-line_fresh s (Doorbell partition) h = record { unset = h.unset; none = h.none; empty = h.empty }
-line_fresh s (RootExtent partition) h = record { unset = h.unset; none = h.none; empty = h.empty }
-line_fresh s (Extent partition parent offset count access held_offset held_count) h = record { unset = h.unset; none = h.none; empty = h.empty }
-line_fresh s (Msgqueue partition depth size) h = record { unset = h.unset; none = h.none; empty = h.empty }
-line_fresh s (Map space extent base offset count access) h = record { unset = h.unset; none = h.none; empty = h.empty }
-line_fresh s (Cap cspace slot object rights master) h = record { unset = h.unset; none = h.none; empty = h.empty }
-line_fresh s (Vm cspace space) h = record { unset = h.unset; none = h.none; empty = h.empty }
-line_fresh s (Rm cspace space partition) h = record { unset = h.unset; none = h.none; empty = h.empty }
-line_fresh s (Link vm extent request reply) h = record { unset = h.unset; none = h.none; empty = h.empty }
-
-pub lines_fresh : (s : State) (lines : List BootLine) → IsFresh s → IsFresh (fold after_line s lines)
-lines_fresh s [] h = h
-lines_fresh s (line ∷ lines) h = lines_fresh (after_line s line) lines (line_fresh s line h)
-
-pub boot_fresh : (lines : List BootLine) → IsFresh (boot_state lines)
-boot_fresh lines = lines_fresh empty_state lines (record { unset = refl; none = refl; empty = refl })
-
-pub start_paced : (boot : State) (i : ℕ) (c : CpuRun) → slice_get (map cpu_start (rows_in_order boot.cpus)) i ≡ Some c → Pace last_number c
-start_paced boot i c is =
-    let comes : Comes cpu_start (rows_in_order boot.cpus) i c = from_map cpu_start (rows_in_order boot.cpus) i c is in
-    inr (ap (λ (n : ℕ). n + last_number) (sym (ap (λ (d : CpuRun). d.number) comes.gives)))
-
--- the run of a boot file is a run: legal, graced, and by its programs
-pub run_is_run : (lines : List BootLine) (files : List (List Line)) → boot_fits lines ≡ true → IsRun lines files (run_of lines files).entries (run_of lines files).marks (run_of lines files).plain
-run_is_run lines files fits =
-    let boot : State = boot_state lines in
-    let fresh : IsFresh (boot_state lines) = boot_fresh lines in
-    let numbered : IsNumbered (boot_state lines) = boot_numbered lines fits in
-    let w : Whole = all_rounded last_number files (whole_start (boot_state lines)) in
-    let is : run_of lines files ≡ shown w = rounds_shown last_number files (whole_start boot) in
-    let between : Between boot w.history files w = all_rounded_between boot w.history files last_number (whole_start boot) numbered fresh.unset (between_start boot w.history files numbered fresh.none fresh.empty) (front_self w.history) in
-    let over : AllPaced 0 w = all_rounded_paced last_number files (whole_start boot) (λ i c at. start_paced boot i c at) in
-    record {
-      history = w.history;
-      made = w.made;
-      its_entries = ap (λ (r : Running). r.entries) (sym is);
-      its_marks = ap (λ (r : Running). r.marks) (sym is);
-      its_state = between.told.now ∙ ap (λ (r : Running). r.plain) (sym is);
-      by_calls = whole_run boot files w between over;
-    }
+  pub pace_over : (seat : Seat P) → Pace 0 seat → seat.cpu.ended ≡ true
+  pace_over seat paced = elim paced.pace as (λ _. seat.cpu.ended ≡ true) [ inl over ↦ over | inr more ↦ absurd (let none : 0 < 0 = more.0 in omega arith) ]

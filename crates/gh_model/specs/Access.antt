@@ -22,7 +22,8 @@ holds s extent page = is_holder extent (slice_get s.holders page)
 abbrev pub named_page : ExtentRow → MappingRow → ℕ → ℕ
 named_page extent row page = extent.first.0 + row.offset + page - row.base
 
--- the page with the row's access, where the row's extent is now the holder of the page that the row names
+-- the page with the row's access, where the row's extent is now the holder of the page that the row
+-- names
 abbrev pub row_access : State → ℕ → MappingRow → Option ExtentRow → Option (ℕ × ℕ)
 row_access s page row None = None
 row_access s page row (Some extent) =
@@ -32,6 +33,7 @@ abbrev pub covered_access : State → ℕ → Option MappingRow → Option (ℕ 
 covered_access s page None = None
 covered_access s page (Some row) = row_access s page row (find (is_extent row.extent.0) s.extents)
 
--- the machine page at a page of an address space and its access; none where no row covers it or the extent doesn't hold it
+-- the machine page at a page of an address space and its access; none where no row covers it or the
+-- extent doesn't hold it
 abbrev pub access_at : State → ℕ → ℕ → Option (ℕ × ℕ)
 access_at s space page = covered_access s page (find (covers space page) s.mappings)

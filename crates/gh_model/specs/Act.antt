@@ -1,12 +1,11 @@
--- The act of a call on the state. By now it has the acts of identify, bell_send and exit; the calls that aren't built are
--- refused at their frame and so make none.
-use Rattle.std.specs.Prelude.{◌≡◌, ◌==◌, ◌+◌, not, ℕ, Bool, true, false, List, [], Option, Some, None, find, map, slice_get, bit_or, if◌then◌else◌}
+-- The act of a call on the state. By now it has the acts of identify, bell_send and exit; the calls
+-- that aren't built are refused at their frame and so make none.
+use Rattle.std.specs.Prelude.{◌≡◌, ◌==◌, ◌+◌, not, ℕ, Bool, true, false, List, [], length, take, Option, Some, None, find, map, slice_get, bit_or, if◌then◌else◌}
 use Rattle.std.specs.List.{list_any, list_all}
 use Rattle.gh_base.specs.Reply.{refusal, register_reply}
 use Rattle.gh_base.specs.declared.call.Call.{Call}
 use Rattle.gh_base.specs.declared.call.Call.TheVariants.{Identify, Exit, BellSend}
 use Rattle.gh_base.specs.declared.errno.Errno.TheVariants.{Unimplemented, CapRevoked, ObjState}
-use Rattle.gh_base.specs.declared.frame.Frame.{Frame}
 use Rattle.gh_base.specs.declared.frame.Reply.{Reply}
 use Rattle.gh_base.specs.declared.ids.Serial.{Serial}
 use Rattle.gh_base.specs.declared.kind.Stage.{Stage}
@@ -21,6 +20,7 @@ use Rattle.gh_model.specs.declared.word.Word.{Word}
 use Rattle.gh_model.specs.declared.state.State.{State}
 use Rattle.gh_model.specs.Rows.{change_row, is_bell, is_cpu, object_row}
 use Rattle.gh_model.specs.References.{is_doomed}
+use Rattle.gh_model.specs.Registers.{needs_of}
 
 -- what an act comes to: a new state and a reply, or a refusal, which changes nothing
 pub data Verdict : Type 0 where
@@ -84,22 +84,25 @@ abbrev pub as_exited : CpuRow → CpuRow
 as_exited row = record row { exited = true }
 
 abbrev pub with_exit : State → ℕ → State
-with_exit s cpu = record s { cpus = change_row (is_cpu cpu) as_exited s.cpus; rings = s.rings + (if cpu == 0 then 0 else 1) }
+with_exit s cpu = record s {
+  cpus = change_row (is_cpu cpu) as_exited s.cpus;
+  rings = s.rings + (if cpu == 0 then 0 else 1);
+}
 
 -- what the call does where nothing stands against it
-abbrev pub effect : State → ℕ → Call → List Serial → Verdict
-effect s cpu Identify grants = Done (counted s) identified
-effect s cpu (BellSend cap flags) grants =
+abbrev pub effect : State → ℕ → Call → List ℕ → List Serial → Verdict
+effect s cpu Identify bytes grants = Done (counted s) identified
+effect s cpu (BellSend cap flags) bytes grants =
     Done (counted (with_bell_flags s (first_grant grants) flags)) (register_reply 0 (bell_flags s (first_grant grants)) 0 0)
-effect s cpu Exit grants = Done (counted (with_exit s cpu)) (register_reply 0 0 0 0)
-effect s cpu _ grants = Refused (refusal Unimplemented)
+effect s cpu Exit bytes grants = Done (counted (with_exit s cpu)) (register_reply 0 0 0 0)
+effect s cpu _ bytes grants = Refused (refusal Unimplemented)
 
--- the act: refused where a granted object is at its end, then where one isn't in use, else the effect. The frame's bytes
--- are those of the calls that send them
-abbrev pub act : State → ℕ → Call → List Serial → Verdict
-act s cpu call grants =
+-- the act: refused where a granted object is at its end, then where one isn't in use, else the
+-- effect. The bytes are those of the call's frame
+abbrev pub act : State → ℕ → Call → List ℕ → List Serial → Verdict
+act s cpu call bytes grants =
     if any_doomed s grants then Refused (refusal CapRevoked)
-    else (if not (all_active s grants) then Refused (refusal ObjState) else effect s cpu call grants)
+    else (if not (all_active s grants) then Refused (refusal ObjState) else effect s cpu call bytes grants)
 
 -- the object that a word grants
 abbrev pub row_serial : Option CapabilityRow → Serial
@@ -109,6 +112,10 @@ row_serial (Some row) = row.serial
 abbrev pub granted : Word → Serial
 granted word = row_serial word.row
 
+-- a grant for each need of a call; words beyond the needs are passed over
+abbrev pub grants_of : Call → List Word → List Serial
+grants_of call words = map granted (take (length (needs_of call)) words)
+
 -- the act of a call whose looks found these words
-abbrev pub judge : State → ℕ → Frame → Call → List Word → Verdict
-judge s cpu frame call words = act s cpu call (map granted words)
+abbrev pub judge : State → ℕ → Call → List ℕ → List Word → Verdict
+judge s cpu call bytes words = act s cpu call bytes (grants_of call words)

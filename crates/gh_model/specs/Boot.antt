@@ -1,4 +1,5 @@
--- What a boot file makes: the state after its lines, and what each line must meet in the state before it.
+-- What a boot file makes: the state after its lines, and what each line must meet in the state
+-- before it.
 use Rattle.std.specs.Prelude.{◌==◌, ◌&&◌, ◌||◌, ◌+◌, ◌-◌, ◌*◌, ◌/◌, ◌^◌, ℕ, Bool, true, false, not, List, [], ◌∷◌, ◌++◌, length, take, drop, Option, Some, None, find, fold, count_by, bit_and, nat_lt, nat_le, is_some}
 use Rattle.std.specs.List.{list_any, list_all}
 use Rattle.std.specs.Prelude.{replicate}
@@ -104,7 +105,8 @@ cpu_cspace cpus cpu = option_map_or (λ (row : CpuRow). row.cspace.0) (find (is_
 abbrev pub manager_cspace : State → ℕ
 manager_cspace s = cpu_cspace s.cpus 0
 
--- a link gives the resource manager the request queue to receive from, and the reply queue to send to
+-- a link gives the resource manager the request queue to receive from, and the reply queue to send
+-- to
 abbrev pub with_link : State → ℕ → ℕ → ℕ → ℕ → State
 with_link s vm extent request reply = record (with_capability (with_capability s (manager_cspace s) (2 * vm) request 2 false) (manager_cspace s) (2 * vm + 1) reply 1 false) { links = s.links ++ record { vm = record { 0 = vm }; extent = serial_of extent; request = serial_of request; reply = serial_of reply } ∷ [] }
 
@@ -123,6 +125,14 @@ after_line s (Cap cspace slot object rights master) = with_capability s cspace.0
 after_line s (Vm cspace space) = with_cpu s (vm_count s + 1) cspace.0 space.0
 after_line s (Rm cspace space partition) = with_capability (with_cpu s 0 cspace.0 space.0) cspace.0 1 partition.0 128 false
 after_line s (Link vm extent request reply) = with_link s vm.0 extent.0 request.0 reply.0
+
+-- the line of the resource manager
+abbrev pub is_manager_line : BootLine → Bool
+is_manager_line (Rm cspace space partition) = true
+is_manager_line _ = false
+
+abbrev pub has_manager : List BootLine → Bool
+has_manager lines = list_any is_manager_line lines
 
 -- the state that a boot file makes
 abbrev pub boot_state : List BootLine → State
@@ -213,8 +223,9 @@ link_fits s vm extent request reply =
     && list_any (is_small_queue request) s.queues
     && is_free_slot s (manager_cspace s) (2 * vm) && is_free_slot s (manager_cspace s) (2 * vm + 1)
 
--- the line may come in this state, behind the line of pages. That there are at most 1,024 pages and 1,024 objects, and at
--- most eight CPUs before another comes, follows from the rest and is said again where it is used
+-- the line may come in this state, behind the line of pages. That there are at most 1,024 pages and
+-- 1,024 objects, and at most eight CPUs before another comes, follows from the rest and is said
+-- again where it is used
 abbrev pub line_fits : State → BootLine → Bool
 line_fits s (Pages count) = false
 line_fits s (Partition quota) =
@@ -248,7 +259,8 @@ lines_fit s (line ∷ lines) = line_fits s line && lines_fit (after_line s line)
 abbrev pub is_complete : State → Bool
 is_complete s = nat_lt 0 (length s.extents) && nat_lt 0 (vm_count s)
 
--- the lines are those of a boot file: the pages first, 1 to 1,024, then lines that fit, and complete at the end
+-- the lines are those of a boot file: the pages first, 1 to 1,024, then lines that fit, and
+-- complete at the end
 abbrev pub boot_fits : List BootLine → Bool
 boot_fits [] = false
 boot_fits (Pages count ∷ lines) =

@@ -1,76 +1,91 @@
--- Grace: an object is retired only without references, and reclaimed only after every CPU that was reading then has left
--- its section.
-use Rattle.std.specs.Prelude.{◌≡◌, ◌==◌, ◌+◌, ◌*◌, ◌-◌, ◌<◌, ◌≤◌, ℕ, Bool, List, length, take, Option, Some, None, IsTrue, count_by, slice_get, slice_index}
+-- Grace: an object is retired only without references, and reclaimed only once every CPU that was
+-- reading then, and every call that was granted it, has left its section.
+use Rattle.std.specs.Prelude.{◌≡◌, ◌==◌, ◌+◌, ◌*◌, ◌-◌, ◌<◌, ◌≤◌, ℕ, Bool, true, false, List, length, take, Option, Some, None, IsTrue, IfSome, count_by, slice_get, slice_index}
 use Rattle.std.specs.List.{list_any}
-use Rattle.gh_base.specs.declared.cap_word.Look.{Look}
+use Rattle.gh_base.specs.Counters.{HaveLeft}
+use Rattle.gh_base.specs.declared.limits.TheConstants.{CPUS}
 use Rattle.gh_base.specs.declared.mark.End.{End}
 use Rattle.gh_base.specs.declared.mark.End.TheVariants as ends
 use Rattle.gh_model.specs.declared.entry.Entry.{Entry}
 use Rattle.gh_model.specs.declared.entry.Entry.TheVariants.{Acted, Part, Retired, Reclaimed}
+use Rattle.gh_model.specs.declared.rows.CapabilityRow.{CapabilityRow}
+use Rattle.gh_model.specs.declared.rows.ObjectRow.{ObjectRow}
 use Rattle.gh_model.specs.declared.state.State.{State}
-use Rattle.gh_model.specs.declared.word.Word.{Word}
 use Rattle.gh_model.specs.Rows.{object_row}
 use Rattle.gh_model.specs.References.{is_doomed}
-use Rattle.gh_model.specs.Act.{granted}
-use Rattle.gh_model.specs.History.{Event, state_at, is_retired, is_unretired}
-use Rattle.gh_model.specs.Marks.{Made, calls_of, has_looks, is_odd, place_after, place_after_mark, cspace_of, found_words}
-use Rattle.gh_model.specs.Legal.{retirement}
+use Rattle.gh_model.specs.Marks.{Made, Seen, InTurn, has_looks, place, place_after}
+use Rattle.gh_model.specs.History.{Event, state_at, is_retired, is_unretired, counters, reclaims}
 
--- the counters that an entry kept; none for an act or a part
-abbrev pub kept_counters : Entry → Option (List ℕ)
-kept_counters (Acted cpu number) = None
-kept_counters (Part cpu number space slot) = None
-kept_counters (Retired serial seen) = Some seen
-kept_counters (Reclaimed serial seen) = Some seen
+-- the counters of an object's retirement
+abbrev pub retirement : Option ObjectRow → Option (List ℕ)
+retirement None = None
+retirement (Some row) = row.retired
 
--- a call that was granted the object: its last look doesn't count where it was refused
-abbrev pub granted_looks : End → List Look → List Look
-granted_looks ends.Refused looks = take (length looks - 1) looks
-granted_looks _ looks = looks
+-- the objects that a call was granted: those of its looks, but for the last of a call that ends
+-- with a refused look
+abbrev pub granting : End → List Seen → List Seen
+granting ends.Frame seen = seen
+granting ends.Refused seen = take (length seen - 1) seen
+granting ends.Dead seen = seen
+granting (ends.Act at) seen = seen
+granting (ends.Short at held) seen = seen
+granting (ends.Entry number) seen = seen
 
--- the call ended with an entry below n, or with its act's place below n
-abbrev pub EndsBelow : ℕ → End → Type 0
-EndsBelow n ends.Frame = ⊥
-EndsBelow n ends.Refused = ⊥
-EndsBelow n ends.Dead = ⊥
-EndsBelow n (ends.Act at) = at < n
-EndsBelow n (ends.Short at held) = at < n
-EndsBelow n (ends.Entry number) = number < n
+abbrev pub names_object : ℕ → Option CapabilityRow → Bool
+names_object serial None = false
+names_object serial (Some row) = row.serial.0 == serial
 
--- an object goes only without references: retired once, and reclaimed after that
+abbrev pub finds : ℕ → Seen → Bool
+finds serial seen = names_object serial seen.word.row
+
+abbrev pub was_granted : ℕ → Made → Bool
+was_granted serial made = list_any (finds serial) (granting made.mark.end made.seen)
+
+-- just before, the object has no references; it is retired once, and reclaimed when it is retired
 abbrev pub GoesUnreferenced : State → Entry → Type 0
 GoesUnreferenced s (Acted cpu number) = Unit {0}
 GoesUnreferenced s (Part cpu number space slot) = Unit {0}
-GoesUnreferenced s (Retired serial seen) = IsTrue (is_doomed s serial.0) × IsTrue (is_unretired (object_row s serial.0))
-GoesUnreferenced s (Reclaimed serial seen) = IsTrue (is_doomed s serial.0) × IsTrue (is_retired (object_row s serial.0))
+GoesUnreferenced s (Retired serial seen) =
+    IsTrue (is_doomed s serial.0) × IsTrue (is_unretired (object_row s serial.0))
+GoesUnreferenced s (Reclaimed serial seen) =
+    IsTrue (is_doomed s serial.0) × IsTrue (is_retired (object_row s serial.0))
 
--- a counter that was odd at the retirement is greater at the reclaim
-abbrev pub HasLeft : Option (List ℕ) → List ℕ → Type 0
-HasLeft None seen = Unit {0}
-HasLeft (Some before) seen = (cpu : ℕ) → cpu < 9 → IsTrue (is_odd (slice_index before cpu)) → slice_index before cpu < slice_index seen cpu
+-- every CPU that was reading at an object's retirement has left when it is reclaimed
+abbrev pub GoesUnread : State → Entry → Type 0
+GoesUnread s (Acted cpu number) = Unit {0}
+GoesUnread s (Part cpu number space slot) = Unit {0}
+GoesUnread s (Retired serial seen) = Unit {0}
+GoesUnread s (Reclaimed serial seen) =
+    IfSome (retirement (object_row s serial.0)) (λ (before : List ℕ). HaveLeft before seen)
 
-module _ (boot : State) (history : List Event) (made : List Made) where
-  abbrev pub is_granted : ℕ → Made → Bool
-  is_granted serial call =
-      list_any (λ (word : Word). (granted word).0 == serial) (found_words boot history (cspace_of boot call.mark.cpu.0) (granted_looks call.mark.end call.mark.looks))
+-- the CPU's counter that the entry of this number kept, and a call of that CPU
+pub record Fits (entry : Entry) (number counter : ℕ) (front : List Made) (made : Made) : Type 0 where
+  -- a call that was granted the object that the entry reclaims had an earlier section
+  pub granted : (serial : ℕ) → reclaims entry ≡ Some serial → was_granted serial made ≡ true
+      → made.mark.section < counter
+  -- so had a call that ended with its entry, or with a refused act, below this number
+  pub ended : (at : ℕ) → has_looks made ≡ true → place made.mark.end ≡ Some at → at < number
+      → made.mark.section < counter
+  -- and a call behind one that saw this entry has a later section
+  pub later : has_looks made ≡ true → number ≤ place_after front → counter < made.mark.section
 
-  -- every CPU that was reading at the retirement has left, and so has every call that was granted the object
-  abbrev pub GoesUnread : State → Entry → Type 0
-  GoesUnread s (Acted cpu number) = Unit {0}
-  GoesUnread s (Part cpu number space slot) = Unit {0}
-  GoesUnread s (Retired serial seen) = Unit {0}
-  GoesUnread s (Reclaimed serial seen) =
-      HasLeft (retirement (object_row s serial.0)) seen
-      × ((cpu i : ℕ) (call : Made) → slice_get (calls_of cpu made) i ≡ Some call → IsTrue (is_granted serial.0 call) → call.mark.section < slice_index seen cpu)
-
-  -- the counters that the entry at n kept fit the calls that ended before it and those that came after it
-  pub record CountersFit (n : ℕ) (seen : List ℕ) : Type 0 where
-    pub bounded : (cpu : ℕ) → cpu < 9 → slice_index seen cpu ≤ 2 * count_by has_looks (calls_of cpu made)
-    pub ended : (cpu i : ℕ) (call : Made) → slice_get (calls_of cpu made) i ≡ Some call → IsTrue (has_looks call) → EndsBelow (n + 1) call.mark.end → call.mark.section < slice_index seen cpu
-    pub later : (cpu i j : ℕ) (before call : Made) → i < j → slice_get (calls_of cpu made) i ≡ Some before → slice_get (calls_of cpu made) j ≡ Some call → n + 1 ≤ place_after_mark (place_after (take i (calls_of cpu made))) before → IsTrue (has_looks call) → slice_index seen cpu < call.mark.section
-
-  pub record IsGraced : Type 0 where
-    pub unreferenced : (n : ℕ) (event : Event) → slice_get history n ≡ Some event → GoesUnreferenced (state_at boot history n) event.entry
-    pub unread : (n : ℕ) (event : Event) → slice_get history n ≡ Some event → GoesUnread (state_at boot history n) event.entry
-    pub rising : (n m cpu : ℕ) (before after : List ℕ) (first second : Event) → n < m → slice_get history n ≡ Some first → slice_get history m ≡ Some second → kept_counters first.entry ≡ Some before → kept_counters second.entry ≡ Some after → slice_index before cpu ≤ slice_index after cpu
-    pub fits : (n : ℕ) (seen : List ℕ) (event : Event) → slice_get history n ≡ Some event → kept_counters event.entry ≡ Some seen → CountersFit n seen
+module _ (boot : State) (history : List Event) where
+  -- the history and the finished calls of each CPU are graced. An entry at n has the number n + 1
+  pub record IsGraced (calls : ℕ → List Made) : Type 0 where
+    pub unreferenced : (n : ℕ) (event : Event) → slice_get history n ≡ Some event
+        → GoesUnreferenced (state_at boot history n) event.entry
+    pub unread : (n : ℕ) (event : Event) → slice_get history n ≡ Some event
+        → GoesUnread (state_at boot history n) event.entry
+    -- no counter falls from an entry to a later one
+    pub rising : (n m cpu : ℕ) (first second : Event) (before now : List ℕ)
+        → slice_get history n ≡ Some first → slice_get history m ≡ Some second → n < m
+        → counters first.entry ≡ Some before → counters second.entry ≡ Some now
+        → cpu < CPUS → slice_index before cpu ≤ slice_index now cpu
+    -- none is above twice the number of the CPU's calls that have looks
+    pub bounded : (n cpu : ℕ) (event : Event) (seen : List ℕ)
+        → slice_get history n ≡ Some event → counters event.entry ≡ Some seen
+        → cpu < CPUS → slice_index seen cpu ≤ 2 * count_by has_looks (calls cpu)
+    -- and each stands between the sections of the calls before it and of those behind it
+    pub fits : (n cpu : ℕ) (event : Event) (seen : List ℕ)
+        → slice_get history n ≡ Some event → counters event.entry ≡ Some seen
+        → cpu < CPUS → InTurn (Fits event.entry (n + 1) (slice_index seen cpu)) (calls cpu)

@@ -1,50 +1,41 @@
--- A legal history: each reply is that of the look, the frame or the act at its place.
-use Rattle.std.specs.Prelude.{◌≡◌, ◌≢◌, ◌==◌, ◌&&◌, ◌||◌, ◌+◌, ◌-◌, ◌<◌, ◌≤◌, ℕ, Bool, true, false, List, [], ◌∷◌, length, max, Option, Some, None, Result, Ok, Err, IsTrue, IsSome, find, map, filter, count_by, slice_get, slice_index, is_some}
+-- A legal history: each finished call's looks, end and reply are those of the history at their
+-- places, and each entry is that of a call. What is said of one finished call stands as the history
+-- grows; what is said of an entry stands beside it; and apart from both stand the numbering and the
+-- exit calls, which are the programs' side.
+use Rattle.std.specs.Prelude.{◌≡◌, ◌≢◌, ◌==◌, ◌+◌, ◌<◌, ◌≤◌, ℕ, Bool, true, false, List, [], length, max, Option, Some, None, Result, Ok, Err, IsTrue, IsSome, find, map, slice_get, slice_index}
+use Rattle.std.specs.List.{list_any, last_or}
+use Rattle.std.specs.Option.{option_map_or}
 use Rattle.gh_base.specs.Reply.{refusal}
-use Rattle.gh_base.specs.declared.mark.Mark.{Mark}
-use Rattle.gh_base.specs.declared.mark.End.{End}
-use Rattle.gh_base.specs.declared.mark.End.TheVariants as ends
-use Rattle.gh_base.specs.declared.mark.Held.{Held}
-use Rattle.gh_base.specs.declared.mark.Held.TheVariants.{Pins, Reading}
-use Rattle.gh_base.specs.declared.cap_word.Look.{Look}
-use Rattle.gh_base.specs.declared.cap_word.Need.{Need}
 use Rattle.gh_base.specs.declared.call.Call.{Call}
 use Rattle.gh_base.specs.declared.call.Call.TheVariants.{Create, ConfigurePartition, ConfigureQueue, CapsRevoke}
+use Rattle.gh_base.specs.declared.cap_word.Need.{Need}
 use Rattle.gh_base.specs.declared.errno.Errno.{Errno}
 use Rattle.gh_base.specs.declared.errno.Errno.TheVariants.{CapRevoked}
 use Rattle.gh_base.specs.declared.frame.Reply.{Reply}
-use Rattle.gh_base.specs.declared.ids.Serial.{Serial}
-use Rattle.gh_model.specs.declared.rows.ObjectRow.{ObjectRow}
+use Rattle.gh_base.specs.declared.mark.End.{End}
+use Rattle.gh_base.specs.declared.mark.End.TheVariants as ends
+use Rattle.gh_model.specs.declared.entry.Entry.{Entry}
+use Rattle.gh_model.specs.declared.entry.Entry.TheVariants.{Acted, Part, Retired, Reclaimed}
 use Rattle.gh_model.specs.declared.rows.CapabilityRow.{CapabilityRow}
 use Rattle.gh_model.specs.declared.state.State.{State}
 use Rattle.gh_model.specs.declared.word.Word.{Word}
-use Rattle.gh_model.specs.declared.entry.Entry.{Entry}
-use Rattle.gh_model.specs.declared.entry.Entry.TheVariants.{Acted, Part, Retired, Reclaimed}
 use Rattle.gh_model.specs.Rows.{cpu_row, fills}
-use Rattle.gh_model.specs.Word.{look_reply, Shows}
+use Rattle.gh_model.specs.Word.{word_at, Shows}
 use Rattle.gh_model.specs.Registers.{call_of, needs_of}
-use Rattle.gh_model.specs.References.{is_doomed}
-use Rattle.gh_model.specs.Act.{Done, Refused, judge, granted}
-use Rattle.gh_model.specs.History.{Event, state_at, may_part}
+use Rattle.gh_model.specs.Act.{Verdict, Done, Refused, judge, granted}
+use Rattle.gh_model.specs.Marks.{Seen, Made, Outcome, Wants, Fails, Grants, InTurn, outcome, failure, look_of, word_of, words_of, has_looks, place_after, place_after_looks, section_after, cspace_of}
+use Rattle.gh_model.specs.History.{Event, event_of, state_at, may_part, caller, retires, reclaims}
 use Rattle.gh_model.specs.Program.{is_exit}
-use Rattle.gh_model.specs.Marks.{Made, calls_of, InTurn, place_after, place_after_looks, place_after_mark, section_after, cspace_of, found_word, found_words, ends_with, event_of, is_odd}
-use Rattle.std.specs.List.{last_or}
 
--- the object of a look that was granted is retired by an entry behind the look's place
-abbrev pub retires : Serial → Entry → Bool
-retires serial (Acted cpu number) = false
-retires serial (Part cpu number space slot) = false
-retires serial (Retired other seen) = other.0 == serial.0
-retires serial (Reclaimed other seen) = false
+-- what a finished call came to
 
--- the call came to its act
-abbrev pub EndsInAct : End → Type 0
-EndsInAct ends.Frame = ⊥
-EndsInAct ends.Refused = ⊥
-EndsInAct ends.Dead = ⊥
-EndsInAct (ends.Act at) = Unit {0}
-EndsInAct (ends.Short at held) = Unit {0}
-EndsInAct (ends.Entry number) = Unit {0}
+-- what its looks came to
+abbrev pub came_to : Call → Made → Outcome
+came_to call made = outcome (needs_of call) (words_of made)
+
+-- its act in a state
+abbrev pub verdict_in : State → Call → Made → Verdict
+verdict_in s call made = judge s made.mark.cpu.0 call made.frame.bytes (words_of made)
 
 -- want of units at a create or a configure
 abbrev pub is_short : Call → Reply → Bool
@@ -53,182 +44,191 @@ is_short (ConfigurePartition cap quota) reply = slice_index reply.x 0 == 10
 is_short (ConfigureQueue cap depth size) reply = slice_index reply.x 0 == 10
 is_short _ reply = false
 
--- why an object that nothing refers to is still there
-abbrev pub held_serial : Held → ℕ
-held_serial (Pins serial pins) = serial.0
-held_serial (Reading serial cpu counter) = serial.0
+-- its frame was refused: it has no looks, and the reply is that refusal
+pub record IsRefusedFrame (errno : Errno) (made : Made) : Type 0 where
+  pub end : made.mark.end ≡ ends.Frame
+  pub no_looks : made.seen ≡ []
+  pub reply : made.mark.reply ≡ refusal errno
 
-abbrev pub is_held_object : State → ObjectRow → Bool
-is_held_object s row = is_some row.retired || is_doomed s row.serial.0
+-- its last look was refused, and the reply is that refusal
+pub record IsRefusedLook (call : Call) (made : Made) : Type 0 where
+  pub errno : Errno
+  pub failed : came_to call made ≡ Fails errno
+  pub reply : made.mark.reply ≡ refusal errno
 
-abbrev pub held_serials : State → List ℕ
-held_serials s = map (λ (row : ObjectRow). row.serial.0) (filter (is_held_object s) s.objects)
+-- it died: its last look was a grant, and the reply is 51
+pub record IsDead (call : Call) (made : Made) : Type 0 where
+  pub looked : has_looks made ≡ true
+  pub granted : failure (came_to call made) ≡ None
+  pub reply : made.mark.reply ≡ refusal CapRevoked
 
-abbrev pub seen_counter : Option (List ℕ) → ℕ → ℕ
-seen_counter None cpu = 0
-seen_counter (Some seen) cpu = slice_index seen cpu
+-- its act was refused in this state, where no part of a revoke stands open
+pub record IsRefusedIn (s : State) (call : Call) (made : Made) : Type 0 where
+  pub grants : came_to call made ≡ Grants
+  pub judged : verdict_in s call made ≡ Refused made.mark.reply
+  pub is_refusal : slice_index made.mark.reply.x 0 ≢ 0
+  pub no_parts : s.taken ≡ []
 
-abbrev pub retirement : Option ObjectRow → Option (List ℕ)
-retirement None = None
-retirement (Some row) = row.retired
+-- entries
 
-abbrev pub HeldIs : State → Held → Type 0
-HeldIs s (Pins serial pins) = (retirement (find (λ (row : ObjectRow). row.serial.0 == serial.0) s.objects) ≡ None) × (pins ≢ 0)
-HeldIs s (Reading serial cpu counter) =
-    (counter ≡ seen_counter (retirement (find (λ (row : ObjectRow). row.serial.0 == serial.0) s.objects)) cpu.0)
-    × IsTrue (is_odd counter)
-
-abbrev pub reclaims : Serial → Entry → Bool
-reclaims serial (Acted cpu number) = false
-reclaims serial (Part cpu number space slot) = false
-reclaims serial (Retired other seen) = false
-reclaims serial (Reclaimed other seen) = other.0 == serial.0
-
-abbrev pub is_part_of : ℕ → ℕ → Entry → Bool
-is_part_of cpu number (Acted other call) = false
-is_part_of cpu number (Part other call space slot) = (other.0 == cpu) && (call == number)
-is_part_of cpu number (Retired serial seen) = false
-is_part_of cpu number (Reclaimed serial seen) = false
-
-abbrev pub is_act_of : ℕ → ℕ → Entry → Bool
-is_act_of cpu number (Acted other call) = (other.0 == cpu) && (call == number)
-is_act_of cpu number (Part other call space slot) = false
-is_act_of cpu number (Retired serial seen) = false
-is_act_of cpu number (Reclaimed serial seen) = false
-
+-- a call that revokes all capabilities of an object
 abbrev pub is_revoke : Call → Bool
 is_revoke (CapsRevoke cap) = true
 is_revoke _ = false
 
-abbrev pub revokes_all : Result Call Errno → Bool
-revokes_all (Err errno) = false
-revokes_all (Ok call) = is_revoke call
+abbrev pub is_part : Entry → Bool
+is_part (Acted cpu number) = false
+is_part (Part cpu number space slot) = true
+is_part (Retired serial seen) = false
+is_part (Reclaimed serial seen) = false
 
+-- the object of such a call: that of its one look
+abbrev pub revoked_object : Event → ℕ
+revoked_object event = option_map_or (λ (word : Word). (granted word).0) (slice_get event.words 0) 0
+
+-- the capability is of this object
 abbrev pub row_names : ℕ → Option CapabilityRow → Bool
 row_names serial None = false
 row_names serial (Some row) = row.serial.0 == serial
 
-abbrev pub first_word : List Word → ℕ
-first_word [] = 0
-first_word (word ∷ words) = (granted word).0
+-- one slot of such a call: a valid capability of its object without master mark
+pub record IsPart (s : State) (event : Event) (space slot : ℕ) : Type 0 where
+  pub revoke : is_revoke event.call ≡ true
+  pub may_part : may_part (find (fills space slot) s.caps) ≡ true
+  pub names : row_names (revoked_object event) (find (fills space slot) s.caps) ≡ true
 
-abbrev pub ends_in_exit : Option Made → Bool
-ends_in_exit None = false
-ends_in_exit (Some made) = is_exit made.frame
+-- the entry of this number is the end of the call of this number. It is that of no other call: a
+-- call's entry names its CPU and its number, and the calls of a CPU are numbered
+pub record IsEndOf (calls : List Made) (number entry : ℕ) : Type 0 where
+  pub at : ℕ
+  pub made : Made
+  pub is : slice_get calls at ≡ Some made
+  pub numbered : made.mark.number ≡ number
+  pub ends : made.mark.end ≡ ends.Entry entry
+
+-- the programs' side
+
+abbrev pub exits : Made → Bool
+exits made = is_exit made.frame
+
+-- calls count from 1, and none follows an exit call
+pub record IsNumbered (front : List Made) (made : Made) : Type 0 where
+  pub number : made.mark.number ≡ length front + 1
+  pub no_exit : list_any exits front ≡ false
+
+abbrev pub is_exit_call : Option Made → Bool
+is_exit_call None = false
+is_exit_call (Some made) = exits made
 
 module _ (boot : State) (history : List Event) where
-  -- a look at a slot: its place is the greater of the slot's setting and the CPU's last place, and its word is the slot's there
-  pub record LookIs (cspace place slot : ℕ) (look : Look) : Type 0 where
-    pub slot_asked : look.slot ≡ slot
-    pub place_seen : look.place ≡ max (found_word boot history cspace look).set_at place
-    pub within : look.place ≤ length history
-    pub word_found : Shows look.word (found_word boot history cspace look)
+  -- a look of a call behind those before it: at the slot that is wanted next; at the greater of the
+  -- slot's setting and the CPU's last place, which isn't above the history; and its word is the one
+  -- that the slot has there
+  pub record LookIs (cspace last : ℕ) (needs : List (ℕ × Need)) (front : List Seen) (seen : Seen) : Type 0 where
+    pub need : Need
+    pub asked : outcome needs (map word_of front) ≡ Wants seen.look.slot need
+    pub place : seen.look.place ≡ max seen.word.set_at (place_after_looks last front)
+    pub within : seen.look.place ≤ length history
+    pub found : word_at (state_at boot history seen.look.place) cspace seen.look.slot ≡ seen.word
+    pub shown : Shows seen.look.word seen.word
 
-  abbrev pub RetiredAfter : ℕ → Serial → Type 0
-  RetiredAfter place serial = (n : ℕ) × (place ≤ n) × (event : Event) × (slice_get history n ≡ Some event) × (IsTrue (retires serial event.entry))
+  -- no object that a look granted is reclaimed behind the look and up to this place
+  abbrev pub KeepsGrants : ℕ → Made → Type 0
+  KeepsGrants last made =
+      (i n : ℕ) (seen : Seen) (event : Event)
+      → slice_get made.seen i ≡ Some seen → slice_get history n ≡ Some event
+      → seen.look.place ≤ n → n < last
+      → reclaims event.entry ≢ Some (granted seen.word).0
 
-  abbrev pub EndsDead : Mark → ℕ → Serial → List Look → Type 0
-  EndsDead mark place serial looks = (looks ≡ []) × (mark.reply ≡ refusal CapRevoked) × RetiredAfter place serial
-
-  -- after a grant the call died, or its next look follows
-  abbrev pub AfterGrant : End → Mark → ℕ → Serial → List Look → Type 0 → Type 0
-  AfterGrant ends.Frame mark place serial looks Follows = Follows
-  AfterGrant ends.Refused mark place serial looks Follows = Follows
-  AfterGrant ends.Dead mark place serial [] Follows = EndsDead mark place serial []
-  AfterGrant ends.Dead mark place serial (look ∷ looks) Follows = Follows
-  AfterGrant (ends.Act at) mark place serial looks Follows = Follows
-  AfterGrant (ends.Short at held) mark place serial looks Follows = Follows
-  AfterGrant (ends.Entry number) mark place serial looks Follows = Follows
-
-  -- a look answers its refusal, which ends the call, or grants its object
-  abbrev pub LookAnswers : Result Serial Errno → Mark → ℕ → List Look → Type 0 → Type 0
-  LookAnswers (Err errno) mark place looks Follows = (looks ≡ []) × (mark.end ≡ ends.Refused) × (mark.reply ≡ refusal errno)
-  LookAnswers (Ok serial) mark place looks Follows = AfterGrant mark.end mark place serial looks Follows
-
-  -- the looks of a call, one for each need in turn, up to the one that ended it
-  abbrev pub LooksAre : ℕ → ℕ → List (ℕ × Need) → List Look → Mark → Type 0
-  LooksAre cspace place [] [] mark = EndsInAct mark.end
-  LooksAre cspace place [] (look ∷ looks) mark = ⊥
-  LooksAre cspace place (need ∷ needs) [] mark = ⊥
-  LooksAre cspace place (need ∷ needs) (look ∷ looks) mark =
-      LookIs cspace place need.0 look
-      × LookAnswers (look_reply (found_word boot history cspace look) need.1) mark look.place looks (LooksAre cspace look.place needs looks mark)
-
-  -- the act was refused in the state at this place
-  pub record IsRefusedAt (cspace from at : ℕ) (call : Call) (made : Made) : Type 0 where
+  -- the act was refused at this place, which isn't before the CPU's last one
+  pub record IsRefusedAt (last at : ℕ) (call : Call) (made : Made) : Type 0 where
     pub within : at ≤ length history
-    pub not_before : place_after_looks from made.mark.looks ≤ at
-    pub reply : judge (state_at boot history at) made.mark.cpu.0 made.frame call (found_words boot history cspace made.mark.looks) ≡ Refused made.mark.reply
-    pub is_refusal : slice_index made.mark.reply.x 0 ≢ 0
-    pub no_parts : (state_at boot history at).taken ≡ []
+    pub not_before : place_after_looks last made.seen ≤ at
+    pub refused : IsRefusedIn (state_at boot history at) call made
+    pub keeps : KeepsGrants at made
 
-  -- each doomed or retired object is named once, by rising serial, with its cause
-  pub record HeldAre (at : ℕ) (held : List Held) : Type 0 where
-    pub serials : map held_serial held ≡ held_serials (state_at boot history at)
-    pub causes : (i : ℕ) (cause : Held) → slice_get held i ≡ Some cause → HeldIs (state_at boot history at) cause
+  -- the act is the entry of this number, which isn't before the CPU's last place, and its looks saw
+  -- earlier ones
+  pub record IsEntry (last number : ℕ) (call : Call) (made : Made) : Type 0 where
+    pub before : ℕ
+    pub counts : number ≡ before + 1
+    pub event : slice_get history before ≡ Some (event_of number call made)
+    pub not_before : place_after_looks last made.seen ≤ number
+    pub looked : (i : ℕ) (seen : Seen) → slice_get made.seen i ≡ Some seen → seen.look.place ≤ before
+    pub grants : came_to call made ≡ Grants
+    pub judged : verdict_in (state_at boot history before) call made
+        ≡ Done (state_at boot history number) made.mark.reply
+    pub keeps : KeepsGrants number made
 
-  -- the act is the entry of this number
-  pub record IsEntryAt (cspace from number : ℕ) (call : Call) (made : Made) : Type 0 where
-    pub from_one : 1 ≤ number
-    pub after_looks : place_after_looks from made.mark.looks < number
-    pub event : slice_get history (number - 1) ≡ Some (event_of boot history cspace made)
-    pub reply : judge (state_at boot history (number - 1)) made.mark.cpu.0 made.frame call (found_words boot history cspace made.mark.looks) ≡ Done (state_at boot history number) made.mark.reply
+  -- how a call ended whose frame is well formed. Nothing is held yet where units are short: no
+  -- object goes
+  abbrev pub EndIs : ℕ → Call → Made → End → Type 0
+  EndIs last call made ends.Frame = ⊥
+  EndIs last call made ends.Refused = IsRefusedLook call made
+  EndIs last call made ends.Dead = IsDead call made
+  EndIs last call made (ends.Act at) = IsRefusedAt last at call made × (is_short call made.mark.reply ≡ false)
+  EndIs last call made (ends.Short at held) =
+      IsRefusedAt last at call made × (is_short call made.mark.reply ≡ true) × (held ≡ [])
+  EndIs last call made (ends.Entry number) = IsEntry last number call made
 
-  abbrev pub EndIs : ℕ → ℕ → Call → Made → End → Type 0
-  EndIs cspace from call made ends.Frame = Unit {0}
-  EndIs cspace from call made ends.Refused = Unit {0}
-  EndIs cspace from call made ends.Dead = Unit {0}
-  EndIs cspace from call made (ends.Act at) = IsRefusedAt cspace from at call made × (is_short call made.mark.reply ≡ false)
-  EndIs cspace from call made (ends.Short at held) =
-      IsRefusedAt cspace from at call made × (is_short call made.mark.reply ≡ true) × HeldAre at held
-  EndIs cspace from call made (ends.Entry number) = IsEntryAt cspace from number call made
+  -- a frame that is refused ends the call; else its looks follow, and then its end
+  abbrev pub FrameIs : ℕ → ℕ → Made → Result Call Errno → Type 0
+  FrameIs cspace last made (Err errno) = IsRefusedFrame errno made
+  FrameIs cspace last made (Ok call) =
+      InTurn (LookIs cspace last (needs_of call)) made.seen × EndIs last call made made.mark.end
 
-  -- a frame that is refused ends the call; else its looks and its act follow
-  abbrev pub FrameIs : ℕ → ℕ → Result Call Errno → Made → Type 0
-  FrameIs cspace from (Err errno) made = (made.mark.end ≡ ends.Frame) × (made.mark.looks ≡ []) × (made.mark.reply ≡ refusal errno)
-  FrameIs cspace from (Ok call) made =
-      LooksAre cspace from (needs_of call) made.mark.looks made.mark × EndIs cspace from call made made.mark.end
-
-  -- no object granted to the call is reclaimed between its look and the call's end
-  abbrev pub KeepsGrants : ℕ → ℕ → Made → Type 0
-  KeepsGrants cspace from made =
-      (i : ℕ) (look : Look) → slice_get made.mark.looks i ≡ Some look → (n : ℕ) (event : Event) → look.place ≤ n
-      → n < place_after_mark from made → slice_get history n ≡ Some event
-      → reclaims (granted (found_word boot history cspace look)) event.entry ≡ false
-
-  -- a call of a CPU after those before it
+  -- a call of a CPU behind those before it; of these only its last place and its sections count
   pub record CallIs (cpu : ℕ) (front : List Made) (made : Made) : Type 0 where
-    pub number : made.mark.number ≡ length front + 1
+    pub its_cpu : made.mark.cpu.0 ≡ cpu
+    pub its_looks : map look_of made.seen ≡ made.mark.looks
     pub section : made.mark.section ≡ section_after front made
-    pub frame : FrameIs (cspace_of boot cpu) (place_after front) (call_of made.frame) made
-    pub keeps : KeepsGrants (cspace_of boot cpu) (place_after front) made
-    pub first_exit : count_by (λ (earlier : Made). is_exit earlier.frame) front ≡ 0
+    pub frame : FrameIs (cspace_of boot cpu) (place_after front) made (call_of made.frame)
 
-  -- one slot of a revoke of all of an object's capabilities, whose own entry follows behind its other parts
-  pub record PartIs (n cpu number space slot : ℕ) : Type 0 where
-    pub last : ℕ
-    pub later : n < last
-    pub act : Event
-    pub entry : slice_get history last ≡ Some act
-    pub of_call : IsTrue (is_act_of cpu number act.entry)
-    pub revoke : IsTrue (revokes_all (call_of act.frame))
-    pub valid : IsTrue (may_part (find (fills space slot) (state_at boot history n).caps))
-    pub names : IsTrue (row_names (first_word act.words) (find (fills space slot) (state_at boot history n).caps))
-    pub between : (k : ℕ) (event : Event) → n < k → k < last → slice_get history k ≡ Some event → IsTrue (is_part_of cpu number event.entry)
+  -- the object is retired by an entry behind this place
+  pub record IsRetiredBehind (place serial : ℕ) : Type 0 where
+    pub at : ℕ
+    pub event : Event
+    pub is : slice_get history at ≡ Some event
+    pub retires : retires event.entry ≡ Some serial
+    pub behind : place ≤ at
 
-  abbrev pub EntryIs : List Made → ℕ → Entry → Type 0
-  EntryIs made n (Acted cpu number) = count_by (ends_with (n + 1) cpu.0 number) made ≡ 1
-  EntryIs made n (Part cpu number space slot) = PartIs n cpu.0 number space.0 slot
-  EntryIs made n (Retired serial seen) = Unit {0}
-  EntryIs made n (Reclaimed serial seen) = Unit {0}
+  -- behind a part stands another part of the same call, or its act
+  pub record GoesOn (n : ℕ) (event : Event) : Type 0 where
+    pub next : Event
+    pub is : slice_get history (n + 1) ≡ Some next
+    pub caller : caller next.entry ≡ caller event.entry
+    pub call : next.call ≡ event.call
+    pub bytes : next.bytes ≡ event.bytes
+    pub words : next.words ≡ event.words
 
-  -- the history and the finished calls are legal
-  pub record IsLegal (made : List Made) : Type 0 where
-    -- each act's entry is the end of exactly one call, and each part belongs to a revoke
-    pub entries : (n : ℕ) (event : Event) → slice_get history n ≡ Some event → EntryIs made n event.entry
+  -- each act's entry is the end of a call, and each part's slot one of its call
+  abbrev pub EntryIs : (ℕ → List Made) → ℕ → Event → Entry → Type 0
+  EntryIs calls n event (Acted cpu number) = IsEndOf (calls cpu.0) number (n + 1)
+  EntryIs calls n event (Part cpu number space slot) = IsPart (state_at boot history n) event space.0 slot
+  EntryIs calls n event (Retired serial seen) = Unit {0}
+  EntryIs calls n event (Reclaimed serial seen) = Unit {0}
+
+  -- the finished calls of each CPU, and the history
+  pub record Agree (calls : ℕ → List Made) : Type 0 where
     -- each CPU's calls follow one another
-    pub calls : (cpu : ℕ) → InTurn (CallIs cpu) (calls_of cpu made)
-    -- every call is one of a CPU of the boot file
-    pub cpus : (i : ℕ) (call : Made) → slice_get made i ≡ Some call → IsSome (cpu_row boot call.mark.cpu.0)
-    -- every CPU's last call is its exit call
-    pub exits : (cpu : ℕ) → IsSome (cpu_row boot cpu) → IsTrue (ends_in_exit (last_or None (calls_of cpu made)))
+    pub calls_are : (cpu : ℕ) → InTurn (CallIs cpu) (calls cpu)
+    -- each entry is of a call
+    pub entries : (n : ℕ) (event : Event) → slice_get history n ≡ Some event → EntryIs calls n event event.entry
+    pub parts : (n : ℕ) (event : Event) → slice_get history n ≡ Some event → is_part event.entry ≡ true
+        → GoesOn n event
+    -- the object that a dead call's last look granted is retired behind it
+    pub deaths : (cpu i : ℕ) (made : Made) (seen : Seen)
+        → slice_get (calls cpu) i ≡ Some made → made.mark.end ≡ ends.Dead → last_or None made.seen ≡ Some seen
+        → IsRetiredBehind seen.look.place (granted seen.word).0
+
+  -- the programs' side: the calls are numbered, each CPU's last call is its exit call, and no
+  -- others make calls
+  pub record AreWhole (calls : ℕ → List Made) : Type 0 where
+    pub numbered : (cpu : ℕ) → InTurn IsNumbered (calls cpu)
+    pub exits : (cpu : ℕ) → IsSome (cpu_row boot cpu) → IsTrue (is_exit_call (last_or None (calls cpu)))
+    pub cpus : (cpu : ℕ) → cpu_row boot cpu ≡ None → calls cpu ≡ []
+
+  -- the history and the calls are legal
+  pub record IsLegal (calls : ℕ → List Made) : Type 0 where
+    pub agree : Agree calls
+    pub whole : AreWhole calls

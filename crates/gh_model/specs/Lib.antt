@@ -13,6 +13,7 @@ pub mod References
 pub mod Registers
 pub mod Rows
 pub mod Run
+pub mod Small
 pub mod Text
 pub mod Told
 pub mod Units

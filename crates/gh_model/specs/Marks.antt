@@ -1,92 +1,123 @@
--- Finished calls: whose they are, their places and their sections.
-use Rattle.std.specs.Prelude.{◌≡◌, ◌==◌, ◌&&◌, ◌+◌, ◌*◌, ◌-◌, ◌%◌, not, ℕ, Bool, false, List, length, take, Option, Some, None, fold, filter, map, count_by, slice_get, if◌then◌else◌}
-use Rattle.std.specs.Option.{option_map_or}
-use Rattle.gh_base.specs.declared.mark.Mark.{Mark}
+-- Finished calls: what their looks found and came to, their places and their sections.
+use Rattle.std.specs.Prelude.{◌≡◌, ◌+◌, ◌*◌, ◌%◌, ◌==◌, ℕ, Bool, List, [], ◌∷◌, length, take, Option, Some, None, Result, Ok, Err, fold, map, count_by, slice_get, nat_lt, if◌then◌else◌}
+use Rattle.std.specs.Option.{option_map_or, unwrap_or}
+use Rattle.gh_base.specs.declared.cap_word.Look.{Look}
+use Rattle.gh_base.specs.declared.cap_word.Need.{Need}
+use Rattle.gh_base.specs.declared.errno.Errno.{Errno}
+use Rattle.gh_base.specs.declared.frame.Frame.{Frame}
+use Rattle.gh_base.specs.declared.frame.Reply.{Reply}
+use Rattle.gh_base.specs.declared.ids.Serial.{Serial}
 use Rattle.gh_base.specs.declared.mark.End.{End}
 use Rattle.gh_base.specs.declared.mark.End.TheVariants as ends
-use Rattle.gh_base.specs.declared.cap_word.Look.{Look}
-use Rattle.gh_base.specs.declared.frame.Frame.{Frame}
+use Rattle.gh_base.specs.declared.mark.Mark.{Mark}
 use Rattle.gh_model.specs.declared.rows.CpuRow.{CpuRow}
 use Rattle.gh_model.specs.declared.state.State.{State}
 use Rattle.gh_model.specs.declared.word.Word.{Word}
-use Rattle.gh_model.specs.declared.entry.Entry.TheVariants.{Acted}
 use Rattle.gh_model.specs.Rows.{cpu_row}
-use Rattle.gh_model.specs.Word.{word_at}
-use Rattle.gh_model.specs.History.{Event, state_at}
+use Rattle.gh_model.specs.Word.{look_reply}
 
--- a finished call with its frame
+-- a look of a call, and the word that it found
+pub record Seen : Type 0 where
+  pub look : Look
+  pub word : Word
+
+-- a finished call: its mark, its frame, and its looks with the words that they found
 pub record Made : Type 0 where
   pub mark : Mark
   pub frame : Frame
+  pub seen : List Seen
 
-abbrev pub is_of_cpu : ℕ → Made → Bool
-is_of_cpu cpu made = made.mark.cpu.0 == cpu
+abbrev pub look_of : Seen → Look
+look_of seen = seen.look
 
--- a CPU's calls, in its order
-abbrev pub calls_of : ℕ → List Made → List Made
-calls_of cpu made = filter (is_of_cpu cpu) made
+abbrev pub word_of : Seen → Word
+word_of seen = seen.word
 
--- P of each item, and of the items before it
+abbrev pub mark_of : Made → Mark
+mark_of made = made.mark
+
+abbrev pub frame_of : Made → Frame
+frame_of made = made.frame
+
+abbrev pub reply_of : Made → Reply
+reply_of made = made.mark.reply
+
+-- the words that a call's looks found
+abbrev pub words_of : Made → List Word
+words_of made = map word_of made.seen
+
+-- P of each item and those before it
 abbrev pub InTurn : {X : Type 0} → (List X → X → Type 0) → List X → Type 0
 InTurn {X} P items = (i : ℕ) (item : X) → slice_get items i ≡ Some item → P (take i items) item
 
--- a CPU's last place after a call: the place of its last look, of its refused act, or its entry
-abbrev pub look_place : ℕ → Option Look → ℕ
-look_place place None = place
-look_place place (Some look) = look.place
+-- what the looks of a call came to: one more is wanted, at this slot and with this need; the last
+-- was refused; or every need has its grant
+pub data Outcome : Type 0 where
+  Wants : ℕ → Need → Outcome
+  Fails : Errno → Outcome
+  Grants : Outcome
 
-abbrev pub place_after_looks : ℕ → List Look → ℕ
-place_after_looks place looks = look_place place (slice_get looks (length looks - 1))
+-- a look that is refused is the last one, and behind a grant the others go on
+abbrev pub on_grant : Result Serial Errno → Outcome → Outcome
+on_grant (Err errno) others = Fails errno
+on_grant (Ok serial) others = others
 
-abbrev pub place_after_end : ℕ → End → ℕ
-place_after_end place ends.Frame = place
-place_after_end place ends.Refused = place
-place_after_end place ends.Dead = place
-place_after_end place (ends.Act at) = at
-place_after_end place (ends.Short at held) = at
-place_after_end place (ends.Entry number) = number
+-- the looks stand for the needs in order; words beyond the needs are passed over
+abbrev pub outcome : List (ℕ × Need) → List Word → Outcome
+outcome [] words = Grants
+outcome (need ∷ needs) [] = Wants need.0 need.1
+outcome (need ∷ needs) (word ∷ words) = on_grant (look_reply word need.1) (outcome needs words)
 
-abbrev pub place_after_mark : ℕ → Made → ℕ
-place_after_mark place made = place_after_end (place_after_looks place made.mark.looks) made.mark.end
+-- why the last look was refused, if it was
+abbrev pub failure : Outcome → Option Errno
+failure (Wants slot need) = None
+failure (Fails errno) = Some errno
+failure Grants = None
 
+-- places
+
+-- the place that an end gives its CPU: where the act was refused, or its entry's number
+abbrev pub place : End → Option ℕ
+place ends.Frame = None
+place ends.Refused = None
+place ends.Dead = None
+place (ends.Act at) = Some at
+place (ends.Short at held) = Some at
+place (ends.Entry number) = Some number
+
+-- the entry that an end is
+abbrev pub number : End → Option ℕ
+number ends.Frame = None
+number ends.Refused = None
+number ends.Dead = None
+number (ends.Act at) = None
+number (ends.Short at held) = None
+number (ends.Entry entry) = Some entry
+
+-- a CPU's last place after a look is that look's
+abbrev pub after_look : ℕ → Seen → ℕ
+after_look last seen = seen.look.place
+
+abbrev pub place_after_looks : ℕ → List Seen → ℕ
+place_after_looks last seen = fold after_look last seen
+
+-- and after a call that of its end, where it has one; else it is the last look's
+abbrev pub place_after_call : ℕ → Made → ℕ
+place_after_call last made = unwrap_or (place made.mark.end) (place_after_looks last made.seen)
+
+-- a CPU's last place after its calls so far, 0 before the first
 abbrev pub place_after : List Made → ℕ
-place_after calls = fold place_after_mark 0 calls
+place_after calls = fold place_after_call 0 calls
 
--- a call with looks opens a section; the k-th section of a CPU has the counter 2k - 1
+-- sections
+
 abbrev pub has_looks : Made → Bool
-has_looks made = not (length made.mark.looks == 0)
+has_looks made = nat_lt 0 (length made.seen)
 
+-- a call with looks opens a section: the k-th such call of a CPU that with the number 2k - 1
 abbrev pub section_after : List Made → Made → ℕ
 section_after front made = if has_looks made then 2 * count_by has_looks front + 1 else 0
 
 -- the capability space that a CPU looks up in
 abbrev pub cspace_of : State → ℕ → ℕ
 cspace_of boot cpu = option_map_or (λ (row : CpuRow). row.cspace.0) (cpu_row boot cpu) 0
-
--- the word that a look found: that of its slot at its place
-abbrev pub found_word : State → List Event → ℕ → Look → Word
-found_word boot history cspace look = word_at (state_at boot history look.place) cspace look.slot
-
-abbrev pub found_words : State → List Event → ℕ → List Look → List Word
-found_words boot history cspace looks = map (found_word boot history cspace) looks
-
--- the call ends with this entry
-abbrev pub is_entry_end : ℕ → End → Bool
-is_entry_end number ends.Frame = false
-is_entry_end number ends.Refused = false
-is_entry_end number ends.Dead = false
-is_entry_end number (ends.Act at) = false
-is_entry_end number (ends.Short at held) = false
-is_entry_end number (ends.Entry entry) = entry == number
-
-abbrev pub ends_with : ℕ → ℕ → ℕ → Made → Bool
-ends_with number cpu call made =
-    is_entry_end number made.mark.end && (made.mark.cpu.0 == cpu) && (made.mark.number == call)
-
--- the event of a call that ends with an entry
-abbrev pub event_of : State → List Event → ℕ → Made → Event
-event_of boot history cspace made = record { entry = Acted made.mark.cpu made.mark.number; frame = made.frame; words = found_words boot history cspace made.mark.looks }
-
--- an odd counter: the CPU is in a section
-abbrev pub is_odd : ℕ → Bool
-is_odd counter = counter % 2 == 1

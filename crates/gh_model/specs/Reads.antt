@@ -6,7 +6,7 @@ use Rattle.gh_model.specs.declared.rows.CapabilityRow.{CapabilityRow}
 use Rattle.gh_model.specs.declared.state.State.{State}
 use Rattle.gh_model.specs.declared.word.Word.{Word}
 use Rattle.gh_model.specs.Boot.{is_kind, cpu_cspace}
-use Rattle.gh_model.specs.Legal.{retirement}
+use Rattle.gh_model.specs.Graced.{retirement}
 use Rattle.gh_model.specs.References.{is_doomed}
 use Rattle.gh_model.specs.Rows.{object_row, fills}
 use Rattle.gh_model.specs.Units.{used_units, free_units, given_units}

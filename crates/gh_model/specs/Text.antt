@@ -19,6 +19,7 @@ use Rattle.gh_model.specs.declared.state.State.{State}
 use Rattle.gh_model.specs.Units.{used_units, free_units, given_units}
 use Rattle.gh_model.specs.Access.{access_at}
 use Rattle.gh_model.specs.Calls.{cpus_in_order}
+use Rattle.gh_model.specs.Run.{is_mark_of}
 
 -- a space and a number
 abbrev pub spaced : ℕ → List ℕ
@@ -69,9 +70,6 @@ call_head mark = codes "call" ++ (spaced mark.cpu.0 ++ (spaced mark.number ++ sp
 
 abbrev pub call_line : Mark → List ℕ
 call_line mark = call_head mark ++ (flat_map look_words mark.looks ++ (end_words mark.end ++ (reply_words mark.reply ++ codes "\n")))
-
-abbrev pub is_mark_of : ℕ → Mark → Bool
-is_mark_of cpu mark = mark.cpu.0 == cpu
 
 -- the calls of one CPU
 abbrev pub cpu_lines : List Mark → CpuRow → List ℕ

@@ -1,8 +1,9 @@
 -- What a slot holds, and what a look at it answers.
-use Rattle.std.specs.Prelude.{◌≡◌, ◌==◌, ◌&&◌, ◌||◌, ℕ, Bool, true, not, Option, Some, None, Result, Ok, Err, find, bit_and, nat_le, if◌then◌else◌}
+use Rattle.std.specs.Prelude.{◌≡◌, ◌==◌, ◌&&◌, ◌||◌, ◌<◌, ℕ, Bool, true, not, Option, Some, None, Result, Ok, Err, find, bit_and, nat_le, if◌then◌else◌}
 use Rattle.gh_base.specs.CapWord.{filled_bits}
 use Rattle.gh_base.specs.Kind.{kind_number}
 use Rattle.gh_base.specs.declared.cap_word.CapWord.{CapWord}
+use Rattle.gh_base.specs.declared.limits.TheConstants.{OBJECT_INDICES}
 use Rattle.gh_base.specs.declared.cap_word.Need.{Need}
 use Rattle.gh_base.specs.declared.kind.Kind.{Kind}
 use Rattle.gh_base.specs.declared.ids.Serial.{Serial}
@@ -26,7 +27,8 @@ setting s cspace slot = setting_number (find (tells_setting cspace slot) s.set_a
 abbrev pub is_slot : ℕ → Bool
 is_slot slot = nat_le 1 slot && nat_le slot 127
 
--- the slot's capability and the entry that set it; a number that names no slot is an empty word that none set
+-- the slot's capability and the entry that set it; a number that names no slot is an empty word
+-- that none set
 abbrev pub word_at : State → ℕ → ℕ → Word
 word_at s cspace slot =
     if is_slot slot then record { row = find (fills cspace slot) s.caps; set_at = setting s cspace slot }
@@ -41,7 +43,8 @@ kind_fits (Some needed) kind = kind_number needed == kind_number kind
 abbrev pub rights_fit : ℕ → ℕ → Bool
 rights_fit needed rights = bit_and needed rights == needed
 
--- what a filled slot answers: it is revoked, of another kind, lacks a right or the master mark, or grants its object
+-- what a filled slot answers: it is revoked, of another kind, lacks a right or the master mark, or
+-- grants its object
 abbrev pub grant_reply : CapabilityRow → Need → Result Serial Errno
 grant_reply row need =
     if not row.valid then Err CapRevoked
@@ -57,10 +60,17 @@ slot_reply (Some row) need = grant_reply row need
 abbrev pub look_reply : Word → Need → Result Serial Errno
 look_reply word need = slot_reply word.row need
 
--- the 64 bits are those of the word, but for the object's index, which rows don't have
+-- the 64 bits are those of a filled slot with this row and some object index, which rows don't
+-- have. An index is below 1,024
+pub record ShowsFilled (bits : ℕ) (row : CapabilityRow) (set_at : ℕ) : Type 0 where
+  pub object : ℕ
+  pub is_index : object < OBJECT_INDICES
+  pub bits_are : bits ≡ filled_bits row.valid row.kind row.master object row.rights.0 set_at
+
+-- an empty slot's bits are its setting
 abbrev pub ShowsRow : ℕ → Option CapabilityRow → ℕ → Type 0
 ShowsRow bits None set_at = bits ≡ set_at
-ShowsRow bits (Some row) set_at = (object : ℕ) × (bits ≡ filled_bits row.valid row.kind row.master object row.rights.0 set_at)
+ShowsRow bits (Some row) set_at = ShowsFilled bits row set_at
 
 abbrev pub Shows : CapWord → Word → Type 0
 Shows bits word = ShowsRow bits.0 word.row word.set_at

@@ -129,11 +129,19 @@ fn bell_send(state: &mut State, bell: Serial, flags: u64) -> Reply
 }
 
 /// What the call does where nothing stands against it.
-fn effect(alloc: Global, state: &mut State, cpu: CpuNo, call: &Call, grants: &[Serial]) -> Judged
+fn effect(
+    alloc: Global,
+    state: &mut State,
+    cpu: CpuNo,
+    call: &Call,
+    bytes: &[u8],
+    grants: &[Serial],
+) -> Judged
     requires entries { state.old.entries < 4294963200 }
     requires rings { state.old.rings ≤ state.old.entries }
-    ensures { Judges state.old state.new result (effect_of state.old cpu.0 call.now grants.now) }
+    ensures { Judges state.old state.new result (effect_of state.old cpu.0 call.now bytes.now grants.now) }
 {
+    let _ = bytes;
     match *call {
         Call::Identify => {
             count(alloc, state);
@@ -159,17 +167,18 @@ pub(crate) fn act(
     state: &mut State,
     cpu: CpuNo,
     call: &Call,
+    bytes: &[u8],
     grants: &[Serial],
 ) -> Judged
     requires entries { state.old.entries < 4294963200 }
     requires rings { state.old.rings ≤ state.old.entries }
-    ensures { Judges state.old state.new result (act_of state.old cpu.0 call.now grants.now) }
+    ensures { Judges state.old state.new result (act_of state.old cpu.0 call.now bytes.now grants.now) }
 {
     if ends_doomed(state, grants) {
         Judged::Refused(Reply::refusal(Errno::CapRevoked))
     } else if !all_in_use(state, grants) {
         Judged::Refused(Reply::refusal(Errno::ObjState))
     } else {
-        effect(alloc, state, cpu, call, grants)
+        effect(alloc, state, cpu, call, bytes, grants)
     }
 }

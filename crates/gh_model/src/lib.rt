@@ -26,11 +26,11 @@ pub use entry::Entry;
 pub use file_err::FileErr;
 pub use law::run_is_legal;
 pub use plain::{Judged, Plain};
-pub use program::{Line, Program, Step};
+pub use program::{Line, Program, Standing, Step};
 pub use rows::{
     BellRow, Borrower, CapabilityRow, CpuRow, ExtentRow, LinkRow, MappingRow, ObjectRow, Parcel,
     ParcelKind, PartitionRow, QueueRow, SetAtRow, TakenSlot,
 };
-pub use running::{CpuRun, Looked, Running};
+pub use running::{CpuRun, Looked, Running, Seat};
 pub use state::State;
 pub use word::Word;

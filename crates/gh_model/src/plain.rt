@@ -15,7 +15,7 @@ use crate::rows::SetAtRow;
 use crate::state::State;
 use crate::units::{free, given, used};
 use crate::word::Word;
-use gh_base::{Call, CpuNo, NoMemory, Reply, Serial};
+use gh_base::{Call, CpuNo, Frame, NoMemory, Reply, Serial};
 use std::alloc::Global;
 use std::marker::Model;
 
@@ -63,19 +63,29 @@ impl Plain {
         Ok(Plain { state })
     }
 
-    /// The act of a call with these grants: a refusal, or its effect and one entry of the history.
+    /// The act of a call with these grants: a refusal, or its effect and one entry of the history. The
+    /// frame is that of the call, and its bytes are what the call sends.
     pub fn act(
         &mut self,
         alloc: Global,
         cpu: CpuNo,
+        frame: &Frame,
         call: &Call,
         grants: &[Serial],
     ) -> Result<Judged, NoMemory>
         requires { self.old.entries < 4294963200 }
-        ensures judged { IfOk result (λ judged. Judges self.old self.new judged (act_of self.old cpu.0 call.now grants.now)) }
+        ensures judged { IfOk result (λ judged. Judges self.old self.new judged
+            (act_of self.old cpu.0 call.now frame.now.bytes grants.now)) }
         ensures no_memory { OnErr result (self.new ≡ self.old) }
     {
-        Ok(act(alloc, &mut self.state, cpu, call, grants))
+        Ok(act(
+            alloc,
+            &mut self.state,
+            cpu,
+            call,
+            frame.bytes.as_slice(),
+            grants,
+        ))
     }
 
     /// What a slot holds. A number outside 1 to 127 is an empty slot that no entry set.

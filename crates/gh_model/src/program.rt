@@ -27,6 +27,13 @@ pub struct Line {
     pub times: u32,
 }
 
+/// A program and the frame of its next call.
+#[derive(Drop)]
+pub struct Standing<P> {
+    pub program: P,
+    pub frame: Frame,
+}
+
 /// Makes calls one after the other, each by the replies to those before.
 pub trait Program {
     /// What it does next, by the reply to its call. It has none at first and once it was idle.

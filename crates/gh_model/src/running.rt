@@ -2,6 +2,7 @@
 
 use crate::entry::Entry;
 use crate::plain::Plain;
+use crate::program::Standing;
 use crate::word::Word;
 use gh_base::{BoundedSequence, CpuNo, Errno, Look, Mark, Sequence, Serial};
 
@@ -11,10 +12,6 @@ pub struct CpuRun {
     pub cpu: CpuNo,
     /// The capability space that it looks capabilities up in.
     pub cspace: Serial,
-    /// The line of its VM's call file that comes next; past the last one it is the exit call.
-    pub at: usize,
-    /// How often that line was made already.
-    pub tries: u32,
     /// Whether it has made its exit call.
     pub ended: bool,
     /// Its calls so far.
@@ -37,13 +34,21 @@ pub struct Looked {
     pub refused: Option<Errno>,
 }
 
+/// A CPU with its program.
+#[derive(Drop)]
+pub struct Seat<P> {
+    pub cpu: CpuRun,
+    pub standing: Standing<P>,
+}
+
 /// A run between two calls.
 #[derive(Drop)]
-pub struct Running {
+pub struct Running<P> {
     pub plain: Plain,
     /// The history.
     pub entries: Sequence<Entry>,
     /// The finished calls, in the order in which they ended.
     pub marks: Sequence<Mark>,
-    pub cpus: Sequence<CpuRun>,
+    /// The CPUs in rising order.
+    pub seats: Sequence<Seat<P>>,
 }

@@ -1,19 +1,20 @@
 -- What a step makes of its files: the run of the boot file's VMs by whole calls, and its text.
 use Rattle.std.specs.Prelude.{ℕ, List, [], IfOk, Result, Ok, Err}
+use Rattle.gh_callfile.specs.VmProgress.{Progress}
+use Rattle.gh_driver.specs.FileRun.{file_run}
 use Rattle.gh_model.specs.declared.running.Running.{Running}
-use Rattle.gh_model.specs.Calls.{run_of}
-use Rattle.gh_model.specs.Run.{IsRun}
+use Rattle.gh_model.specs.Run.{IsRun, file_frames}
 use Rattle.gh_model.specs.Text.{history_text}
 use Rattle.gunyah.specs.Input.{step_input}
 use Rattle.gunyah.specs.declared.input.StepInput.{StepInput}
 use Rattle.gunyah.specs.declared.read_err.BadFile.{BadFile}
 
 -- the text of a run
-abbrev pub text_of_run : Running → List ℕ
+abbrev pub text_of_run : Running Progress → List ℕ
 text_of_run run = history_text run.entries run.marks run.plain
 
-abbrev pub input_run : StepInput → Running
-input_run input = run_of input.boot input.calls
+abbrev pub input_run : StepInput → Running Progress
+input_run input = file_run input.boot input.calls
 
 abbrev pub text_of_input : StepInput → List ℕ
 text_of_input input = text_of_run (input_run input)
@@ -37,7 +38,8 @@ step_text texts = text_or_nothing (step_output texts)
 
 -- the run of what was read is a run: a legal history, graced, and its calls are those of the VMs' programs
 abbrev pub InputRuns : StepInput → Type 0
-InputRuns input = IsRun input.boot input.calls (input_run input).entries (input_run input).marks (input_run input).plain
+InputRuns input =
+    IsRun input.boot (file_frames input.calls) (input_run input).entries (input_run input).marks (input_run input).plain
 
 abbrev pub StepRuns : List (List ℕ) → Type 0
 StepRuns texts = IfOk (step_input texts) InputRuns

@@ -1,7 +1,8 @@
 -- What is written so far and what the rest writes make the whole.
 use Rattle.std.proofs.Common.{◌≡◌, ◌++◌, drop, string_bytes, filter}
 use Rattle.std.specs.List.{flat_map}
-use Rattle.gh_model.specs.Text.{call_line, is_mark_of}
+use Rattle.gh_model.specs.Run.{is_mark_of}
+use Rattle.gh_model.specs.Text.{call_line}
 use Rattle.gh_driver.proofs.text.put_cpu.Given as goal
 
 abbrev pub invariant-loop-mark : goal.invariant-loop-mark

@@ -1,0 +1,23 @@
+-- The parts of the run that a turn leaves, and the counts of the seat whose turn it is.
+use Rattle.std.proofs.Common.{◌≤◌, ◌<◌, length, arith}
+use Rattle.gh_driver.specs.Pace.{IsPaced}
+use Rattle.gh_driver.proofs.RunLemmas.{turn_left, turn_left_bounded, turn_made, turn_made_bounded, seat_paced}
+use Rattle.gh_driver.proofs.turn.turn.Goals as goal
+
+pub returns-then-seat-clause-run : goal.returns-then-seat-clause-run
+returns-then-seat-clause-run g c =
+    turn_left g.P.Program.answer g.P.Program.after g.P.Program.wants_reply c.args.run.now c.as_mut_slice.result.now c.args.at _ c.as_mut_slice.ensures.value c.requires.within c.if-seat.true
+
+pub returns-then-seat-clause-bounded : goal.returns-then-seat-clause-bounded
+returns-then-seat-clause-bounded g c =
+    turn_left_bounded g.P.Program.answer g.P.Program.after g.P.Program.wants_reply c.args.run.now c.as_mut_slice.result.now c.args.at _ c.as_mut_slice.ensures.value c.requires.within c.requires.bounded
+
+pub returns-clause-run : goal.returns-clause-run
+returns-clause-run g c =
+    turn_made g.P.Program.answer g.P.Program.after g.P.Program.wants_reply c.args.run.now c.as_mut_slice.result.now c.args.at _ c.as_mut_slice.ensures.value c.requires.within c.call_of.new.plain c.call_of.new.entries c.call_of.new.marks c.call_of.new.seat c.if-seat.false
+    c.in_ok-call_of.ensures.state c.in_ok-call_of.ensures.entries c.in_ok-call_of.ensures.marks c.in_ok-call_of.ensures.seat
+
+pub returns-clause-bounded : goal.returns-clause-bounded
+returns-clause-bounded g c =
+    turn_made_bounded g.P.Program.answer g.P.Program.after g.P.Program.wants_reply c.args.run.now c.as_mut_slice.result.now c.args.at _ c.as_mut_slice.ensures.value c.requires.within c.call_of.new.plain c.call_of.new.entries c.call_of.new.marks c.call_of.new.seat c.if-seat.false
+    c.in_ok-call_of.ensures.state c.in_ok-call_of.ensures.entries c.in_ok-call_of.ensures.marks c.in_ok-call_of.ensures.seat c.in_ok-call_of.ensures.ready c.requires.bounded

@@ -1,0 +1,20 @@
+//! What holds of the run of every boot file and its call files.
+
+ghost use Rattle.std.specs.Prelude.{◌≡◌, false};
+ghost use Rattle.gh_driver.specs.FileRun.{file_run};
+ghost use Rattle.gh_model.specs.Boot.{has_manager};
+ghost use Rattle.gh_model.specs.Run.{IsRun, file_frames};
+
+use gh_base::Sequence;
+use gh_model::{Boot, Line};
+
+/// The run of a boot file without a resource manager is a legal history, graced, and each CPU's calls
+/// are those of its VM's call file. The function does nothing; its clause is the law.
+pub fn file_run_is_legal(boot: &Boot, files: &[Sequence<Line>])
+    ensures { has_manager boot.now ≡ false
+        → IsRun boot.now (file_frames files.now) (file_run boot.now files.now).entries
+        (file_run boot.now files.now).marks (file_run boot.now files.now).plain }
+{
+    let _lines = boot.lines();
+    let _ = files;
+}
