@@ -455,7 +455,7 @@ module _
 
   pub given-pages : spread 0 (take from rs ++ record { end = end; holder = h } ∷ drop to rs) ≡ move_pages first (end - first) h (spread 0 rs)
   given-pages =
-      rw (at_first, at_end)
+      rw (at_first, at_end, append_assoc)
       (spread-give rs first (end - first) (record { end = end; holder = h }) rise (rw at_first at begins) (omega arith) (omega arith) within)
 
   pub given-places : from ≤ to

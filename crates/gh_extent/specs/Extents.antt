@@ -203,9 +203,13 @@ row_returned s run (Some row) = moved s run.0.0 run.1 row.parent
 abbrev pub returned : Extents → ℕ → PageNo × ℕ → Extents
 returned s extent run = row_returned s run (row_of s extent)
 
+-- the row is that of another extent
+abbrev pub is_other : ℕ → ExtentRow → Bool
+is_other extent row = not (is_extent extent row)
+
 -- the extents without the row of one
 abbrev pub without_row : Extents → ℕ → Extents
-without_row s extent = record s { rows = filter (λ row. not (is_extent extent row)) s.rows }
+without_row s extent = record s { rows = filter (is_other extent) s.rows }
 
 -- what is so after give back: a run is the parent's, or the row is gone
 abbrev pub after_give_back : Extents → ℕ → Option (PageNo × ℕ) → Extents

@@ -1,8 +1,8 @@
 //! The tree of extents, with the holder of each page.
 
-ghost use Rattle.std.specs.Prelude.{◌≡◌, ◌+◌, ◌<◌, ◌≤◌, IfOk, IfSome, IsSomeAnd, OnErr, OnOk, IsOk, Some, All, find, length, slice_get};
+ghost use Rattle.std.specs.Prelude.{◌≡◌, ◌+◌, ◌<◌, ◌≤◌, IfOk, IfNone, IfSome, IsSomeAnd, OnErr, OnOk, IsOk, Some, All, filter, find, length, slice_get};
 ghost use Rattle.std.specs.Result.{result_err};
-ghost use Rattle.gh_extent.specs.Extents.{AreWithin, CanGiveBack, HasRow, IsNewChild, IsSpanIn, after_give_back, derive_refusal, derived, donate_refusal, donated, first_run, is_related, moved, root_alone, row_derive_refusal, row_of, rows_donate_refusal, span_row, spans_all, with_parcel, with_row, without_row};
+ghost use Rattle.gh_extent.specs.Extents.{AreWithin, CanGiveBack, HasRow, IsNewChild, IsSpanIn, after_give_back, derive_refusal, derived, donate_refusal, donated, first_run, is_other, is_related, moved, root_alone, row_derive_refusal, row_of, rows_donate_refusal, span_row, spans_all, with_parcel, with_row, without_row};
 ghost use Rattle.gh_model.specs.Boot.{access_fits};
 ghost use Rattle.gh_model.specs.Memory.{HoldsRun};
 ghost use Rattle.gh_model.specs.Rows.{is_extent};
@@ -41,6 +41,13 @@ fn row_in(rows: &[ExtentRow], extent: Serial) -> Option<ExtentRow>
     ensures { result ≡ find (is_extent extent.0) rows.now }
 {
     rows.iter().copied().find(|row| row.serial == extent)
+}
+
+/// Takes the row of an extent away.
+fn remove_row(rows: &mut Vec<ExtentRow>, extent: Serial)
+    ensures { rows.new.items ≡ filter (is_other extent.0) rows.old.items }
+{
+    rows.retain(|row| row.serial != extent);
 }
 
 /// Whether the one extent is related to the other so.
@@ -115,13 +122,15 @@ impl Extents {
         if let Some(refusal) = self.derive_refusal(row, offset, count, access) {
             return Ok(Err(refusal));
         }
-        let span = Span {
+        self.push(ExtentRow {
+            serial: child,
+            parent,
             first: PageNo(row.first.0 + offset as u16),
             count: count as u16,
             access,
-        };
-        self.add(child, parent, span)?;
-        self.holders.give(span.first.0, span.count, child);
+            parcel: false,
+        })?;
+        self.give_from(row, offset, count, child);
         Ok(Ok(()))
     }
 
@@ -152,8 +161,7 @@ impl Extents {
         if let Some(refusal) = self.donate_refusal(relation, giver, receiver, offset, count) {
             return Ok(Err(refusal));
         }
-        let first = giver.first.0 + offset as u16;
-        self.holders.give(first, count as u16, to);
+        self.give_from(giver, offset, count, to);
         Ok(Ok(()))
     }
 
@@ -183,15 +191,14 @@ impl Extents {
         ensures err { OnErr result (self.new ≡ self.old) }
     {
         let row = self.row(parent).unwrap();
-        self.rows.push(ExtentRow {
+        self.push(ExtentRow {
             serial,
-            parent: row.serial,
+            parent,
             first: row.first,
             count: row.count,
             access: row.access,
             parcel: true,
-        })?;
-        Ok(())
+        })
     }
 
     /// Moves a run of pages to another extent.
@@ -211,7 +218,7 @@ impl Extents {
         ensures state { self.new ≡ after_give_back self.old extent.0 result }
     {
         let Some((first, count)) = self.holders.first_run(extent) else {
-            self.rows.retain(|row| row.serial != extent);
+            remove_row(&mut self.rows, extent);
             return None;
         };
         let parent = self.row(extent).unwrap().parent;
@@ -234,8 +241,30 @@ impl Extents {
         ensures within { IfSome result
             (λ row. row.first.0 + row.count ≤ length self.now.holders) }
         ensures serial { IfSome result (λ row. row.serial ≡ extent) }
+        ensures pages { length self.now.holders ≤ EXTENT_PAGES }
     {
         row_in(&self.rows, extent)
+    }
+
+    /// Puts a row last.
+    fn push(&mut self, row: ExtentRow) -> Result<(), NoMemory>
+        requires { row.first.0 + row.count ≤ length self.old.holders }
+        ensures ok { OnOk result (self.new ≡ with_row self.old row) }
+        ensures err { OnErr result (self.new ≡ self.old) }
+    {
+        self.rows.push(row)?;
+        Ok(())
+    }
+
+    /// Gives pages from an offset in an extent's span to another extent.
+    fn give_from(&mut self, row: ExtentRow, offset: u64, count: u64, to: Serial)
+        requires { 0 < count → row.first.0 + offset + count ≤ length self.old.holders }
+        ensures { self.new ≡ moved self.old (row.first.0 + offset) count to }
+    {
+        if count > 0 {
+            let first = row.first.0 + offset as u16;
+            self.holders.give(first, count as u16, to);
+        }
     }
 
     /// Why a range of the extent can't be derived.
@@ -246,8 +275,11 @@ impl Extents {
         count: u64,
         access: Access,
     ) -> Option<Errno>
-        requires { parent.first.0 + parent.count ≤ length self.now.holders }
-        ensures { result ≡ row_derive_refusal self.now offset count access.0 (Some parent) }
+        requires span { parent.first.0 + parent.count ≤ length self.now.holders }
+        requires pages { length self.now.holders ≤ EXTENT_PAGES }
+        ensures refusal { result
+            ≡ row_derive_refusal self.now offset count access.0 (Some parent) }
+        ensures within { IfNone result (offset + count ≤ parent.count) }
     {
         if offset as u128 + count as u128 > parent.count as u128 {
             return Some(Errno::ArgSize);
@@ -269,9 +301,12 @@ impl Extents {
         offset: u64,
         count: u64,
     ) -> Option<Errno>
-        requires { to.first.0 + to.count ≤ length self.now.holders }
-        ensures { result
+        requires span { to.first.0 + to.count ≤ length self.now.holders }
+        requires pages { length self.now.holders ≤ EXTENT_PAGES }
+        ensures refusal { result
             ≡ rows_donate_refusal self.now relation offset count (Some from) (Some to) }
+        ensures within { IfNone result (0 < count
+            → from.first.0 + offset + count ≤ length self.now.holders) }
     {
         if !is_related(relation, from, to) {
             return Some(Errno::ArgInval);
