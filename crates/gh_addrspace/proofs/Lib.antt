@@ -1,2 +1,3 @@
 pub mod PageLemmas
 pub mod RowLemmas
+pub mod SpaceLemmas

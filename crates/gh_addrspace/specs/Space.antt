@@ -1,6 +1,6 @@
 -- An address space as callers see it: its mapping rows, in the order in which they were made, and
 -- where each of its pages leads.
-use Rattle.std.specs.Prelude.{◌≡◌, ◌==◌, ◌&&◌, ◌+◌, ◌<◌, ◌≤◌, not, ℕ, Bool, true, false, IsTrue, List, [], ◌∷◌, ◌++◌, length, map, filter, Option, Some, None, IsSomeAnd, nat_le, nat_lt, count_by, All, if◌then◌else◌}
+use Rattle.std.specs.Prelude.{◌≡◌, ◌==◌, ◌&&◌, ◌+◌, ◌<◌, ◌≤◌, not, ℕ, Bool, true, false, IsTrue, List, [], ◌∷◌, ◌++◌, length, map, filter, Option, Some, None, IsSomeAnd, nat_le, nat_lt, All, if◌then◌else◌}
 use Rattle.std.specs.List.{list_any}
 use Rattle.std.specs.Option.{option_map}
 use Rattle.gh_base.specs.declared.access.Access.{Access}
@@ -38,11 +38,16 @@ with_access t = (t.0, record { 0 = t.1 })
 abbrev pub lookup_at : Space → ℕ → Option (PageNo × Access)
 lookup_at s v = option_map with_access (at s.pages v)
 
+-- at most one row passes the test
+abbrev pub at_most_one : (Mapping → Bool) → List Mapping → Bool
+at_most_one test [] = true
+at_most_one test (m ∷ ms) = if test m then not (list_any test ms) else at_most_one test ms
+
 -- how the rows and the pages go together: each row lies in the space, each page is covered by one row
 -- at most, and no page leads anywhere that no row covers
 pub record IsSpace (s : Space) : Type 0 where
   pub bounded : All IsBounded s.mappings
-  pub apart : (v : ℕ) → count_by (covers v) s.mappings ≤ 1
+  pub apart : (v : ℕ) → at_most_one (covers v) s.mappings ≡ true
   pub bare : (v : ℕ) → is_covered s.mappings v ≡ false → at s.pages v ≡ None
   pub size : length s.pages ≡ SPACE_PAGES
 

@@ -1,6 +1,6 @@
 //! An address space.
 
-ghost use Rattle.std.specs.Prelude.{◌≡◌, ℕ, ◌+◌, ◌<◌, ◌≤◌, List, Option, IfOk, IsSomeAnd, OnErr, OnOk, None, Some, filter, not};
+ghost use Rattle.std.specs.Prelude.{◌≡◌, ℕ, ◌+◌, ◌<◌, ◌≤◌, false, List, Option, IfNone, IfOk, IsSomeAnd, OnErr, OnOk, None, Some, length};
 ghost use Rattle.std.specs.List.{list_any};
 ghost use Rattle.std.specs.Result.{result_err};
 ghost use Rattle.gh_base.specs.declared.ids.Serial.{Serial as Number};
@@ -8,7 +8,7 @@ ghost use Rattle.gh_addrspace.specs.Rows.{is_chosen, others, overlaps};
 ghost use Rattle.gh_addrspace.specs.Space.{Follows, IsEmptySpace, LeavesOthers, MapsIn, Shows, lookup_at, row_at, span_map_refusal, unmap_refusal};
 ghost use Rattle.gh_model.specs.Boot.{access_fits, move_pages};
 ghost use Rattle.gh_model.specs.Memory.{HoldsRun};
-ghost use Rattle.gh_pagetable.specs.Map.{tables_of};
+ghost use Rattle.gh_pagetable.specs.Map.{at, tables_of};
 ghost use Rattle.gh_model.specs.declared.memory.Span.{Span as Spanned};
 
 use crate::mapping::{Chosen, Mapping};
@@ -34,6 +34,17 @@ impl Model for Space {
     ghost view = { λ s. record { mappings = s.mappings.items; pages = s.table } };
 
     ghost invariant = { λ s. IsSpace (record { mappings = s.mappings.items; pages = s.table }) };
+}
+
+/// Where a page leads; nowhere past the end of the space.
+fn target(table: &PageTable, v: u16) -> Option<(PageNo, u8)>
+    requires { length table.now ≡ SPACE_PAGES }
+    ensures { result ≡ at table.now v }
+{
+    if v as u64 >= SPACE_PAGES {
+        return None;
+    }
+    table.get(v)
 }
 
 /// Whether a row overlaps one of these.
@@ -176,10 +187,7 @@ impl Space {
     pub fn lookup(&self, v: u16) -> Option<(PageNo, Access)>
         ensures { result ≡ lookup_at self.now v }
     {
-        if v as u64 >= SPACE_PAGES {
-            return None;
-        }
-        let (page, mode) = self.table.get(v)?;
+        let (page, mode) = target(&self.table, v)?;
         Some((page, Access(mode)))
     }
 
@@ -192,7 +200,10 @@ impl Space {
 
     /// Why a row of an extent of this span can't be mapped.
     fn map_refusal(&self, row: MapRow, span: Span) -> Option<Errno>
-        ensures { result ≡ span_map_refusal self.now row (Some span) }
+        ensures refusal { result ≡ span_map_refusal self.now row (Some span) }
+        ensures space { IfNone result (row.base + row.count ≤ SPACE_PAGES) }
+        ensures span { IfNone result (row.offset + row.count ≤ span.count) }
+        ensures free { IfNone result (list_any (overlaps row) self.now.mappings ≡ false) }
     {
         if row.base as u128 + row.count as u128 > SPACE_PAGES as u128 {
             Some(Errno::AddrOvfl)
