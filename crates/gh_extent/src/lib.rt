@@ -7,3 +7,6 @@ mod runs;
 
 pub use extents::{EXTENT_PAGES, Extents};
 
+
+#[cfg(test)]
+mod tests;
