@@ -9,3 +9,6 @@ mod spaces;
 pub use mapping::{Chosen, Mapping};
 pub use space::Space;
 pub use spaces::Spaces;
+
+#[cfg(test)]
+mod tests;
