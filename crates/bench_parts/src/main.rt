@@ -5,6 +5,7 @@
 mod checksum;
 mod cspace;
 mod doorbell;
+mod memory;
 mod msgqueue;
 mod objects;
 mod operations;

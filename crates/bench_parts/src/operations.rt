@@ -1,7 +1,7 @@
 //! The operations by name.
 
 use crate::checksum::checksum;
-use crate::{cspace, doorbell, msgqueue, objects, pagetable, partition, rcu};
+use crate::{cspace, doorbell, memory, msgqueue, objects, pagetable, partition, rcu};
 use gh_base::NoMemory;
 use std::alloc::Global;
 
@@ -39,6 +39,12 @@ pub fn answer(alloc: Global, operation: &str, count: u64) -> Result<Option<u64>,
         "pagetable_clear_most" => pagetable::clear_most(alloc, count)?,
         "pagetable_get" => pagetable::get(alloc, count)?,
         "pagetable_tables" => pagetable::tables(alloc, count)?,
+        "extent_holder" => memory::holder(alloc, count)?,
+        "extent_donate" => memory::donate_both_ways(alloc, count)?,
+        "addrspace_map_one" => memory::map_one(alloc, count)?,
+        "addrspace_map_512" => memory::map_many(alloc, count)?,
+        "addrspace_moved" => memory::moved(alloc, count)?,
+        "addrspace_lookup" => memory::lookup(alloc, count)?,
         _ => return Ok(None),
     };
     Ok(Some(sum))

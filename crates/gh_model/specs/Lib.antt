@@ -6,6 +6,7 @@ pub mod Graced
 pub mod History
 pub mod Legal
 pub mod Marks
+pub mod Memory
 pub mod Program
 pub mod Programs
 pub mod Reads

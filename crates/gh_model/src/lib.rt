@@ -9,6 +9,7 @@ mod entry;
 mod file_err;
 mod law;
 mod lookup;
+mod memory;
 mod plain;
 mod program;
 mod reads;
@@ -25,6 +26,7 @@ pub use boot_line::BootLine;
 pub use entry::Entry;
 pub use file_err::FileErr;
 pub use law::run_is_legal;
+pub use memory::{Holders, MapRow, Span};
 pub use plain::{Judged, Plain};
 pub use program::{Line, Program, Standing, Step};
 pub use rows::{

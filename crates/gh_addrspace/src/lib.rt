@@ -1,0 +1,14 @@
+//! An address space: its mapping rows, and the page table that shows them.
+#![tactic(auto)]
+
+mod mapping;
+mod pages;
+mod space;
+mod spaces;
+
+pub use mapping::{Chosen, Mapping};
+pub use space::Space;
+pub use spaces::Spaces;
+
+#[cfg(test)]
+mod tests;
