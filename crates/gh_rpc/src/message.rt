@@ -1,7 +1,7 @@
 //! The fragments of a message.
 
 ghost use Rattle.std.specs.Prelude.{◌≡◌, ◌≤◌, ◌++◌, map, take, drop, length, IfOk};
-ghost use Rattle.gh_base.specs.RpcMessage.{IsWithinFields, filled, fragments_of, further_fragments};
+ghost use Rattle.gh_base.specs.RpcMessage.{IsMessage, IsWithinFields, filled, fragments_of, further_fragments};
 
 use crate::header::header_bytes;
 use arrayvec::ArrayVec;
@@ -15,7 +15,10 @@ use std::alloc::Global;
 fn payload(message: &Message) -> &[u8]
     ensures value { result.now ≡ message.now.payload }
     ensures room { length result.now ≤ MESSAGE_PAYLOAD_BYTES }
+    ensures fields { IsWithinFields message.now }
 {
+    let _id = message.id;
+    let _sequence = message.sequence;
     let _within = message.payload.len();
     message.payload.as_slice()
 }
@@ -82,7 +85,10 @@ pub fn fragments(
     alloc: Global,
     message: &Message,
 ) -> Result<Vec<ArrayVec<u8, FRAGMENT_BYTES>>, NoMemory>
-    ensures { IfOk result (λ made. map (λ f. f.items) made.items ≡ fragments_of message.now) }
+    ensures made { IfOk result (λ made.
+        map (λ f. f.items) made.items ≡ fragments_of message.now) }
+    ensures message { IfOk result (λ made.
+        IsMessage (map (λ f. f.items) made.items) message.now) }
 {
     let mut left = payload(message);
     let further = further(left);
