@@ -5,6 +5,8 @@ use Rattle.std.specs.List.{list_any}
 use Rattle.gh_driver.specs.Mapped.{maps_page}
 use Rattle.gh_model.specs.declared.rows.MappingRow.{MappingRow}
 use Rattle.gh_model.specs.Boot.{is_row_of}
+use Rattle.gh_base.specs.declared.access.Access.{Access}
+use Rattle.gh_base.specs.declared.ids.PageNo.{PageNo}
 use Rattle.gh_model.specs.declared.access.PageRun.{PageRun}
 use Rattle.gh_model.specs.declared.state.State.{State}
 use Rattle.gh_model.specs.Access.{access_at, covers}
@@ -25,11 +27,11 @@ pages_left page count within =
     rw more (pages_more page (count - (page + 1)))
 
 -- a run has no more pages than came before
-pub longer_or_new : (run : PageRun) (page : ℕ) (found : ℕ × ℕ) (goes : Bool) → run.count ≤ page → (if goes then longer run else new_run page found).count ≤ page + 1
+pub longer_or_new : (run : PageRun) (page : ℕ) (found : PageNo × Access) (goes : Bool) → run.count ≤ page → (if goes then longer run else new_run page found).count ≤ page + 1
 longer_or_new run page found true most = omega arith
 longer_or_new run page found false most = omega arith
 
-pub open_run-count : (run : PageRun) (page : ℕ) (found : Option (ℕ × ℕ)) → run.count ≤ page → (open_run run page found).count ≤ page + 1
+pub open_run-count : (run : PageRun) (page : ℕ) (found : Option (PageNo × Access)) → run.count ≤ page → (open_run run page found).count ≤ page + 1
 open_run-count run page None most = omega arith
 open_run-count run page (Some found) most = longer_or_new run page found (goes_on run found) most
 
@@ -44,7 +46,7 @@ runs_none s space run page count past =
     ap (λ (pages : List ℕ). runs_from s space run pages) (ap (λ (n : ℕ). pages_from page n) none ∙ pages_none page)
 
 -- a page's step: what it ends is written, and the rest has the run that is open behind it
-pub page_step : (s : State) (space : ℕ) (run : PageRun) (page count : ℕ) (found : Option (ℕ × ℕ)) (goes : Bool) (next : PageRun) (old out all : List ℕ) → page < count → found ≡ access_at s space page → goes ≡ goes_on_with run found → next ≡ open_run run page found → out ≡ old ++ ended_run space run goes → old ++ runs_from s space run (pages_from page (count - page)) ≡ all → out ++ runs_from s space next (pages_from (page + 1) (count - (page + 1))) ≡ all
+pub page_step : (s : State) (space : ℕ) (run : PageRun) (page count : ℕ) (found : Option (PageNo × Access)) (goes : Bool) (next : PageRun) (old out all : List ℕ) → page < count → found ≡ access_at s space page → goes ≡ goes_on_with run found → next ≡ open_run run page found → out ≡ old ++ ended_run space run goes → old ++ runs_from s space run (pages_from page (count - page)) ≡ all → out ++ runs_from s space next (pages_from (page + 1) (count - (page + 1))) ≡ all
 page_step s space run page count found goes next old out all within is_found is_goes is_next put rest =
     rw (put, is_next, is_goes, is_found) (append_assoc old _ _ ∙ (ap (λ (text : List ℕ). old ++ text) (sym (runs_left s space run page count within)) ∙ rest))
 

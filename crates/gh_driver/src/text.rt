@@ -5,10 +5,11 @@ ghost use Rattle.std.specs.List.{flat_map, enumerate_from, list_any};
 ghost use Rattle.gh_driver.specs.Mapped.{maps_page};
 ghost use Rattle.gh_model.specs.Access.{access_at};
 ghost use Rattle.gh_model.specs.Boot.{is_row_of};
+ghost use Rattle.gh_model.specs.Small.{IsSmall};
 ghost use Rattle.gh_model.specs.Text.{spaced, spaced_register, byte_text, entry_words, entry_line, look_words, held_words, end_words, bytes_words, reply_words, call_head, call_line, cpu_lines, units_line, run_line, ended_run, open_run, goes_on_with, runs_from, space_lines, entries_part, calls_part, state_part, is_partition_row, is_space_row, no_run, pages_from, history_text as text_of};
 
 use crate::run::{Finished, cpus};
-use gh_base::{CpuNo, End, Held, Kind, Look, Mark, NoMemory, Reply, Serial};
+use gh_base::{Access, CpuNo, End, Held, Kind, Look, Mark, NoMemory, PageNo, Reply, Serial};
 use gh_model::{CpuRow, Entry, MappingRow, ObjectRow, PageRun, State};
 use std::alloc::Global;
 
@@ -260,28 +261,23 @@ fn put_cpus(out: &mut String, marks: &[Mark], rows: &[CpuRow]) -> Result<(), NoM
     Ok(())
 }
 
-fn put_wide(out: &mut String, n: u128) -> Result<(), NoMemory>
-    ensures { OnOk result (string_bytes out.new ≡ string_bytes out.old ++ spaced n) }
-{
-    write!(out, " {n}")?;
-    Ok(())
-}
-
 /// The units of a live partition.
 fn put_units(out: &mut String, state: &State, row: &ObjectRow) -> Result<(), NoMemory>
+    requires { IsSmall state.now }
     ensures { OnOk result (string_bytes out.new ≡ string_bytes out.old ++ units_line state.now row.now) }
 {
     let partition = row.serial;
     out.push_str("units")?;
     put(out, partition.0 as u64)?;
-    put_wide(out, state.used_units(partition))?;
-    put_wide(out, state.free_units(partition))?;
-    put_wide(out, state.given_units(partition))?;
+    put(out, state.used_units(partition) as u64)?;
+    put(out, state.free_units(partition) as u64)?;
+    put(out, state.given_units(partition) as u64)?;
     out.push_str("\n")?;
     Ok(())
 }
 
 fn put_partitions(out: &mut String, state: &State, rows: &[ObjectRow]) -> Result<(), NoMemory>
+    requires { IsSmall state.now }
     ensures { OnOk result (string_bytes out.new ≡ string_bytes out.old ++ flat_map (units_line state.now) (filter is_partition_row rows.now)) }
 {
     for row in rows {
@@ -299,8 +295,8 @@ fn put_run(out: &mut String, space: Serial, run: &PageRun) -> Result<(), NoMemor
     put(out, space.0 as u64)?;
     put(out, run.page as u64)?;
     put(out, run.count as u64)?;
-    put_wide(out, run.machine)?;
-    put(out, run.access as u64)?;
+    put(out, run.machine.0 as u64)?;
+    put(out, run.access.0 as u64)?;
     out.push_str("\n")?;
     Ok(())
 }
@@ -315,21 +311,21 @@ fn put_ended(out: &mut String, space: Serial, run: &PageRun, goes: bool) -> Resu
     put_run(out, space, run)
 }
 
-fn continues(run: &PageRun, found: Option<(u128, u8)>) -> bool
+fn continues(run: &PageRun, found: Option<(PageNo, Access)>) -> bool
     ensures { result ≡ goes_on_with run.now found }
 {
     match found {
         None => false,
         Some((machine, access)) => {
             run.count != 0
-                && Some(machine) == run.machine.checked_add(run.count as u128)
-                && access == run.access
+                && machine.0 as u32 == run.machine.0 as u32 + run.count as u32
+                && access.0 == run.access.0
         }
     }
 }
 
 /// The run that is open after a page.
-fn after_page(run: PageRun, page: u16, found: Option<(u128, u8)>) -> PageRun
+fn after_page(run: PageRun, page: u16, found: Option<(PageNo, Access)>) -> PageRun
     requires { run.count < 65535 }
     ensures { result ≡ open_run run page found }
 {
@@ -379,8 +375,14 @@ fn any_maps(rows: &[MappingRow], page: u16) -> bool
 /// The access at a page of an address space with these rows of its own. Those of other spaces are
 /// walked only where it is mapped.
 #[tactic(auto, using(crate::proofs::TextLemmas::unmapped))]
-fn access(state: &State, own: &[MappingRow], space: Serial, page: u16) -> Option<(u128, u8)>
-    requires { own.now ≡ filter (is_row_of space.0) state.now.mappings }
+fn access(
+    state: &State,
+    own: &[MappingRow],
+    space: Serial,
+    page: u16,
+) -> Option<(PageNo, Access)>
+    requires small { IsSmall state.now }
+    requires own { own.now ≡ filter (is_row_of space.0) state.now.mappings }
     ensures { result ≡ access_at state.now space.0 page }
 {
     if any_maps(own, page) {
@@ -397,7 +399,8 @@ fn put_pages(
     own: &[MappingRow],
     space: Serial,
 ) -> Result<(), NoMemory>
-    requires { own.now ≡ filter (is_row_of space.0) state.now.mappings }
+    requires small { IsSmall state.now }
+    requires own { own.now ≡ filter (is_row_of space.0) state.now.mappings }
     ensures { OnOk result (string_bytes out.new ≡ string_bytes out.old ++ runs_from state.now space.0 no_run (pages_from 0 4096)) }
 {
     let mut run = PageRun::NONE;
@@ -411,6 +414,7 @@ fn put_pages(
 
 /// The longest runs of pages of an address space.
 fn put_space(alloc: Global, out: &mut String, state: &State, space: Serial) -> Result<(), NoMemory>
+    requires { IsSmall state.now }
     ensures { OnOk result (string_bytes out.new ≡ string_bytes out.old ++ runs_from state.now space.0 no_run (pages_from 0 4096)) }
 {
     let own = rows_of(alloc, state.mappings.as_slice(), space)?;
@@ -423,6 +427,7 @@ fn put_spaces(
     state: &State,
     rows: &[ObjectRow],
 ) -> Result<(), NoMemory>
+    requires { IsSmall state.now }
     ensures { OnOk result (string_bytes out.new ≡ string_bytes out.old ++ flat_map (space_lines state.now) (filter is_space_row rows.now)) }
 {
     for row in rows {
@@ -453,6 +458,7 @@ fn put_calls(alloc: Global, out: &mut String, marks: &[Mark], state: &State) -> 
 }
 
 fn put_state(alloc: Global, out: &mut String, state: &State) -> Result<(), NoMemory>
+    requires { IsSmall state.now }
     ensures { OnOk result (string_bytes out.new ≡ string_bytes out.old ++ state_part state.now) }
 {
     out.push_str("state\n")?;

@@ -1,5 +1,5 @@
 -- What an act keeps, and what a refused act answers.
-use Rattle.std.proofs.Common.{◌≡◌, ◌≢◌, ◌==◌, ◌+◌, ℕ, Bool, true, false, List, [], Option, Some, None, refl, subst, sym, ap, ◌∙◌, map, slice_get, slice_index, not, if◌then◌else◌}
+use Rattle.std.proofs.Common.{◌<◌, ◌≤◌, arith, length, ◌≡◌, ◌≢◌, ◌==◌, ◌+◌, ℕ, Bool, true, false, List, [], Option, Some, None, refl, subst, sym, ap, ◌∙◌, map, slice_get, slice_index, not, if◌then◌else◌}
 use Rattle.std.specs.List.{position_or_len}
 use Rattle.std.proofs.lemmas.Option.{get_or_from_slice_get}
 use Rattle.std.proofs.Math.Seq.{map-set_same}
@@ -9,10 +9,16 @@ use Rattle.gh_base.specs.declared.call.Call.TheVariants.{Identify, Exit, BellSen
 use Rattle.gh_base.specs.declared.errno.Errno.TheVariants.{Unimplemented, CapRevoked, ObjState}
 use Rattle.gh_base.specs.declared.frame.Reply.{Reply}
 use Rattle.gh_base.specs.declared.ids.Serial.{Serial}
+use Rattle.gh_model.specs.declared.plain.Judged.{Judged}
+use Rattle.gh_model.specs.declared.plain.Judged.TheVariants as says
 use Rattle.gh_model.specs.declared.rows.CpuRow.{CpuRow}
+use Rattle.gh_model.specs.declared.rows.ObjectRow.{ObjectRow}
+use Rattle.gh_model.specs.declared.rows.PartitionRow.{PartitionRow}
+use Rattle.gh_model.specs.Small.{IsKept}
+use Rattle.gh_model.specs.Units.{used_by, given_by}
 use Rattle.gh_model.specs.declared.state.State.{State}
 use Rattle.gh_model.specs.Rows.{is_cpu, put_row}
-use Rattle.gh_model.specs.Act.{Verdict, Done, Refused, act, effect, counted, any_doomed, all_active, with_bell_flags, with_exit, first_grant, as_exited}
+use Rattle.gh_model.specs.Act.{Judges, Verdict, Done, Refused, act, effect, counted, any_doomed, all_active, with_bell_flags, with_exit, first_grant, as_exited}
 use Rattle.gh_model.specs.Legal.{is_short}
 
 abbrev pub row_number : CpuRow → ℕ
@@ -31,17 +37,25 @@ pub record Keeps (s new : State) : Type 0 where
   pub caps : new.caps ≡ s.caps
   pub set_at : new.set_at ≡ s.set_at
   pub cpus : map row_number new.cpus ≡ map row_number s.cpus
+  pub objects : new.objects ≡ s.objects
+  pub partitions : new.partitions ≡ s.partitions
+  pub holders : new.holders ≡ s.holders
+  pub rings : new.rings ≤ s.rings + 1
+
+one_ring : (manager : Bool) → (if manager then 0 else 1) ≤ 1
+one_ring true = omega arith
+one_ring false = omega arith
 
 pub effect_keeps : (s : State) (cpu : ℕ) (call : Call) (bytes : List ℕ) (grants : List Serial) (new : State) (reply : Reply) → effect s cpu call bytes grants ≡ Done new reply → Keeps s new
 effect_keeps s cpu Identify bytes grants new reply is =
     let same : counted s ≡ new = cc in
-    subst (λ (t : State). Keeps s t) same (record { entries = refl; taken = refl; caps = refl; set_at = refl; cpus = refl })
+    subst (λ (t : State). Keeps s t) same (record { entries = refl; taken = refl; caps = refl; set_at = refl; cpus = refl; objects = refl; partitions = refl; holders = refl; rings = omega arith })
 effect_keeps s cpu (BellSend bell flags) bytes grants new reply is =
     let same : counted (with_bell_flags s (first_grant grants) flags) ≡ new = cc in
-    subst (λ (t : State). Keeps s t) same (record { entries = refl; taken = refl; caps = refl; set_at = refl; cpus = refl })
+    subst (λ (t : State). Keeps s t) same (record { entries = refl; taken = refl; caps = refl; set_at = refl; cpus = refl; objects = refl; partitions = refl; holders = refl; rings = omega arith })
 effect_keeps s cpu Exit bytes grants new reply is =
     let same : counted (with_exit s cpu) ≡ new = cc in
-    subst (λ (t : State). Keeps s t) same (record { entries = refl; taken = refl; caps = refl; set_at = refl; cpus = put_keeps row_number as_exited s.cpus (position_or_len (is_cpu cpu) s.cpus) (slice_get s.cpus (position_or_len (is_cpu cpu) s.cpus)) (λ row. refl) refl })
+    subst (λ (t : State). Keeps s t) same (record { entries = refl; taken = refl; caps = refl; set_at = refl; cpus = put_keeps row_number as_exited s.cpus (position_or_len (is_cpu cpu) s.cpus) (slice_get s.cpus (position_or_len (is_cpu cpu) s.cpus)) (λ row. refl) refl; objects = refl; partitions = refl; holders = refl; rings = (let one : (if cpu == 0 then 0 else 1) ≤ 1 = one_ring (cpu == 0) in omega arith) })
 effect_keeps s cpu _ bytes grants new reply is = absurd (let never : ⊥ = cc in never)
 
 -- the effect comes to what two refusals before it don't forestall
@@ -94,3 +108,22 @@ refused_by call false false others reply other is =
 pub act_refuses : (s : State) (cpu : ℕ) (call : Call) (bytes : List ℕ) (grants : List Serial) (reply : Reply) → act s cpu call bytes grants ≡ Refused reply → IsRefusal call reply
 act_refuses s cpu call bytes grants reply is =
     refused_by call (any_doomed s grants) (all_active s grants) (effect s cpu call bytes grants) reply (effect_refuses s cpu call bytes grants reply) is
+
+-- an act keeps the sums of units and the pages, and rings at most once
+kept_by : (s new : State) → Keeps s new → IsKept s → IsKept new
+kept_by s new keeps kept =
+    let rings : s.rings ≤ s.entries = kept.rings in
+    let more : new.rings ≤ s.rings + 1 = keeps.rings in
+    let entries : new.entries ≡ s.entries + 1 = keeps.entries in
+    record {
+      small = record {
+        used = λ p. subst (λ (rows : List ObjectRow). used_by rows p < 65536) (sym keeps.objects) (kept.small.used p);
+        given = λ p. subst (λ (rows : List PartitionRow). given_by rows p < 65536) (sym keeps.partitions) (kept.small.given p);
+        pages = subst (λ (pages : List Serial). length pages < 65536) (sym keeps.holders) kept.small.pages;
+      };
+      rings = omega arith;
+    }
+
+pub judged_kept : (s new : State) (judged : Judged) (cpu : ℕ) (call : Call) (bytes : List ℕ) (grants : List Serial) → Judges s new judged (act s cpu call bytes grants) → IsKept s → IsKept new
+judged_kept s new (says.Done reply) cpu call bytes grants is kept = kept_by s new (act_keeps s cpu call bytes grants new reply is) kept
+judged_kept s new (says.Refused reply) cpu call bytes grants is kept = subst (λ (t : State). IsKept t) (sym is.1) kept

@@ -16,9 +16,9 @@ use Rattle.gh_model.specs.declared.rows.ObjectRow.{ObjectRow}
 use Rattle.gh_model.specs.declared.rows.PartitionRow.{PartitionRow}
 use Rattle.gh_model.specs.declared.state.State.{State}
 use Rattle.gh_model.specs.Boot.{after_line, boot_fits, boot_state, boot_object, empty_state, first_page, has_units, kind_count, line_fits, lines_fit, is_complete, move_pages, queue_cost, serial_of, with_object}
-use Rattle.gh_model.specs.Small.{IsSmall}
+use Rattle.gh_model.specs.Small.{IsKept, IsSmall}
 use Rattle.gh_model.specs.Units.{used_by, given_by, lives_in, is_given_by, object_cost, partition_quota}
-use Rattle.gh_model.proofs.BootLemmas.{extent_span_fits}
+use Rattle.gh_model.proofs.BootLemmas.{boot_rings, extent_span_fits}
 use Rattle.gh_model.proofs.RunLists.{count_snoc}
 use Rattle.gh_model.proofs.Tests.{and-first, and-second, at_most}
 
@@ -165,3 +165,9 @@ boot_small (Pages count ∷ lines) fit =
     let both = and-first _ (is_complete (fold after_line (after_line empty_state (Pages count)) lines)) fit in
     few_small (boot_state (Pages count ∷ lines)) (lines_few (after_line empty_state (Pages count)) lines (and-second _ (lines_fit (after_line empty_state (Pages count)) lines) both) (pages_few count (at_most count 1024 (and-second _ _ (and-first _ _ both)))))
 boot_small (_ ∷ lines) fit = absurd (let never : ⊥ = cc in never)
+
+pub boot_kept : (s : State) (lines : List BootLine) → s ≡ boot_state lines → IsTrue (boot_fits lines) → IsKept s
+boot_kept s lines is fit = record {
+  small = subst (λ (t : State). IsSmall t) (sym is) (boot_small lines fit);
+  rings = boot_rings s lines is;
+}

@@ -1,5 +1,7 @@
 -- Which machine page stands at a page of an address space, and what may be done with it.
 use Rattle.std.specs.Prelude.{◌==◌, ◌&&◌, ◌+◌, ◌-◌, ℕ, Bool, false, Option, Some, None, find, slice_get, nat_le, nat_lt, if◌then◌else◌}
+use Rattle.gh_base.specs.declared.access.Access.{Access}
+use Rattle.gh_base.specs.declared.ids.PageNo.{PageNo}
 use Rattle.gh_base.specs.declared.ids.Serial.{Serial}
 use Rattle.gh_model.specs.declared.rows.ExtentRow.{ExtentRow}
 use Rattle.gh_model.specs.declared.rows.MappingRow.{MappingRow}
@@ -24,16 +26,17 @@ named_page extent row page = extent.first.0 + row.offset + page - row.base
 
 -- the page with the row's access, where the row's extent is now the holder of the page that the row
 -- names
-abbrev pub row_access : State → ℕ → MappingRow → Option ExtentRow → Option (ℕ × ℕ)
+abbrev pub row_access : State → ℕ → MappingRow → Option ExtentRow → Option (PageNo × Access)
 row_access s page row None = None
 row_access s page row (Some extent) =
-    if holds s row.extent.0 (named_page extent row page) then Some (named_page extent row page, row.access.0) else None
+    if holds s row.extent.0 (named_page extent row page)
+    then Some (record { 0 = named_page extent row page }, row.access) else None
 
-abbrev pub covered_access : State → ℕ → Option MappingRow → Option (ℕ × ℕ)
+abbrev pub covered_access : State → ℕ → Option MappingRow → Option (PageNo × Access)
 covered_access s page None = None
 covered_access s page (Some row) = row_access s page row (find (is_extent row.extent.0) s.extents)
 
 -- the machine page at a page of an address space and its access; none where no row covers it or the
 -- extent doesn't hold it
-abbrev pub access_at : State → ℕ → ℕ → Option (ℕ × ℕ)
+abbrev pub access_at : State → ℕ → ℕ → Option (PageNo × Access)
 access_at s space page = covered_access s page (find (covers space page) s.mappings)

@@ -3,7 +3,9 @@ use Rattle.std.specs.Prelude.{◌==◌, ◌&&◌, ◌||◌, ◌+◌, ◌/◌, �
 use Rattle.std.specs.List.{flat_map, enumerate_from}
 use Rattle.std.specs.Fmt.{decimal, digits, digit_glyph}
 use Rattle.gh_base.specs.Kind.{kind_number}
+use Rattle.gh_base.specs.declared.access.Access.{Access}
 use Rattle.gh_base.specs.declared.cap_word.Look.{Look}
+use Rattle.gh_base.specs.declared.ids.PageNo.{PageNo}
 use Rattle.gh_base.specs.declared.frame.Reply.{Reply}
 use Rattle.gh_base.specs.declared.mark.Mark.{Mark}
 use Rattle.gh_base.specs.declared.mark.End.{End}
@@ -87,24 +89,25 @@ units_line s row = codes "units" ++ (spaced row.serial.0 ++ (spaced (used_units 
 
 -- a run of pages of an address space
 abbrev pub run_line : ℕ → PageRun → List ℕ
-run_line space run = codes "access" ++ (spaced space ++ (spaced run.page ++ (spaced run.count ++ (spaced run.machine ++ (spaced run.access ++ codes "\n")))))
+run_line space run = codes "access" ++ (spaced space ++ (spaced run.page ++ (spaced run.count ++ (spaced run.machine.0 ++ (spaced run.access.0 ++ codes "\n")))))
 
 -- a run with no page yet
 abbrev pub no_run : PageRun
-no_run = record { page = 0; count = 0; machine = 0; access = 0 }
+no_run = record { page = 0; count = 0; machine = record { 0 = 0 }; access = record { 0 = 0 } }
 
 -- the run goes on with this machine page and access
-abbrev pub goes_on : PageRun → ℕ × ℕ → Bool
-goes_on run found = not (run.count == 0) && (found.0 == run.machine + run.count) && (found.1 == run.access)
+abbrev pub goes_on : PageRun → PageNo × Access → Bool
+goes_on run found =
+    not (run.count == 0) && (found.0.0 == run.machine.0 + run.count) && (found.1.0 == run.access.0)
 
 abbrev pub longer : PageRun → PageRun
 longer run = record run { count = run.count + 1 }
 
-abbrev pub new_run : ℕ → ℕ × ℕ → PageRun
+abbrev pub new_run : ℕ → PageNo × Access → PageRun
 new_run page found = record { page = page; count = 1; machine = found.0; access = found.1 }
 
 -- the run that is open after a page
-abbrev pub open_run : PageRun → ℕ → Option (ℕ × ℕ) → PageRun
+abbrev pub open_run : PageRun → ℕ → Option (PageNo × Access) → PageRun
 open_run run page None = no_run
 open_run run page (Some found) = if goes_on run found then longer run else new_run page found
 
@@ -112,7 +115,7 @@ open_run run page (Some found) = if goes_on run found then longer run else new_r
 abbrev pub ended_run : ℕ → PageRun → Bool → List ℕ
 ended_run space run goes = if goes || (run.count == 0) then [] else run_line space run
 
-abbrev pub goes_on_with : PageRun → Option (ℕ × ℕ) → Bool
+abbrev pub goes_on_with : PageRun → Option (PageNo × Access) → Bool
 goes_on_with run None = false
 goes_on_with run (Some found) = goes_on run found
 

@@ -1,12 +1,13 @@
 //! Which machine page stands at a page of an address space.
 
-ghost use Rattle.std.specs.Prelude.{◌≡◌, ◌<◌, ◌≤◌, ◌+◌, ◌^◌, Option, find, slice_get, nat_le, nat_lt, ◌&&◌};
+ghost use Rattle.std.specs.Prelude.{◌≡◌, ◌<◌, ◌≤◌, ◌+◌, ◌^◌, Option, OnSome, length, find, slice_get, nat_le, nat_lt, ◌&&◌};
+ghost use Rattle.std.specs.Bool.{OnTrue};
 ghost use Rattle.gh_model.specs.Access.{access_at, covers, covered_access, row_access, is_holder, named_page};
 
 use crate::lookup::extent_row;
 use crate::rows::{ExtentRow, MappingRow};
 use crate::state::State;
-use gh_base::Serial;
+use gh_base::{Access, PageNo, Serial};
 
 /// Pages of an address space whose machine pages are consecutive and whose access is the same.
 #[derive(Clone, Copy, Debug)]
@@ -15,8 +16,8 @@ pub struct PageRun {
     /// 0 where there is no run yet.
     pub count: u16,
     /// The machine page at `page`.
-    pub machine: u128,
-    pub access: u8,
+    pub machine: PageNo,
+    pub access: Access,
 }
 
 impl PageRun {
@@ -24,8 +25,8 @@ impl PageRun {
     pub const NONE: PageRun = PageRun {
         page: 0,
         count: 0,
-        machine: 0,
-        access: 0,
+        machine: PageNo(0),
+        access: Access(0),
     };
 }
 
@@ -45,7 +46,8 @@ fn covering(rows: &[MappingRow], space: Serial, page: u16) -> Option<MappingRow>
 }
 
 fn holder_at(holders: &[Serial], page: u128) -> Option<Serial>
-    ensures { result ≡ slice_get holders.now page }
+    ensures within { OnSome result (page < length holders.now) }
+    ensures holder { result ≡ slice_get holders.now page }
 {
     if page < holders.len() as u128 {
         holders.get(page as usize).copied()
@@ -55,7 +57,8 @@ fn holder_at(holders: &[Serial], page: u128) -> Option<Serial>
 }
 
 fn holds(holders: &[Serial], extent: Serial, page: u128) -> bool
-    ensures { result ≡ is_holder extent.0 (slice_get holders.now page) }
+    ensures within { OnTrue result (page < length holders.now) }
+    ensures holds { result ≡ is_holder extent.0 (slice_get holders.now page) }
 {
     match holder_at(holders, page) {
         None => false,
@@ -75,19 +78,25 @@ fn of_row(
     page: u16,
     row: MappingRow,
     extent: Option<ExtentRow>,
-) -> Option<(u128, u8)>
+) -> Option<(PageNo, Access)>
+    requires { length state.now.holders < 65536 }
     ensures { result ≡ row_access state.now page row extent }
 {
     let extent = extent?;
     let machine = named(extent, row, page);
     if holds(state.holders.as_slice(), row.extent, machine) {
-        Some((machine, row.access.0))
+        Some((PageNo(machine as u16), row.access))
     } else {
         None
     }
 }
 
-fn of_covering(state: &State, page: u16, row: Option<MappingRow>) -> Option<(u128, u8)>
+fn of_covering(
+    state: &State,
+    page: u16,
+    row: Option<MappingRow>,
+) -> Option<(PageNo, Access)>
+    requires { length state.now.holders < 65536 }
     ensures { result ≡ covered_access state.now page row }
 {
     let row = row?;
@@ -100,7 +109,8 @@ fn of_covering(state: &State, page: u16, row: Option<MappingRow>) -> Option<(u12
 }
 
 /// The machine page and the access at a page of an address space.
-pub(crate) fn access(state: &State, space: Serial, page: u16) -> Option<(u128, u8)>
+pub(crate) fn access(state: &State, space: Serial, page: u16) -> Option<(PageNo, Access)>
+    requires { length state.now.holders < 65536 }
     ensures { result ≡ access_at state.now space.0 page }
 {
     of_covering(

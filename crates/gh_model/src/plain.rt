@@ -4,6 +4,7 @@ ghost use Rattle.std.specs.Prelude.{◌≡◌, ◌<◌, IfOk, OnErr};
 ghost use Rattle.gh_model.specs.Act.{Judges, act as act_of};
 ghost use Rattle.gh_model.specs.Access.{access_at};
 ghost use Rattle.gh_model.specs.Boot.{boot_state};
+ghost use Rattle.gh_model.specs.Small.{IsSmall};
 ghost use Rattle.gh_model.specs.Units.{used_units, free_units, given_units};
 ghost use Rattle.gh_model.specs.Word.{word_at, setting_number};
 
@@ -15,7 +16,7 @@ use crate::rows::SetAtRow;
 use crate::state::State;
 use crate::units::{free, given, used};
 use crate::word::Word;
-use gh_base::{Call, CpuNo, Frame, NoMemory, Reply, Serial};
+use gh_base::{Access, Call, CpuNo, Frame, NoMemory, PageNo, Reply, Serial};
 use std::alloc::Global;
 use std::marker::Model;
 
@@ -35,14 +36,14 @@ pub struct Plain {
 }
 
 impl Model for Plain {
-    ghost use Rattle.std.specs.Prelude.{◌≤◌};
+    ghost use Rattle.gh_model.specs.Small.{IsKept};
     ghost use Rattle.gh_model.specs.declared.state.State.{State};
 
     ghost Value = { State };
 
     ghost view = { λ plain. plain.state };
 
-    ghost invariant = { λ plain. plain.state.rings ≤ plain.state.entries };
+    ghost invariant = { λ plain. IsKept plain.state };
 }
 
 fn setting_of(row: Option<SetAtRow>) -> u32
@@ -59,6 +60,7 @@ impl Plain {
     pub fn boot(alloc: Global, boot: &Boot) -> Result<Plain, NoMemory>
         ensures { IfOk result (λ plain. plain ≡ boot_state boot.now) }
     {
+        let _lines = boot.lines();
         let state = booted(alloc, boot)?;
         Ok(Plain { state })
     }
@@ -114,7 +116,8 @@ impl Plain {
 
     /// The state as rows.
     pub fn state(&self) -> &State
-        ensures { result.now ≡ self.now }
+        ensures state { result.now ≡ self.now }
+        ensures small { IsSmall self.now }
     {
         &self.state
     }
@@ -122,14 +125,15 @@ impl Plain {
 
 impl State {
     /// The costs in units of the objects that live in a partition, added up.
-    pub fn used_units(&self, partition: Serial) -> u128
+    pub fn used_units(&self, partition: Serial) -> u16
+        requires { IsSmall self.now }
         ensures { result ≡ used_units self.now partition.0 }
     {
-        used(self.objects.as_slice(), partition)
+        used(self.objects.as_slice(), partition) as u16
     }
 
     /// The units that a partition has left.
-    pub fn free_units(&self, partition: Serial) -> u128
+    pub fn free_units(&self, partition: Serial) -> u16
         ensures { result ≡ free_units self.now partition.0 }
     {
         free(
@@ -140,15 +144,17 @@ impl State {
     }
 
     /// The units that a partition gave to those that calls made from it.
-    pub fn given_units(&self, partition: Serial) -> u128
+    pub fn given_units(&self, partition: Serial) -> u16
+        requires { IsSmall self.now }
         ensures { result ≡ given_units self.now partition.0 }
     {
-        given(self.partitions.as_slice(), partition)
+        given(self.partitions.as_slice(), partition) as u16
     }
 
-    /// The machine page and the access number at a page of an address space; none where no mapping
+    /// The machine page and the access at a page of an address space; none where no mapping
     /// row covers it, or the row's extent doesn't hold the page now.
-    pub fn access(&self, space: Serial, page: u16) -> Option<(u128, u8)>
+    pub fn access(&self, space: Serial, page: u16) -> Option<(PageNo, Access)>
+        requires { IsSmall self.now }
         ensures { result ≡ access_at self.now space.0 page }
     {
         access(self, space, page)

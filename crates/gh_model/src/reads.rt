@@ -13,7 +13,7 @@ use crate::references::doomed;
 use crate::rows::{CapabilityRow, ObjectRow};
 use crate::state::State;
 use crate::word::Word;
-use gh_base::{CpuNo, Errno, Kind, Need, Serial};
+use gh_base::{Access, CpuNo, Errno, Kind, Need, PageNo, Serial};
 
 fn is_of_kind(row: Option<ObjectRow>, kind: Kind) -> bool
     ensures { result ≡ is_of_kind kind row }
@@ -52,7 +52,7 @@ impl Plain {
     }
 
     /// The used, free and given units of a live partition; none for any other serial.
-    pub fn units(&self, serial: Serial) -> Option<(u128, u128, u128)>
+    pub fn units(&self, serial: Serial) -> Option<(u16, u16, u16)>
         ensures { result ≡ partition_units self.now serial.0 }
     {
         let state = self.state();
@@ -79,8 +79,8 @@ impl Plain {
         )
     }
 
-    /// The machine page and the access number at a page of an address space, where it has any.
-    pub fn access(&self, space: Serial, page: u16) -> Option<(u128, u8)>
+    /// The machine page and the access at a page of an address space, where it has any.
+    pub fn access(&self, space: Serial, page: u16) -> Option<(PageNo, Access)>
         ensures { result ≡ access_at self.now space.0 page }
     {
         self.state().access(space, page)

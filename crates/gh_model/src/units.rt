@@ -41,11 +41,12 @@ fn quota(partitions: &[PartitionRow], partition: Serial) -> u16
 }
 
 /// What is left of the partition's quota.
-pub(crate) fn free(objects: &[ObjectRow], partitions: &[PartitionRow], partition: Serial) -> u128
+pub(crate) fn free(objects: &[ObjectRow], partitions: &[PartitionRow], partition: Serial) -> u16
     ensures { result ≡ rest_units objects.now partitions.now partition.0 }
 {
     let quota = quota(partitions, partition) as u128;
-    quota
+    let rest = quota
         .saturating_sub(used(objects, partition))
-        .saturating_sub(given(partitions, partition))
+        .saturating_sub(given(partitions, partition));
+    rest as u16
 }
