@@ -1,6 +1,6 @@
 -- A run by whole calls: the CPUs in rising order each make one call, round after round, until all
 -- have ended.
-use Rattle.std.specs.Prelude.{◌==◌, ◌+◌, ◌*◌, ◌≤◌, ℕ, zero, suc, Bool, true, false, List, [], ◌∷◌, ◌++◌, All, length, fold, max, Option, Some, None, Result, Ok, Err, filter, map, slice_get, slice_set, if◌then◌else◌}
+use Rattle.std.specs.Prelude.{◌==◌, ◌+◌, ◌*◌, ℕ, zero, suc, Bool, true, false, List, [], ◌∷◌, ◌++◌, length, fold, max, Option, Some, None, Result, Ok, Err, filter, map, slice_get, slice_set, if◌then◌else◌}
 use Rattle.std.specs.Option.{unwrap_or}
 use Rattle.gh_base.specs.Reply.{refusal}
 use Rattle.gh_base.specs.declared.call.Call.{Call}
@@ -153,8 +153,11 @@ module _ {P : Type 0} (answer : P → Option Reply → Step) (after : P → Opti
   abbrev pub seat_behind : Bool → Seat P → CpuRun → Reply → Seat P
   seat_behind true seat c reply = record seat { cpu = record c { ended = true } }
   seat_behind false seat c reply =
-      record { cpu =
-          c; standing = asked answer after (c.number + 1) seat.standing.program (Some reply) }
+      record {
+        cpu =
+            c;
+        standing = asked answer after (c.number + 1) seat.standing.program (Some reply);
+      }
 
   abbrev pub seat_after : Seat P → Mark → Seat P
   seat_after seat mark =

@@ -111,8 +111,10 @@ acted s cpu call bytes words =
 abbrev pub with_setting : List SetAtRow → ℕ → ℕ → ℕ → List SetAtRow
 with_setting rows cspace slot number =
     if list_any (tells_setting cspace slot) rows
-    then change_row (tells_setting cspace slot) (λ (row : SetAtRow). record row { number =
-        number }) rows
+    then change_row (tells_setting cspace slot) (λ (row : SetAtRow). record row {
+      number =
+          number;
+    }) rows
     else rows ++ record { cspace = record { 0 = cspace }; slot = slot; number = number } ∷ []
 
 abbrev pub as_revoked : CapabilityRow → CapabilityRow
@@ -148,8 +150,10 @@ with_counters seen row = record row { retired = Some seen }
 abbrev pub retired : State → Serial → List ℕ → State
 retired s serial seen =
     if is_doomed s serial.0 && is_unretired (object_row s serial.0)
-    then counted (record s { objects =
-        change_row (is_object serial.0) (with_counters seen) s.objects })
+    then counted (record s {
+      objects =
+          change_row (is_object serial.0) (with_counters seen) s.objects;
+    })
     else numbered s
 
 -- the extent's pages go to its parent
