@@ -7,8 +7,8 @@ mod law;
 mod looks;
 mod programs;
 mod run;
-mod turn;
 mod text;
+mod turn;
 
 pub use law::file_run_is_legal;
 pub use run::{Finished, run_step};

@@ -375,12 +375,7 @@ fn any_maps(rows: &[MappingRow], page: u16) -> bool
 /// The access at a page of an address space with these rows of its own. Those of other spaces are
 /// walked only where it is mapped.
 #[tactic(auto, using(crate::proofs::TextLemmas::unmapped))]
-fn access(
-    state: &State,
-    own: &[MappingRow],
-    space: Serial,
-    page: u16,
-) -> Option<(PageNo, Access)>
+fn access(state: &State, own: &[MappingRow], space: Serial, page: u16) -> Option<(PageNo, Access)>
     requires small { IsSmall state.now }
     requires own { own.now ≡ filter (is_row_of space.0) state.now.mappings }
     ensures { result ≡ access_at state.now space.0 page }

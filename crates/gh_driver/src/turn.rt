@@ -75,7 +75,12 @@ fn move_on<P: Program>(alloc: Global, seat: &mut Seat<P>, mark: &Mark) -> Result
         seat.cpu.ended = true;
         return Ok(());
     }
-    ask(alloc, seat.cpu.number + 1, &mut seat.standing, Some(&mark.reply))
+    ask(
+        alloc,
+        seat.cpu.number + 1,
+        &mut seat.standing,
+        Some(&mark.reply),
+    )
 }
 
 /// The call of a CPU that hasn't ended: what it leaves of the state, the history, the marks and the CPU.

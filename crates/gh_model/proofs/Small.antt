@@ -1,8 +1,7 @@
 -- The states of boot files have few objects and partitions, and so small sums of units.
-use Rattle.std.proofs.Common.{◌≡◌, ◌==◌, ◌+◌, ◌-◌, ◌*◌, ◌/◌, ◌<◌, ◌≤◌, ◌∙◌, ℕ, Bool, true, false, List, [], ◌∷◌, ◌++◌, length, take, drop, filter, map, fold, refl, subst, sym, ap, arith, IsTrue, if◌then◌else◌}
-use Rattle.std.specs.Prelude.{count_by, sum_by, nat_le, nat_lt, replicate}
+use Rattle.std.proofs.Common.{◌≡◌, ◌==◌, ◌+◌, ◌-◌, ◌*◌, ◌<◌, ◌≤◌, ◌∙◌, ℕ, Bool, true, false, List, [], ◌∷◌, ◌++◌, length, take, drop, filter, map, fold, refl, subst, sym, ap, arith, IsTrue, if◌then◌else◌}
+use Rattle.std.specs.Prelude.{count_by, sum_by, nat_lt, replicate}
 use Rattle.std.proofs.lemmas.List.{length-append, length-take, length-drop, length-replicate, map-append}
-use Rattle.std.proofs.lemmas.Bool.{leb-true}
 use Rattle.std.proofs.lemmas.Bool.Decides.{nat_tests}
 use Rattle.std.proofs.lemmas.List.Elements.{filter-append}
 use Rattle.std.proofs.lemmas.List.Sums.{sum_by-append}

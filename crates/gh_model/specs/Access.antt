@@ -10,7 +10,8 @@ use Rattle.gh_model.specs.Rows.{is_extent}
 
 -- the row maps this page of this address space
 abbrev pub covers : ℕ → ℕ → MappingRow → Bool
-covers space page row = (row.space.0 == space) && (nat_le row.base page && nat_lt page (row.base + row.count))
+covers space page row =
+    (row.space.0 == space) && (nat_le row.base page && nat_lt page (row.base + row.count))
 
 -- the extent now holds the page
 abbrev pub is_holder : ℕ → Option Serial → Bool

@@ -77,7 +77,9 @@ abbrev pub with_flags : ℕ → BellRow → BellRow
 with_flags flags row = record row { flags = bit_or row.flags flags }
 
 abbrev pub with_bell_flags : State → ℕ → ℕ → State
-with_bell_flags s bell flags = record s { bells = change_row (is_bell bell) (with_flags flags) s.bells }
+with_bell_flags s bell flags = record s {
+  bells = change_row (is_bell bell) (with_flags flags) s.bells;
+}
 
 -- exit: the CPU has exited, and that of a VM rings the resource manager
 abbrev pub as_exited : CpuRow → CpuRow

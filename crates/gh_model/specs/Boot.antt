@@ -24,7 +24,25 @@ use Rattle.gh_model.specs.Units.{free_units}
 
 -- nothing is there before the first line
 abbrev pub empty_state : State
-empty_state = record { objects = []; partitions = []; extents = []; holders = []; caps = []; set_at = []; mappings = []; bells = []; queues = []; parcels = []; cpus = []; links = []; entries = 0; next_serial = 1; next_handle = 1; rings = 0; taken = [] }
+empty_state = record {
+  objects = [];
+  partitions = [];
+  extents = [];
+  holders = [];
+  caps = [];
+  set_at = [];
+  mappings = [];
+  bells = [];
+  queues = [];
+  parcels = [];
+  cpus = [];
+  links = [];
+  entries = 0;
+  next_serial = 1;
+  next_handle = 1;
+  rings = 0;
+  taken = [];
+}
 
 abbrev pub serial_of : ℕ → Serial
 serial_of n = record { 0 = n }
@@ -33,59 +51,90 @@ serial_of n = record { 0 = n }
 
 -- an active object with the next serial
 abbrev pub boot_object : State → Kind → ℕ → ℕ → ObjectRow
-boot_object s k partition cost = record { serial = serial_of s.next_serial; kind = k; partition = serial_of partition; stage = Active; cost = cost; retired = None }
+boot_object s k partition cost = record {
+  serial = serial_of s.next_serial;
+  kind = k;
+  partition = serial_of partition;
+  stage = Active;
+  cost = cost;
+  retired = None;
+}
 
 abbrev pub with_object : State → Kind → ℕ → ℕ → State
-with_object s k partition cost = record s { objects = s.objects ++ boot_object s k partition cost ∷ []; next_serial = s.next_serial + 1 }
+with_object s k partition cost = record s {
+  objects = s.objects ++ boot_object s k partition cost ∷ [];
+  next_serial = s.next_serial + 1;
+}
 
 -- a partition lives in itself, and its quota came from no other
 abbrev pub with_partition : State → ℕ → State
-with_partition s quota = record (with_object s kind.Partition s.next_serial 1) { partitions = s.partitions ++ record { serial = serial_of s.next_serial; parent = serial_of 0; quota = quota } ∷ [] }
+with_partition s quota = record (with_object s kind.Partition s.next_serial 1) {
+  partitions = s.partitions ++ record { serial = serial_of s.next_serial; parent = serial_of 0; quota = quota } ∷ [];
+}
 
 -- a doorbell begins without flags, with all of them enabled and none acknowledged by itself
 abbrev pub with_bell : State → ℕ → State
-with_bell s partition = record (with_object s kind.Bell partition 1) { bells = s.bells ++ record { serial = serial_of s.next_serial; flags = 0; enable = 2 ^ 64 - 1; ack = 0 } ∷ [] }
+with_bell s partition = record (with_object s kind.Bell partition 1) {
+  bells = s.bells ++ record { serial = serial_of s.next_serial; flags = 0; enable = 2 ^ 64 - 1; ack = 0 } ∷ [];
+}
 
 -- the root extent spans and holds all pages
 abbrev pub with_root : State → ℕ → State
-with_root s partition = record (with_object s kind.Extent partition 1) { extents = s.extents ++ record { serial = serial_of s.next_serial; parent = serial_of 0; first = record { 0 = 0 }; count = length s.holders; access = record { 0 = 7 }; parcel = false } ∷ []; holders = replicate (length s.holders) (serial_of s.next_serial) }
+with_root s partition = record (with_object s kind.Extent partition 1) {
+  extents = s.extents ++ record { serial = serial_of s.next_serial; parent = serial_of 0; first = record { 0 = 0 }; count = length s.holders; access = record { 0 = 7 }; parcel = false } ∷ [];
+  holders = replicate (length s.holders) (serial_of s.next_serial);
+}
 
 -- pages from a first one on change their holder
 abbrev pub move_pages : ℕ → ℕ → Serial → List Serial → List Serial
-move_pages first count holder holders = take first holders ++ replicate count holder ++ drop (first + count) holders
+move_pages first count holder holders =
+    take first holders ++ replicate count holder ++ drop (first + count) holders
 
 -- the first machine page of an extent's span
 abbrev pub span_first : List ExtentRow → ℕ → ℕ
-span_first extents extent = option_map_or (λ (row : ExtentRow). row.first.0) (find (is_extent extent) extents) 0
+span_first extents extent =
+    option_map_or (λ (row : ExtentRow). row.first.0) (find (is_extent extent) extents) 0
 
 abbrev pub first_page : State → ℕ → ℕ
 first_page s extent = span_first s.extents extent
 
 abbrev pub with_extent : State → ℕ → ℕ → ℕ → ℕ → ℕ → ℕ → ℕ → State
-with_extent s partition parent offset count access held_offset held_count = record (with_object s kind.Extent partition 1) { extents = s.extents ++ record { serial = serial_of s.next_serial; parent = serial_of parent; first = record { 0 = first_page s parent + offset }; count = count; access = record { 0 = access }; parcel = false } ∷ []; holders = move_pages (first_page s parent + offset + held_offset) held_count (serial_of s.next_serial) s.holders }
+with_extent s partition parent offset count access held_offset held_count =
+    record (with_object s kind.Extent partition 1) {
+      extents = s.extents ++ record { serial = serial_of s.next_serial; parent = serial_of parent; first = record { 0 = first_page s parent + offset }; count = count; access = record { 0 = access }; parcel = false } ∷ [];
+      holders = move_pages (first_page s parent + offset + held_offset) held_count (serial_of s.next_serial) s.holders;
+    }
 
 -- the units of a queue: one, and its messages' room in pages, rounded up
 abbrev pub queue_cost : ℕ → ℕ → ℕ
 queue_cost depth size = 1 + (depth * size + 4095) / 4096
 
 abbrev pub with_queue : State → ℕ → ℕ → ℕ → State
-with_queue s partition depth size = record (with_object s kind.Queue partition (queue_cost depth size)) { queues = s.queues ++ record { serial = serial_of s.next_serial; depth = depth; size = size; messages = [] } ∷ [] }
+with_queue s partition depth size =
+    record (with_object s kind.Queue partition (queue_cost depth size)) {
+      queues = s.queues ++ record { serial = serial_of s.next_serial; depth = depth; size = size; messages = [] } ∷ [];
+    }
 
 abbrev pub with_mapping : State → MappingRow → State
 with_mapping s row = record s { mappings = s.mappings ++ row ∷ [] }
 
 -- the kind of an object; a partition where there is none
 abbrev pub object_kind : List ObjectRow → ℕ → Kind
-object_kind objects serial = option_map_or (λ (row : ObjectRow). row.kind) (find (is_object serial) objects) kind.Partition
+object_kind objects serial =
+    option_map_or (λ (row : ObjectRow). row.kind) (find (is_object serial) objects) kind.Partition
 
 abbrev pub kind_at : State → ℕ → Kind
 kind_at s serial = object_kind s.objects serial
 
 abbrev pub with_capability : State → ℕ → ℕ → ℕ → ℕ → Bool → State
-with_capability s cspace slot object rights master = record s { caps = s.caps ++ record { cspace = serial_of cspace; slot = slot; serial = serial_of object; kind = kind_at s object; rights = record { 0 = rights }; master = master; valid = true } ∷ [] }
+with_capability s cspace slot object rights master = record s {
+  caps = s.caps ++ record { cspace = serial_of cspace; slot = slot; serial = serial_of object; kind = kind_at s object; rights = record { 0 = rights }; master = master; valid = true } ∷ [];
+}
 
 abbrev pub with_cpu : State → ℕ → ℕ → ℕ → State
-with_cpu s cpu cspace space = record s { cpus = s.cpus ++ record { cpu = record { 0 = cpu }; cspace = serial_of cspace; space = serial_of space; exited = false } ∷ [] }
+with_cpu s cpu cspace space = record s {
+  cpus = s.cpus ++ record { cpu = record { 0 = cpu }; cspace = serial_of cspace; space = serial_of space; exited = false } ∷ [];
+}
 
 -- a CPU of a VM, and not the resource manager's
 abbrev pub is_vm : CpuRow → Bool
@@ -108,7 +157,10 @@ manager_cspace s = cpu_cspace s.cpus 0
 -- a link gives the resource manager the request queue to receive from, and the reply queue to send
 -- to
 abbrev pub with_link : State → ℕ → ℕ → ℕ → ℕ → State
-with_link s vm extent request reply = record (with_capability (with_capability s (manager_cspace s) (2 * vm) request 2 false) (manager_cspace s) (2 * vm + 1) reply 1 false) { links = s.links ++ record { vm = record { 0 = vm }; extent = serial_of extent; request = serial_of request; reply = serial_of reply } ∷ [] }
+with_link s vm extent request reply =
+    record (with_capability (with_capability s (manager_cspace s) (2 * vm) request 2 false) (manager_cspace s) (2 * vm + 1) reply 1 false) {
+      links = s.links ++ record { vm = record { 0 = vm }; extent = serial_of extent; request = serial_of request; reply = serial_of reply } ∷ [];
+    }
 
 -- the state after one more line
 abbrev pub after_line : State → BootLine → State
@@ -118,12 +170,16 @@ after_line s (Cspace partition) = with_object s kind.Cspace partition.0 4
 after_line s (Addrspace partition) = with_object s kind.Space partition.0 4
 after_line s (Doorbell partition) = with_bell s partition.0
 after_line s (RootExtent partition) = with_root s partition.0
-after_line s (Extent partition parent offset count access held_offset held_count) = with_extent s partition.0 parent.0 offset count access.0 held_offset held_count
+after_line s (Extent partition parent offset count access held_offset held_count) =
+    with_extent s partition.0 parent.0 offset count access.0 held_offset held_count
 after_line s (Msgqueue partition depth size) = with_queue s partition.0 depth size
-after_line s (Map space extent base offset count access) = with_mapping s (record { space = space; extent = extent; base = base; offset = offset; count = count; access = access; handle = 0 })
-after_line s (Cap cspace slot object rights master) = with_capability s cspace.0 slot object.0 rights.0 master
+after_line s (Map space extent base offset count access) =
+    with_mapping s (record { space = space; extent = extent; base = base; offset = offset; count = count; access = access; handle = 0 })
+after_line s (Cap cspace slot object rights master) =
+    with_capability s cspace.0 slot object.0 rights.0 master
 after_line s (Vm cspace space) = with_cpu s (vm_count s + 1) cspace.0 space.0
-after_line s (Rm cspace space partition) = with_capability (with_cpu s 0 cspace.0 space.0) cspace.0 1 partition.0 128 false
+after_line s (Rm cspace space partition) =
+    with_capability (with_cpu s 0 cspace.0 space.0) cspace.0 1 partition.0 128 false
 after_line s (Link vm extent request reply) = with_link s vm.0 extent.0 request.0 reply.0
 
 -- the line of the resource manager
@@ -150,7 +206,8 @@ is_kind s serial k = is_of_kind k (object_row s serial)
 
 -- the partition has the units
 abbrev pub has_units : State → ℕ → ℕ → Bool
-has_units s partition cost = is_kind s partition kind.Partition && nat_le cost (free_units s partition) && nat_le s.next_serial 1024
+has_units s partition cost =
+    is_kind s partition kind.Partition && nat_le cost (free_units s partition) && nat_le s.next_serial 1024
 
 -- how many objects of a kind are there
 abbrev pub kind_count : State → Kind → ℕ
@@ -165,7 +222,8 @@ access_fits access wider = bit_and access wider == access
 
 -- all these pages are held by the extent
 abbrev pub all_held : State → ℕ → ℕ → ℕ → Bool
-all_held s extent first count = list_all (λ (holder : Serial). holder.0 == extent) (take count (drop first s.holders))
+all_held s extent first count =
+    list_all (λ (holder : Serial). holder.0 == extent) (take count (drop first s.holders))
 
 abbrev pub extent_fits : State → ℕ → ℕ → ℕ → ℕ → ℕ → ℕ → Option ExtentRow → Bool
 extent_fits s parent offset count access held_offset held_count None = false
@@ -175,7 +233,8 @@ extent_fits s parent offset count access held_offset held_count (Some row) =
 
 -- two runs of pages of one address space have a page in common
 abbrev pub overlaps : ℕ → ℕ → ℕ → MappingRow → Bool
-overlaps space base count row = (row.space.0 == space) && nat_lt base (row.base + row.count) && nat_lt row.base (base + count)
+overlaps space base count row =
+    (row.space.0 == space) && nat_lt base (row.base + row.count) && nat_lt row.base (base + count)
 
 abbrev pub is_row_of : ℕ → MappingRow → Bool
 is_row_of space row = row.space.0 == space
@@ -189,7 +248,8 @@ mapping_fits s space base offset count access (Some row) =
 
 -- the slot has a number and is free
 abbrev pub is_free_slot : State → ℕ → ℕ → Bool
-is_free_slot s cspace slot = nat_le 1 slot && nat_le slot 127 && not (list_any (fills cspace slot) s.caps)
+is_free_slot s cspace slot =
+    nat_le 1 slot && nat_le slot 127 && not (list_any (fills cspace slot) s.caps)
 
 abbrev pub is_master_of : ℕ → CapabilityRow → Bool
 is_master_of serial row = row.master && (row.serial.0 == serial)
@@ -233,7 +293,8 @@ line_fits s (Partition quota) =
 line_fits s (Cspace partition) = has_units s partition.0 4 && nat_lt (kind_count s kind.Cspace) 16
 line_fits s (Addrspace partition) = has_units s partition.0 4
 line_fits s (Doorbell partition) = has_units s partition.0 1
-line_fits s (RootExtent partition) = has_units s partition.0 1 && (length s.extents == 0) && nat_le (length s.holders) 1024
+line_fits s (RootExtent partition) =
+    has_units s partition.0 1 && (length s.extents == 0) && nat_le (length s.holders) 1024
 line_fits s (Extent partition parent offset count access held_offset held_count) =
     has_units s partition.0 1 && nat_le (first_page s parent.0 + offset + count) (length s.holders) && nat_le (length s.holders) 1024
     && nat_le (held_offset + held_count) count && extent_fits s parent.0 offset count access.0 held_offset held_count (find (is_extent parent.0) s.extents)
@@ -244,7 +305,8 @@ line_fits s (Map space extent base offset count access) =
 line_fits s (Cap cspace slot object rights master) =
     is_kind s cspace.0 kind.Cspace && is_free_slot s cspace.0 slot && rights_fit_kind rights.0 (object_row s object.0)
     && not (master && list_any (is_master_of object.0) s.caps)
-line_fits s (Vm cspace space) = may_attach s cspace.0 space.0 && nat_lt (vm_count s) 8 && nat_le (length s.cpus) 8
+line_fits s (Vm cspace space) =
+    may_attach s cspace.0 space.0 && nat_lt (vm_count s) 8 && nat_le (length s.cpus) 8
 line_fits s (Rm cspace space partition) =
     not (is_some (cpu_row s 0)) && may_attach s cspace.0 space.0 && is_free_slot s cspace.0 1 && is_kind s partition.0 kind.Partition
     && nat_le (length s.cpus) 8

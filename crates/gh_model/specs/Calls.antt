@@ -1,6 +1,6 @@
 -- A run by whole calls: the CPUs in rising order each make one call, round after round, until all
 -- have ended.
-use Rattle.std.specs.Prelude.{◌==◌, ◌+◌, ◌*◌, ◌≤◌, ℕ, zero, suc, Bool, true, false, List, [], ◌∷◌, ◌++◌, All, length, fold, max, Option, Some, None, Result, Ok, Err, filter, map, slice_get, slice_set, if◌then◌else◌}
+use Rattle.std.specs.Prelude.{◌==◌, ◌+◌, ◌*◌, ℕ, zero, suc, Bool, true, false, List, [], ◌∷◌, ◌++◌, length, fold, max, Option, Some, None, Result, Ok, Err, filter, map, slice_get, slice_set, if◌then◌else◌}
 use Rattle.std.specs.Option.{unwrap_or}
 use Rattle.gh_base.specs.Reply.{refusal}
 use Rattle.gh_base.specs.declared.call.Call.{Call}
@@ -44,7 +44,8 @@ refusal_of (Ok serial) = None
 -- one look more, at this word
 abbrev pub with_look : Looked → ℕ → Word → Need → Looked
 with_look looked slot word need = record {
-  looks = looked.looks ++ record { slot = slot; place = max word.set_at looked.place; word = bits_of word } ∷ [];
+  looks =
+      looked.looks ++ record { slot = slot; place = max word.set_at looked.place; word = bits_of word } ∷ [];
   words = looked.words ++ word ∷ [];
   place = max word.set_at looked.place;
   refused = refusal_of (look_reply word need);
@@ -113,7 +114,8 @@ by_verdict s c frame call looked (Refused reply) =
 
 abbrev pub by_looks : State → CpuRun → Frame → Call → Looked → Option Errno → Called
 by_looks s c frame call looked (Some errno) = unmade s c frame looked ends.Refused (refusal errno)
-by_looks s c frame call looked None = by_verdict s c frame call looked (judge s c.cpu.0 call frame.bytes looked.words)
+by_looks s c frame call looked None =
+    by_verdict s c frame call looked (judge s c.cpu.0 call frame.bytes looked.words)
 
 abbrev pub by_shape : State → CpuRun → Frame → Result Call Errno → Called
 by_shape s c frame (Err errno) = unmade s c frame (no_looks c.place) ends.Frame (refusal errno)
@@ -151,7 +153,11 @@ module _ {P : Type 0} (answer : P → Option Reply → Step) (after : P → Opti
   abbrev pub seat_behind : Bool → Seat P → CpuRun → Reply → Seat P
   seat_behind true seat c reply = record seat { cpu = record c { ended = true } }
   seat_behind false seat c reply =
-      record { cpu = c; standing = asked answer after (c.number + 1) seat.standing.program (Some reply) }
+      record {
+        cpu =
+            c;
+        standing = asked answer after (c.number + 1) seat.standing.program (Some reply);
+      }
 
   abbrev pub seat_after : Seat P → Mark → Seat P
   seat_after seat mark =
@@ -168,7 +174,8 @@ module _ {P : Type 0} (answer : P → Option Reply → Step) (after : P → Opti
   -- the turn of a CPU: a call, unless it has ended
   abbrev pub turn_of : Running P → ℕ → Option (Seat P) → Running P
   turn_of w at None = w
-  turn_of w at (Some seat) = if seat.cpu.ended then w else with_call w at seat (next_call w.plain seat)
+  turn_of w at (Some seat) =
+      if seat.cpu.ended then w else with_call w at seat (next_call w.plain seat)
 
   abbrev pub turn : Running P → ℕ → Running P
   turn w at = turn_of w at (slice_get w.seats at)
@@ -202,11 +209,21 @@ has_ended seat = seat.cpu.ended
 
 -- a CPU before its first call
 abbrev pub cpu_start : CpuRow → CpuRun
-cpu_start row = record { cpu = row.cpu; cspace = row.cspace; ended = false; number = 0; sections = 0; place = 0 }
+cpu_start row = record {
+  cpu = row.cpu;
+  cspace = row.cspace;
+  ended = false;
+  number = 0;
+  sections = 0;
+  place = 0;
+}
 
 module _ {P : Type 0} (answer : P → Option Reply → Step) (after : P → Option Reply → P) where
   abbrev pub seat_start : CpuRow → P → Seat P
-  seat_start row program = record { cpu = cpu_start row; standing = asked answer after 1 program None }
+  seat_start row program = record {
+    cpu = cpu_start row;
+    standing = asked answer after 1 program None;
+  }
 
   -- a run before its first call: each CPU has the program of its number
   abbrev pub run_start : State → (ℕ → P) → Running P

@@ -36,7 +36,8 @@ pub record Event : Type 0 where
 -- what a look gives an entry of this number: its word, and of a look at that number or above it
 -- nothing
 abbrev pub word_for : ℕ → Seen → Word
-word_for number seen = if nat_lt seen.look.place number then seen.word else record { row = None; set_at = 0 }
+word_for number seen =
+    if nat_lt seen.look.place number then seen.word else record { row = None; set_at = 0 }
 
 -- the entry of this number that is the act of a finished call
 abbrev pub event_of : ℕ → Call → Made → Event
@@ -110,7 +111,10 @@ acted s cpu call bytes words =
 abbrev pub with_setting : List SetAtRow → ℕ → ℕ → ℕ → List SetAtRow
 with_setting rows cspace slot number =
     if list_any (tells_setting cspace slot) rows
-    then change_row (tells_setting cspace slot) (λ (row : SetAtRow). record row { number = number }) rows
+    then change_row (tells_setting cspace slot) (λ (row : SetAtRow). record row {
+      number =
+          number;
+    }) rows
     else rows ++ record { cspace = record { 0 = cspace }; slot = slot; number = number } ∷ []
 
 abbrev pub as_revoked : CapabilityRow → CapabilityRow
@@ -146,12 +150,16 @@ with_counters seen row = record row { retired = Some seen }
 abbrev pub retired : State → Serial → List ℕ → State
 retired s serial seen =
     if is_doomed s serial.0 && is_unretired (object_row s serial.0)
-    then counted (record s { objects = change_row (is_object serial.0) (with_counters seen) s.objects })
+    then counted (record s {
+      objects =
+          change_row (is_object serial.0) (with_counters seen) s.objects;
+    })
     else numbered s
 
 -- the extent's pages go to its parent
 abbrev pub parent_of : State → ℕ → Serial
-parent_of s extent = option_map_or (λ (row : ExtentRow). row.parent) (find (is_extent extent) s.extents) (record { 0 = 0 })
+parent_of s extent =
+    option_map_or (λ (row : ExtentRow). row.parent) (find (is_extent extent) s.extents) (record { 0 = 0 })
 
 abbrev pub given_back : ℕ → Serial → Serial → Serial
 given_back extent parent holder = if holder.0 == extent then parent else holder

@@ -124,7 +124,8 @@ module _ (boot : State) (history : List Event) where
   -- a look of a call behind those before it: at the slot that is wanted next; at the greater of the
   -- slot's setting and the CPU's last place, which isn't above the history; and its word is the one
   -- that the slot has there
-  pub record LookIs (cspace last : ℕ) (needs : List (ℕ × Need)) (front : List Seen) (seen : Seen) : Type 0 where
+  pub record LookIs (cspace last : ℕ) (needs : List (ℕ × Need)) (front : List Seen)
+      (seen : Seen) : Type 0 where
     pub need : Need
     pub asked : outcome needs (map word_of front) ≡ Wants seen.look.slot need
     pub place : seen.look.place ≡ max seen.word.set_at (place_after_looks last front)
@@ -154,7 +155,8 @@ module _ (boot : State) (history : List Event) where
     pub counts : number ≡ before + 1
     pub event : slice_get history before ≡ Some (event_of number call made)
     pub not_before : place_after_looks last made.seen ≤ number
-    pub looked : (i : ℕ) (seen : Seen) → slice_get made.seen i ≡ Some seen → seen.look.place ≤ before
+    pub looked : (i : ℕ) (seen : Seen) → slice_get made.seen i ≡ Some seen
+        → seen.look.place ≤ before
     pub grants : came_to call made ≡ Grants
     pub judged : verdict_in (state_at boot history before) call made
         ≡ Done (state_at boot history number) made.mark.reply
@@ -166,7 +168,8 @@ module _ (boot : State) (history : List Event) where
   EndIs last call made ends.Frame = ⊥
   EndIs last call made ends.Refused = IsRefusedLook call made
   EndIs last call made ends.Dead = IsDead call made
-  EndIs last call made (ends.Act at) = IsRefusedAt last at call made × (is_short call made.mark.reply ≡ false)
+  EndIs last call made (ends.Act at) =
+      IsRefusedAt last at call made × (is_short call made.mark.reply ≡ false)
   EndIs last call made (ends.Short at held) =
       IsRefusedAt last at call made × (is_short call made.mark.reply ≡ true) × (held ≡ [])
   EndIs last call made (ends.Entry number) = IsEntry last number call made
@@ -204,7 +207,8 @@ module _ (boot : State) (history : List Event) where
   -- each act's entry is the end of a call, and each part's slot one of its call
   abbrev pub EntryIs : (ℕ → List Made) → ℕ → Event → Entry → Type 0
   EntryIs calls n event (Acted cpu number) = IsEndOf (calls cpu.0) number (n + 1)
-  EntryIs calls n event (Part cpu number space slot) = IsPart (state_at boot history n) event space.0 slot
+  EntryIs calls n event (Part cpu number space slot) =
+      IsPart (state_at boot history n) event space.0 slot
   EntryIs calls n event (Retired serial seen) = Unit {0}
   EntryIs calls n event (Reclaimed serial seen) = Unit {0}
 
@@ -213,19 +217,23 @@ module _ (boot : State) (history : List Event) where
     -- each CPU's calls follow one another
     pub calls_are : (cpu : ℕ) → InTurn (CallIs cpu) (calls cpu)
     -- each entry is of a call
-    pub entries : (n : ℕ) (event : Event) → slice_get history n ≡ Some event → EntryIs calls n event event.entry
-    pub parts : (n : ℕ) (event : Event) → slice_get history n ≡ Some event → is_part event.entry ≡ true
+    pub entries : (n : ℕ) (event : Event) → slice_get history n ≡ Some event
+        → EntryIs calls n event event.entry
+    pub parts : (n : ℕ) (event : Event) → slice_get history n ≡ Some event
+        → is_part event.entry ≡ true
         → GoesOn n event
     -- the object that a dead call's last look granted is retired behind it
     pub deaths : (cpu i : ℕ) (made : Made) (seen : Seen)
-        → slice_get (calls cpu) i ≡ Some made → made.mark.end ≡ ends.Dead → last_or None made.seen ≡ Some seen
+        → slice_get (calls cpu) i ≡ Some made → made.mark.end ≡ ends.Dead
+        → last_or None made.seen ≡ Some seen
         → IsRetiredBehind seen.look.place (granted seen.word).0
 
   -- the programs' side: the calls are numbered, each CPU's last call is its exit call, and no
   -- others make calls
   pub record AreWhole (calls : ℕ → List Made) : Type 0 where
     pub numbered : (cpu : ℕ) → InTurn IsNumbered (calls cpu)
-    pub exits : (cpu : ℕ) → IsSome (cpu_row boot cpu) → IsTrue (is_exit_call (last_or None (calls cpu)))
+    pub exits : (cpu : ℕ) → IsSome (cpu_row boot cpu)
+        → IsTrue (is_exit_call (last_or None (calls cpu)))
     pub cpus : (cpu : ℕ) → cpu_row boot cpu ≡ None → calls cpu ≡ []
 
   -- the history and the calls are legal

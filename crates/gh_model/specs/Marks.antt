@@ -1,5 +1,5 @@
 -- Finished calls: what their looks found and came to, their places and their sections.
-use Rattle.std.specs.Prelude.{◌≡◌, ◌+◌, ◌*◌, ◌%◌, ◌==◌, ℕ, Bool, List, [], ◌∷◌, length, take, Option, Some, None, Result, Ok, Err, fold, map, count_by, slice_get, nat_lt, if◌then◌else◌}
+use Rattle.std.specs.Prelude.{◌≡◌, ◌+◌, ◌*◌, ℕ, Bool, List, [], ◌∷◌, length, take, Option, Some, None, Result, Ok, Err, fold, map, count_by, slice_get, nat_lt, if◌then◌else◌}
 use Rattle.std.specs.Option.{option_map_or, unwrap_or}
 use Rattle.gh_base.specs.declared.cap_word.Look.{Look}
 use Rattle.gh_base.specs.declared.cap_word.Need.{Need}

@@ -26,8 +26,8 @@ is_mark_of cpu mark = mark.cpu.0 == cpu
 -- which ends in this state. Beside the entries a history has the calls, bytes and words of its
 -- acts, and beside the marks each CPU's calls have their frames and the words that their looks
 -- found
-pub record IsRun (boot : List BootLine) (frames : ℕ → List Reply → List Frame) (entries : List Entry) (marks : List Mark)
-    (last : State) : Type 0 where
+pub record IsRun (boot : List BootLine) (frames : ℕ → List Reply → List Frame)
+    (entries : List Entry) (marks : List Mark) (last : State) : Type 0 where
   pub history : List Event
   pub calls : ℕ → List Made
   pub its_entries : map entry_of history ≡ entries

@@ -28,7 +28,8 @@ used_units s partition = used_by s.objects partition
 
 -- the quotas of the partitions that were made from this one by calls, added up
 abbrev pub given_by : List PartitionRow → ℕ → ℕ
-given_by partitions parent = sum_by (λ x. x) (map partition_quota (filter (is_given_by parent) partitions))
+given_by partitions parent =
+    sum_by (λ x. x) (map partition_quota (filter (is_given_by parent) partitions))
 
 abbrev pub given_units : State → ℕ → ℕ
 given_units s partition = given_by s.partitions partition

@@ -91,11 +91,7 @@ fn of_row(
     }
 }
 
-fn of_covering(
-    state: &State,
-    page: u16,
-    row: Option<MappingRow>,
-) -> Option<(PageNo, Access)>
+fn of_covering(state: &State, page: u16, row: Option<MappingRow>) -> Option<(PageNo, Access)>
     requires { length state.now.holders < 65536 }
     ensures { result ≡ covered_access state.now page row }
 {
