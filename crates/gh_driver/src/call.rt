@@ -5,7 +5,7 @@ ghost use Rattle.gh_model.specs.Calls.{call_mark, by_shape, by_looks, call_with 
 ghost use Rattle.gh_model.specs.Legal.{is_short};
 
 use crate::looks::{grants, look_up, unlooked};
-use gh_base::{Call, End, Errno, Frame, Mark, NoMemory, Reply, Sequence};
+use gh_base::{Call, End, Errno, Frame, HISTORY_ENTRIES, Mark, NoMemory, Reply, Sequence};
 use gh_frames::{needs, read_call};
 use gh_model::{CpuRun, Judged, Looked, Plain};
 use std::alloc::Global;
@@ -63,7 +63,7 @@ fn acted(
     call: &Call,
     looked: Looked,
 ) -> Result<Mark, NoMemory>
-    requires entries { plain.old.entries < 4294963200 }
+    requires entries { plain.old.entries < HISTORY_ENTRIES }
     requires number { c.now.number < 4294967295 }
     ensures mark { IfOk result (λ mark. mark ≡ (by_looks plain.old c.now frame.now call.now looked None).mark) }
     ensures state { OnOk result (plain.new ≡ (by_looks plain.old c.now frame.now call.now looked None).after) }
@@ -90,7 +90,7 @@ fn looked_up(
     frame: &Frame,
     call: &Call,
 ) -> Result<Mark, NoMemory>
-    requires entries { plain.old.entries < 4294963200 }
+    requires entries { plain.old.entries < HISTORY_ENTRIES }
     requires number { c.now.number < 4294967295 }
     ensures mark { IfOk result (λ mark. mark ≡ (by_shape plain.old c.now frame.now (Ok call.now)).mark) }
     ensures state { OnOk result (plain.new ≡ (by_shape plain.old c.now frame.now (Ok call.now)).after) }
@@ -110,7 +110,7 @@ pub(crate) fn make_call(
     c: &CpuRun,
     frame: &Frame,
 ) -> Result<Mark, NoMemory>
-    requires entries { plain.old.entries < 4294963200 }
+    requires entries { plain.old.entries < HISTORY_ENTRIES }
     requires number { c.now.number < 4294967295 }
     ensures mark { IfOk result (λ mark. mark ≡ (called_with plain.old c.now frame.now).mark) }
     ensures state { OnOk result (plain.new ≡ (called_with plain.old c.now frame.now).after) }

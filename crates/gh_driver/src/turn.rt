@@ -6,7 +6,7 @@ ghost use Rattle.gh_model.specs.Calls.{after_mark, entries_of, last_look_place, 
 
 use crate::ask::{ask, exits};
 use crate::call::make_call;
-use gh_base::{End, Look, Mark, NoMemory, Sequence};
+use gh_base::{End, HISTORY_ENTRIES, Look, Mark, NoMemory, Sequence};
 use gh_model::{CpuRun, Entry, Plain, Program, Running, Seat};
 use std::alloc::Global;
 
@@ -91,7 +91,7 @@ fn call_of<P: Program>(
     marks: &mut Sequence<Mark>,
     seat: &mut Seat<P>,
 ) -> Result<(), NoMemory>
-    requires entries { plain.old.entries < 4294963200 }
+    requires entries { plain.old.entries < HISTORY_ENTRIES }
     requires number { seat.old.cpu.number < 4294967294 }
     requires sections { seat.old.cpu.sections < 4294967295 }
     requires ready { IsReady P.wants_reply seat.old.standing }

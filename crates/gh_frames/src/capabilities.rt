@@ -10,7 +10,7 @@ use gh_base::{Call, Kind, Need, Rights};
 type Needs = ArrayVec<(u64, Need), 2>;
 
 fn kind(kind: Kind, rights: Rights) -> Need
-    ensures { result ≡ of_kind kind rights.0 }
+    ensures { result ≡ of_kind kind rights }
 {
     Need {
         kind: Some(kind),
@@ -20,7 +20,7 @@ fn kind(kind: Kind, rights: Rights) -> Need
 }
 
 fn any_kind(rights: Rights) -> Need
-    ensures { result ≡ of_any_kind rights.0 }
+    ensures { result ≡ of_any_kind rights }
 {
     Need {
         kind: None,
@@ -57,7 +57,8 @@ fn two(first: u64, first_need: Need, second: u64, second_need: Need) -> Needs
 
 /// The extent of a mapping, behind its address space where that isn't the caller's own.
 fn mapping(space: u64, extent: u64) -> Needs
-    ensures { result.items ≡ space_need space 1 ((extent, of_kind Kind.Extent 1) ∷ []) }
+    ensures { result.items ≡ space_need space Rights.MAP
+        ((extent, of_kind Kind.Extent Rights.MAP) ∷ []) }
 {
     let extent_need = kind(Kind::Extent, Rights::MAP);
     if space == 0 {
@@ -68,7 +69,7 @@ fn mapping(space: u64, extent: u64) -> Needs
 }
 
 fn lookup(space: u64) -> Needs
-    ensures { result.items ≡ space_need space 2 [] }
+    ensures { result.items ≡ space_need space Rights.LOOKUP [] }
 {
     if space == 0 {
         ArrayVec::new()

@@ -9,8 +9,11 @@ use Rattle.gh_base.specs.declared.cap_word.Need.{Need}
 use Rattle.gh_base.specs.declared.errno.Errno.{Errno}
 use Rattle.gh_base.specs.declared.errno.Errno.TheVariants.{Unimplemented, ArgInval, ArgSize, ArgAlign}
 use Rattle.gh_base.specs.declared.frame.Frame.{Frame}
+use Rattle.gh_base.specs.declared.ids.Rights.{Rights}
+use Rattle.gh_base.specs.declared.ids.TheConstants.Rights as right
 use Rattle.gh_base.specs.declared.kind.Kind.{Kind}
 use Rattle.gh_base.specs.declared.kind.Kind.TheVariants as kind
+use Rattle.gh_base.specs.declared.limits.TheConstants.{MESSAGE_BYTES, PAGE_BYTES, PARTITION_UNITS, QUEUE_DEPTH, VMS}
 
 -- a row of the table: the function's number, its register that must be zero where it has one, and its call
 pub record Function : Type 0 where
@@ -70,7 +73,7 @@ first_of (refusal ∷ others) = if refusal.0 then Some refusal.1 else first_of o
 
 -- not a multiple of the page size
 abbrev pub is_unaligned : ℕ → Bool
-is_unaligned n = not (n % 4096 == 0)
+is_unaligned n = not (n % PAGE_BYTES == 0)
 
 -- bits 0 (PARTIAL) and 31 (NOSYNC) alone are taken in the flags of map and unmap
 abbrev pub has_partial : ℕ → Bool
@@ -104,7 +107,8 @@ has_foreign_options options = not (options / 256 % 8388608 == 0) || not (options
 abbrev pub shape_refusals : Call → ℕ → List (Bool × Errno)
 shape_refusals (BellSend cap flags) bytes = (flags == 0, ArgInval) ∷ []
 shape_refusals (MsgqSend cap size buffer flags) bytes =
-    (nat_lt 1 flags, ArgInval) ∷ ((size == 0) || nat_lt 1024 size, ArgSize) ∷ (not (size == bytes), ArgSize) ∷ []
+    (nat_lt 1 flags, ArgInval) ∷ ((size == 0) || nat_lt MESSAGE_BYTES size, ArgSize)
+    ∷ (not (size == bytes), ArgSize) ∷ []
 shape_refusals (MsgqRecv cap buffer size) bytes = (size == 0, ArgSize) ∷ []
 shape_refusals (Map space extent base attributes flags offset size) bytes =
     (has_foreign_flags flags, ArgInval) ∷ (has_foreign_attributes attributes, ArgInval)
@@ -120,12 +124,14 @@ shape_refusals (Derive child parent offset size access) bytes =
     (is_unaligned offset || is_unaligned size, ArgAlign) ∷ (size == 0, ArgSize)
     ∷ ((access == 0) || (access == 3) || nat_lt 7 access, ArgInval) ∷ []
 shape_refusals (Create partition cspace number) bytes = ((number == 0) || nat_lt 6 number, ArgInval) ∷ []
-shape_refusals (ConfigurePartition cap quota) bytes = ((quota == 0) || nat_lt 128 quota, ArgInval) ∷ []
+shape_refusals (ConfigurePartition cap quota) bytes =
+    ((quota == 0) || nat_lt PARTITION_UNITS quota, ArgInval) ∷ []
 shape_refusals (ConfigureQueue cap depth size) bytes =
-    ((depth == 0) || nat_lt 64 depth, ArgInval) ∷ ((size == 0) || nat_lt 1024 size, ArgInval) ∷ []
+    ((depth == 0) || nat_lt QUEUE_DEPTH depth, ArgInval)
+    ∷ ((size == 0) || nat_lt MESSAGE_BYTES size, ArgInval) ∷ []
 shape_refusals (CapCopy cspace source mask) bytes = (nat_lt 0xffff mask, ArgInval) ∷ []
 shape_refusals (RmAct cap vm) bytes =
-    ((vm == 0) || nat_lt 8 vm, ArgInval) ∷ (nat_lt bytes 4 || nat_lt 14620 bytes, ArgSize) ∷ []
+    ((vm == 0) || nat_lt VMS vm, ArgInval) ∷ (nat_lt bytes 4 || nat_lt 14620 bytes, ArgSize) ∷ []
 shape_refusals _ bytes = []
 
 -- a register that must be zero and isn't
@@ -152,44 +158,51 @@ abbrev pub call_of : Frame → Result Call Errno
 call_of frame = if list_any (λ number. number == function_number frame) built then shape_of frame else Err Unimplemented
 
 -- a capability of this kind with these rights
-abbrev pub of_kind : Kind → ℕ → Need
-of_kind k rights = record { kind = Some k; rights = record { 0 = rights }; master = false }
+abbrev pub of_kind : Kind → Rights → Need
+of_kind k rights = record { kind = Some k; rights = rights; master = false }
 
 -- a capability of any kind with these rights
-abbrev pub of_any_kind : ℕ → Need
-of_any_kind rights = record { kind = None; rights = record { 0 = rights }; master = false }
+abbrev pub of_any_kind : Rights → Need
+of_any_kind rights = record { kind = None; rights = rights; master = false }
 
 -- an object's master capability
 abbrev pub a_master : Need
-a_master = record { kind = None; rights = record { 0 = 0 }; master = true }
+a_master = record { kind = None; rights = right.NONE; master = true }
 
 -- the address space that a call names; 0 is the caller's own, which isn't looked up
-abbrev pub space_need : ℕ → ℕ → List (ℕ × Need) → List (ℕ × Need)
-space_need space rights others = if space == 0 then others else (space, of_kind kind.Space rights) ∷ others
+abbrev pub space_need : ℕ → Rights → List (ℕ × Need) → List (ℕ × Need)
+space_need space rights others =
+    if space == 0 then others else (space, of_kind kind.Space rights) ∷ others
 
 -- the capabilities that a call looks up, in order, and what it needs of each
 abbrev pub needs_of : Call → List (ℕ × Need)
 needs_of Identify = []
 needs_of Exit = []
-needs_of (BellSend cap flags) = (cap, of_kind kind.Bell 1) ∷ []
-needs_of (BellSetMask cap enable ack) = (cap, of_kind kind.Bell 2) ∷ []
-needs_of (BellReceive cap clear) = (cap, of_kind kind.Bell 2) ∷ []
-needs_of (BellReset cap) = (cap, of_kind kind.Bell 2) ∷ []
-needs_of (MsgqSend cap size buffer flags) = (cap, of_kind kind.Queue 1) ∷ []
-needs_of (MsgqRecv cap buffer size) = (cap, of_kind kind.Queue 2) ∷ []
-needs_of (MsgqFlush cap) = (cap, of_kind kind.Queue 2) ∷ []
-needs_of (Map space extent base attributes flags offset size) = space_need space 1 ((extent, of_kind kind.Extent 1) ∷ [])
-needs_of (Unmap space extent base flags offset size) = space_need space 1 ((extent, of_kind kind.Extent 1) ∷ [])
-needs_of (Donate options «from» to offset size) = («from», of_kind kind.Extent 4) ∷ (to, of_kind kind.Extent 4) ∷ []
-needs_of (Derive child parent offset size access) = (child, of_kind kind.Extent 2) ∷ (parent, of_kind kind.Extent 2) ∷ []
-needs_of (AsLookup space address) = space_need space 2 []
-needs_of (Create partition cspace number) = (partition, of_kind kind.Partition 1) ∷ (cspace, of_kind kind.Cspace 1) ∷ []
-needs_of (ConfigurePartition cap quota) = (cap, of_kind kind.Partition 0x100) ∷ []
-needs_of (ConfigureQueue cap depth size) = (cap, of_kind kind.Queue 0x100) ∷ []
-needs_of (Activate cap) = (cap, of_any_kind 0x100) ∷ []
-needs_of (CapCopy cspace source mask) = (cspace, of_kind kind.Cspace 2) ∷ (source, of_any_kind 0) ∷ []
-needs_of (CapDelete cspace slot) = (cspace, of_kind kind.Cspace 4) ∷ []
-needs_of (CapRevoke cspace slot) = (cspace, of_kind kind.Cspace 8) ∷ []
+needs_of (BellSend cap flags) = (cap, of_kind kind.Bell right.SEND) ∷ []
+needs_of (BellSetMask cap enable ack) = (cap, of_kind kind.Bell right.RECEIVE) ∷ []
+needs_of (BellReceive cap clear) = (cap, of_kind kind.Bell right.RECEIVE) ∷ []
+needs_of (BellReset cap) = (cap, of_kind kind.Bell right.RECEIVE) ∷ []
+needs_of (MsgqSend cap size buffer flags) = (cap, of_kind kind.Queue right.SEND) ∷ []
+needs_of (MsgqRecv cap buffer size) = (cap, of_kind kind.Queue right.RECEIVE) ∷ []
+needs_of (MsgqFlush cap) = (cap, of_kind kind.Queue right.RECEIVE) ∷ []
+needs_of (Map space extent base attributes flags offset size) =
+    space_need space right.MAP ((extent, of_kind kind.Extent right.MAP) ∷ [])
+needs_of (Unmap space extent base flags offset size) =
+    space_need space right.MAP ((extent, of_kind kind.Extent right.MAP) ∷ [])
+needs_of (Donate options «from» to offset size) =
+    («from», of_kind kind.Extent right.DONATE) ∷ (to, of_kind kind.Extent right.DONATE) ∷ []
+needs_of (Derive child parent offset size access) =
+    (child, of_kind kind.Extent right.DERIVE) ∷ (parent, of_kind kind.Extent right.DERIVE) ∷ []
+needs_of (AsLookup space address) = space_need space right.LOOKUP []
+needs_of (Create partition cspace number) =
+    (partition, of_kind kind.Partition right.CREATE) ∷ (cspace, of_kind kind.Cspace right.CREATE) ∷ []
+needs_of (ConfigurePartition cap quota) = (cap, of_kind kind.Partition right.ACTIVATE) ∷ []
+needs_of (ConfigureQueue cap depth size) = (cap, of_kind kind.Queue right.ACTIVATE) ∷ []
+needs_of (Activate cap) = (cap, of_any_kind right.ACTIVATE) ∷ []
+needs_of (CapCopy cspace source mask) =
+    (cspace, of_kind kind.Cspace right.COPY) ∷ (source, of_any_kind right.NONE) ∷ []
+needs_of (CapDelete cspace slot) = (cspace, of_kind kind.Cspace right.DELETE) ∷ []
+needs_of (CapRevoke cspace slot) = (cspace, of_kind kind.Cspace right.REVOKE) ∷ []
 needs_of (CapsRevoke cap) = (cap, a_master) ∷ []
-needs_of (RmAct cap vm) = (cap, of_kind kind.Partition 0x80) ∷ []
-needs_of (RmPoll cap) = (cap, of_kind kind.Partition 0x80) ∷ []
+needs_of (RmAct cap vm) = (cap, of_kind kind.Partition right.RESOURCE_MANAGER) ∷ []
+needs_of (RmPoll cap) = (cap, of_kind kind.Partition right.RESOURCE_MANAGER) ∷ []
