@@ -10,8 +10,11 @@ use std::alloc::Global;
 use std::test::Fail;
 
 const ROOT: Serial = Serial(4);
+
 const FIRST: Serial = Serial(5);
+
 const SECOND: Serial = Serial(6);
+
 const LENT: Serial = Serial(7);
 
 fn row(extent: Serial, base: u64, count: u64) -> MapRow {
@@ -68,7 +71,10 @@ fn eight_pages_take_two_tables(rt: HostRuntime) -> Result<(), Fail> {
         (4090, 7, Errno::AddrOvfl),
         (8, 9, Errno::ArgSize),
     ] {
-        assert_eq!(rt; map(&mut space, &extents, row(ROOT, base, count)), Some(Err(refusal)));
+        assert_eq!(rt;
+            map(&mut space, &extents, row(ROOT, base, count)),
+            Some(Err(refusal))
+        );
     }
     assert_eq!(rt; space.unmap(ROOT, 0, 0, 7), Err(Errno::AddrInval));
     assert_eq!(rt; space.unmap(ROOT, 0, 0, 8), Ok(()));
@@ -83,7 +89,10 @@ fn a_lend_splits_a_block_and_its_return_joins_it(rt: HostRuntime) -> Result<(), 
     assert!(rt; derive(&mut extents, FIRST, ROOT, 0, 1024));
     assert!(rt; derive(&mut extents, SECOND, FIRST, 512, 512));
     let mut space = Space::new(rt.alloc())?;
-    assert_eq!(rt; map(&mut space, &extents, row(FIRST, 0, 1024)), Some(Ok(())));
+    assert_eq!(rt;
+        map(&mut space, &extents, row(FIRST, 0, 1024)),
+        Some(Ok(()))
+    );
     assert_eq!(rt; space.tables(), 0);
     assert_eq!(rt; space.lookup(511), Some((PageNo(511), Access::ALL)));
     assert_eq!(rt; space.lookup(512), None);
