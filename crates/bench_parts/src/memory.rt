@@ -8,6 +8,7 @@ use gh_model::{Holders, MapRow};
 use std::alloc::Global;
 
 const ROOT: Serial = Serial(1);
+
 const CHILD: Serial = Serial(2);
 
 /// Donates so many pages to a relative, where both have rows; 1 if they moved.
@@ -121,6 +122,8 @@ pub fn lookup(alloc: Global, count: u64) -> Result<u64, NoMemory> {
     let extents = every_second(alloc)?;
     let space = mapped(alloc, &extents)?;
     Ok(checksum(count, |turn| {
-        space.lookup((turn % SPACE_PAGES) as u16).map_or(0, |found| found.0.0 as u64)
+        space
+            .lookup((turn % SPACE_PAGES) as u16)
+            .map_or(0, |found| found.0.0 as u64)
     }))
 }

@@ -28,7 +28,7 @@ module _ (q : Mapping → Bool) where
   find-push (n ∷ ms) m =
       elim (q n) as (λ b. (if b then Some n else find q (ms ++ m ∷ []))
       ≡ (if b || list_any q ms then (if b then Some n else find q ms) else (if q m then Some m else None))) [
-        true ↦ refl
+        | true ↦ refl
         | false ↦ find-push ms m
       ]
 
@@ -36,7 +36,7 @@ module _ (q : Mapping → Bool) where
   any-push [] m = elim (q m) as (λ b. (b || false) ≡ (false || b)) [ true ↦ refl | false ↦ refl ]
   any-push (n ∷ ms) m =
       elim (q n) as (λ b. (b || list_any q (ms ++ m ∷ [])) ≡ ((b || list_any q ms) || q m)) [
-        true ↦ refl
+        | true ↦ refl
         | false ↦ any-push ms m
       ]
 
@@ -46,7 +46,7 @@ module _ (q : Mapping → Bool) where
   one-push [] m one apart = elim (q m) as (λ b. (if b then not false else true) ≡ true) [ true ↦ refl | false ↦ refl ]
   one-push (n ∷ ms) m one apart =
       elim (q n) as (λ b. q n ≡ b → at_most_one q (n ∷ ms ++ m ∷ []) ≡ true) [
-        true ↦ λ is.
+        | true ↦ λ is.
             let alone : list_any q ms ≡ false = not-true _ (rw is at one) in
             let other : q m ≡ false = false_from_ne_true (q m) (λ yes. true≢false (rw is at (apart yes))) in
             let none : list_any q (ms ++ m ∷ []) ≡ false = any-push ms m ∙ rw (alone, other) refl in
@@ -67,7 +67,7 @@ module _ (q : Mapping → Bool) where
   none_both other (m ∷ ms) none =
       let parts = or_parts (q m) (list_any q ms) none in
       elim (other m) as (λ b. ((b && q m) || list_any (λ n. other n && q n) ms) ≡ false) [
-        true ↦ rw parts.0 (none_both other ms parts.1)
+        | true ↦ rw parts.0 (none_both other ms parts.1)
         | false ↦ none_both other ms parts.1
       ]
 
@@ -78,7 +78,7 @@ module _ (q : Mapping → Bool) where
     any-filter (m ∷ ms) none =
         let parts = or_parts (q m) (list_any q ms) none in
         elim (stays m) as (λ b. list_any q (if b then m ∷ filter stays ms else filter stays ms) ≡ false) [
-          true ↦ rw parts.0 (any-filter ms parts.1)
+          | true ↦ rw parts.0 (any-filter ms parts.1)
           | false ↦ any-filter ms parts.1
         ]
 
@@ -86,16 +86,16 @@ module _ (q : Mapping → Bool) where
     one-filter [] one = refl
     one-filter (m ∷ ms) one =
         elim (q m) as (λ b. q m ≡ b → at_most_one q (filter stays (m ∷ ms)) ≡ true) [
-          true ↦ λ is.
+          | true ↦ λ is.
               let alone = any-filter ms (not-true _ (rw is at one)) in
               elim (stays m) as (λ b. at_most_one q (if b then m ∷ filter stays ms else filter stays ms) ≡ true) [
-                true ↦ rw (is, alone) refl
+                | true ↦ rw (is, alone) refl
                 | false ↦ one_none (filter stays ms) alone
               ]
           | false ↦ λ is.
               let rest = one-filter ms (rw is at one) in
               elim (stays m) as (λ b. at_most_one q (if b then m ∷ filter stays ms else filter stays ms) ≡ true) [
-                true ↦ rw is rest
+                | true ↦ rw is rest
                 | false ↦ rest
               ]
         ] refl
@@ -107,15 +107,15 @@ module _ (q : Mapping → Bool) where
     find-filter [] one some = refl
     find-filter (m ∷ ms) one some =
         elim (q m) as (λ b. q m ≡ b → find q (filter stays (m ∷ ms)) ≡ find q (m ∷ ms)) [
-          true ↦ λ is.
+          | true ↦ λ is.
               let alone = any-filter ms (not-true _ (rw is at one)) in
               elim (stays m) as (λ b. stays m ≡ b → find q (filter stays (m ∷ ms)) ≡ find q (m ∷ ms)) [
-                true ↦ λ stay. rw (stay, is) refl
+                | true ↦ λ stay. rw (stay, is) refl
                 | false ↦ λ go. absurd (false≢true (sym alone ∙ rw go at some))
               ] refl
           | false ↦ λ is.
               elim (stays m) as (λ b. stays m ≡ b → find q (filter stays (m ∷ ms)) ≡ find q (m ∷ ms)) [
-                true ↦ λ stay. rw (stay, is) (find-filter ms (rw is at one) (rw (stay, is) at some))
+                | true ↦ λ stay. rw (stay, is) (find-filter ms (rw is at one) (rw (stay, is) at some))
                 | false ↦ λ go. rw (go, is) (find-filter ms (rw is at one) (rw go at some))
               ] refl
         ] refl
@@ -127,15 +127,15 @@ module _ (q : Mapping → Bool) where
     gone-filter [] one some = absurd (false≢true some)
     gone-filter (m ∷ ms) one some =
         elim (q m) as (λ b. q m ≡ b → list_any q (filter stays (m ∷ ms)) ≡ false) [
-          true ↦ λ is.
+          | true ↦ λ is.
               let alone = not-true _ (rw is at one) in
               elim (stays m) as (λ b. stays m ≡ b → list_any q (filter stays (m ∷ ms)) ≡ false) [
-                true ↦ λ stay. absurd (false≢true (sym (none_both (λ n. not (stays n)) ms alone) ∙ rw stay at some))
+                | true ↦ λ stay. absurd (false≢true (sym (none_both (λ n. not (stays n)) ms alone) ∙ rw stay at some))
                 | false ↦ λ go. rw go (any-filter ms alone)
               ] refl
           | false ↦ λ is.
               elim (stays m) as (λ b. stays m ≡ b → list_any q (filter stays (m ∷ ms)) ≡ false) [
-                true ↦ λ stay. rw (stay, is) (gone-filter ms (rw is at one) (rw stay at some))
+                | true ↦ λ stay. rw (stay, is) (gone-filter ms (rw is at one) (rw stay at some))
                 | false ↦ λ go. rw go (gone-filter ms (rw is at one) (rw (go, is) at some))
               ] refl
         ] refl
@@ -147,7 +147,7 @@ module _ (q : Mapping → Bool) where
     left-filter [] gone left = refl
     left-filter (m ∷ ms) gone left =
         elim (stays m) as (λ b. stays m ≡ b → list_any q (m ∷ ms) ≡ false) [
-          true ↦ λ stay.
+          | true ↦ λ stay.
               let parts = or_parts (q m) (list_any q (filter stays ms)) (rw stay at left) in
               rw parts.0 (left-filter ms (rw stay at gone) parts.1)
           | false ↦ λ go.
@@ -162,7 +162,7 @@ pub hides-twice :
 hides-twice chosen v [] = refl
 hides-twice chosen v (m ∷ ms) =
     elim (is_chosen chosen m) as (λ b. ((not (not b) && covers v m) || list_any (λ n. not (not (is_chosen chosen n)) && covers v n) ms) ≡ ((b && covers v m) || list_any (hides chosen v) ms)) [
-      true ↦ ap (λ (b : Bool). covers v m || b) (hides-twice chosen v ms)
+      | true ↦ ap (λ (b : Bool). covers v m || b) (hides-twice chosen v ms)
       | false ↦ hides-twice chosen v ms
     ]
 
@@ -193,7 +193,7 @@ pub find-rows :
 find-rows v [] = refl
 find-rows v (m ∷ ms) =
     elim (covers v m) as (λ b. (if b then Some m.row else find (row_covers v) (map (λ n. n.row) ms)) ≡ option_map (λ n. n.row) (if b then Some m else covering ms v)) [
-      true ↦ refl
+      | true ↦ refl
       | false ↦ find-rows v ms
     ]
 
@@ -206,7 +206,7 @@ pub found-passes : (q : Mapping → Bool) (ms : List Mapping) (m : Mapping) → 
 found-passes q [] m is = absurd (cc)
 found-passes q (n ∷ ms) m is =
     elim (q n) as (λ b. q n ≡ b → q m ≡ true) [
-      true ↦ λ yes. let same : Some n ≡ Some m = rw yes at is in ap (λ (o : Option Mapping). passes_in q o) (sym same) ∙ yes
+      | true ↦ λ yes. let same : Some n ≡ Some m = rw yes at is in ap (λ (o : Option Mapping). passes_in q o) (sym same) ∙ yes
       | false ↦ λ no. found-passes q ms m (rw no at is)
     ] refl
 
@@ -214,7 +214,7 @@ pub found-holds : (P : Mapping → Type 0) (q : Mapping → Bool) (ms : List Map
 found-holds P q [] m all is = absurd (cc)
 found-holds P q (n ∷ ms) m all is =
     elim (q n) as (λ b. q n ≡ b → P m) [
-      true ↦ λ yes.
+      | true ↦ λ yes.
           let same : Some n ≡ Some m = rw yes at is in
           subst (λ (o : Option Mapping). IfSome o P) same (all 0 n (omega arith))
       | false ↦ λ no. found-holds P q ms m (λ k d within. all (suc k) d (omega arith)) (rw no at is)
@@ -235,7 +235,7 @@ pub fold-followed :
 fold-followed from to first count v [] t one = refl
 fold-followed from to first count v (m ∷ ms) t one =
     elim (covers v m) as (λ b. covers v m ≡ b → fold (follows from to first count v) t (m ∷ ms) ≡ followed_by from to first count v (covering (m ∷ ms) v) t) [
-      true ↦ λ is.
+      | true ↦ λ is.
           let alone : is_covered ms v ≡ false = not-true _ (rw is at one) in
           let here : covering (m ∷ ms) v ≡ Some m = rw is refl in
           fold-none from to first count v ms (followed from to first count v m t) alone

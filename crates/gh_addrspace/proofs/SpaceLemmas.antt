@@ -232,7 +232,7 @@ module _
         let old = shows.access v ∙ access-covering spans hs ms v in
         let new = access-covering spans hs' ms v in
         elim (covering ms v) as (λ o. covering ms v ≡ o → at pages v ≡ access_of spans hs' (map (λ m. m.row) ms) v) [
-          None ↦ λ none.
+          | None ↦ λ none.
               let stayed = rw none at (followed-pages v) in
               let nowhere = rw none at old in
               rw (new, none) (stayed ∙ nowhere)
@@ -241,7 +241,7 @@ module _
               let named = found-holds (IsNamed spans) (covers v) ms m shows.named found in
               elim (spans m.row.extent.0) as (λ o. spans m.row.extent.0 ≡ o → IsSomeAnd o (λ span. m.page.0 ≡ span.first.0 + m.row.offset)
               → at pages v ≡ access_of spans hs' (map (λ n. n.row) ms) v) [
-                None ↦ λ is no. absurd no
+                | None ↦ λ is no. absurd no
                 | Some span ↦ λ is place.
                     let before = rw (found, is, ← place) at old in
                     let went = rw found at (followed-pages v) in

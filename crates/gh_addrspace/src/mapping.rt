@@ -54,7 +54,12 @@ impl Chosen {
     {
         let row = mapping.row;
         match self {
-            Chosen::Pages { extent, base, offset, count } => {
+            Chosen::Pages {
+                extent,
+                base,
+                offset,
+                count,
+            } => {
                 row.handle == 0
                     && row.extent == extent
                     && row.base == base

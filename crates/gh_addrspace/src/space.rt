@@ -124,13 +124,7 @@ impl Space {
     /// Takes the row of the map call away that is of these pages of the extent; its pages lead nowhere.
     ///
     /// `AddrInval` where there is none.
-    pub fn unmap(
-        &mut self,
-        extent: Serial,
-        base: u64,
-        offset: u64,
-        count: u64,
-    ) -> Result<(), Errno>
+    pub fn unmap(&mut self, extent: Serial, base: u64, offset: u64, count: u64) -> Result<(), Errno>
         ensures refusal { result_err result
             ≡ unmap_refusal self.old (Chosen.Pages extent base offset count) }
         ensures unmapped { OnOk result

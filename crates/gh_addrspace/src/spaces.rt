@@ -31,16 +31,16 @@ pub trait Spaces {
             (λ span. span.first.0 + span.count ≤ NUMBERED_PAGES) }
         ensures refusal { IfOk result (λ answer. IsSomeAnd (space_of self.old space.0)
             (λ s. result_err answer
-                ≡ span_map_refusal s row (H.span_of holders.now row.extent.0))) }
+            ≡ span_map_refusal s row (H.span_of holders.now row.extent.0))) }
         ensures mapped { IfOk result (λ answer. OnOk answer
             (Changes (space_of self.old) (space_of self.new) space.0
-                (λ s t. MapsIn s t (H.holders holders.now) row
-                    (H.span_of holders.now row.extent.0)))) }
+            (λ s t. MapsIn s t (H.holders holders.now) row
+            (H.span_of holders.now row.extent.0)))) }
         ensures refused { IfOk result (λ answer. OnErr answer
             (Stay (space_of self.old) (space_of self.new))) }
         ensures no_memory { OnErr result (Stay (space_of self.old) (space_of self.new)) }
         ensures shows { Becomes (KeepsShowing (H.span_of holders.now)
-                (H.holders holders.now) (H.holders holders.now))
+            (H.holders holders.now) (H.holders holders.now))
             (space_of self.old space.0) (space_of self.new space.0) };
 
     /// Takes the rows of a parcel's handle away from a space.
@@ -50,7 +50,7 @@ pub trait Spaces {
             (λ s t. LeavesOthers s t (Chosen.Parcel handle)) }
         ensures shows { (spans : ℕ → Option Spanned) (holders : List Number)
             → Becomes (KeepsShowing spans holders holders)
-                (space_of self.old space.0) (space_of self.new space.0) };
+            (space_of self.old space.0) (space_of self.new space.0) };
 
     /// The row that covers a page of a space; none where no row does.
     fn row_at(&self, space: Serial, v: u16) -> Option<MapRow>
@@ -65,6 +65,6 @@ pub trait Spaces {
         ensures shows { (spans : ℕ → Option Spanned) (holders : List Number)
             → HoldsRun holders from.0 first.0 count
             → (space : ℕ) → Becomes
-                (KeepsShowing spans holders (move_pages first.0 count to holders))
-                (space_of self.old space) (space_of self.new space) };
+            (KeepsShowing spans holders (move_pages first.0 count to holders))
+            (space_of self.old space) (space_of self.new space) };
 }

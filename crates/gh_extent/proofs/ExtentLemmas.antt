@@ -21,7 +21,7 @@ pub found : (P : ExtentRow → Type 0) (test : ExtentRow → Bool) (rows : List 
 found P test [] all = tt
 found P test (r ∷ rows) all =
     elim (test r) as (λ b. IfSome (if b then Some r else find test rows) P) [
-      true ↦ all 0 r (omega arith)
+      | true ↦ all 0 r (omega arith)
       | false ↦ found P test rows (λ k d within. all (suc k) d (omega arith))
     ]
 
@@ -30,7 +30,7 @@ pub found_serial : (extent : Serial) (rows : List ExtentRow) → IfSome (find (i
 found_serial extent [] = tt
 found_serial extent (r ∷ rows) =
     elim (is_extent extent.0 r) as (λ b. is_extent extent.0 r ≡ b → IfSome (if b then Some r else find (is_extent extent.0) rows) (λ row. row.serial ≡ extent)) [
-      true ↦ λ is. same_serial r.serial extent (eqb-true _ _ is)
+      | true ↦ λ is. same_serial r.serial extent (eqb-true _ _ is)
       | false ↦ λ is. found_serial extent rows
     ] refl
 

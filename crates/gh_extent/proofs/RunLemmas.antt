@@ -230,7 +230,7 @@ pub place-insert :
 place-insert q [] x passes = rw passes refl
 place-insert q (y ∷ xs) x passes =
     elim (q y) as (λ b. q y ≡ b → prefix_len q (insert (y ∷ xs) (prefix_len q (y ∷ xs)) x) ≡ prefix_len q (y ∷ xs) + 1) [
-      true ↦ λ is. rw (is, one-add, is) (omega (arith, place-insert q xs x passes))
+      | true ↦ λ is. rw (is, one-add, is) (omega (arith, place-insert q xs x passes))
       | false ↦ λ is. rw (is, passes, is) refl
     ] refl
 
@@ -350,8 +350,12 @@ module _
 
   pub parted-room : length rs < length (spread 0 rs)
   parted-room =
-      omega (arith, length-runs (insert rs at (part_to p d)) 0 parted-order, ap length parted-same,
-      length-insert rs at (part_to p d) (omega (arith, parted-there)))
+      omega (
+        arith,
+        length-runs (insert rs at (part_to p d)) 0 parted-order,
+        ap length parted-same,
+        length-insert rs at (part_to p d) (omega (arith, parted-there)),
+      )
 
   pub parted-place : at + 1 ≡ prefix_len (ends_by p) (insert rs at (part_to p d))
   parted-place = rw place (sym (place-insert (ends_by p) rs (part_to p d) (le-leb p p (omega arith))))
@@ -421,7 +425,7 @@ list_all-take q xs zero within = le-leb 0 (prefix_len q xs) (omega arith)
 list_all-take q [] (suc n) within = absurd (omega arith)
 list_all-take q (x ∷ xs) (suc n) within =
     elim (q x) as (λ b. q x ≡ b → nat_le (suc n) (prefix_len q (x ∷ xs)) ≡ list_all q (take (suc n) (x ∷ xs))) [
-      true ↦ λ is. rw (is, leb-next) (list_all-take q xs n (omega arith))
+      | true ↦ λ is. rw (is, leb-next) (list_all-take q xs n (omega arith))
       | false ↦ λ is. rw is (lt-leb (suc n) 0 (omega arith))
     ] refl
 

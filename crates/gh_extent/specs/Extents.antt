@@ -91,9 +91,9 @@ row_derive_refusal s offset count access None = None
 row_derive_refusal s offset count access (Some parent) =
     if nat_lt parent.count (offset + count) then Some ArgSize
     else if access_fits access parent.access.0
-         && holds_all s.holders parent.serial.0 (parent.first.0 + offset) count
-         then None
-         else Some Denied
+    && holds_all s.holders parent.serial.0 (parent.first.0 + offset) count
+    then None
+    else Some Denied
 
 abbrev pub derive_refusal : Extents → ℕ → ℕ → ℕ → ℕ → Option Errno
 derive_refusal s parent offset count access =

@@ -7,6 +7,5 @@ mod runs;
 
 pub use extents::{EXTENT_PAGES, Extents};
 
-
 #[cfg(test)]
 mod tests;

@@ -4,7 +4,6 @@ ghost use Rattle.std.specs.Prelude.{◌≡◌, ◌∷◌, ◌++◌, ◌+◌, ◌
 ghost use Rattle.std.specs.List.{prefix_len, position};
 ghost use Rattle.std.specs.Option.{option_map};
 ghost use Rattle.gh_extent.specs.Runs.{end_of, Rising, ends_by, spread};
-
 ghost use Rattle.gh_model.specs.Boot.{move_pages};
 ghost use Rattle.gh_model.specs.Memory.{is_serial};
 

@@ -6,13 +6,18 @@ use gh_model::{Holders, Span};
 use std::test::Fail;
 
 const ROOT: Serial = Serial(4);
+
 const FIRST: Serial = Serial(5);
+
 const SECOND: Serial = Serial(6);
 
 #[test]
 fn a_derived_range_goes_back_to_its_parent(rt: HostRuntime) -> Result<(), Fail> {
     let mut extents = Extents::new(rt.alloc(), 8, ROOT)?;
-    assert_eq!(rt; extents.derive(FIRST, ROOT, 6, 3, Access(7))?, Err(Errno::ArgSize));
+    assert_eq!(rt;
+        extents.derive(FIRST, ROOT, 6, 3, Access(7))?,
+        Err(Errno::ArgSize)
+    );
     assert_eq!(rt; extents.derive(FIRST, ROOT, 2, 3, Access(5))?, Ok(()));
     assert_eq!(rt; extents.holder(PageNo(1)), ROOT);
     assert_eq!(rt; extents.holder(PageNo(4)), FIRST);
@@ -51,15 +56,32 @@ fn siblings_donate_the_pages_that_they_hold(rt: HostRuntime) -> Result<(), Fail>
     let mut extents = Extents::new(rt.alloc(), 8, ROOT)?;
     extents.add(FIRST, ROOT, span)?;
     extents.move_run(ROOT, FIRST, PageNo(0), 4);
-    assert_eq!(rt; extents.derive(SECOND, ROOT, 0, 8, Access(7))?, Err(Errno::Denied));
+    assert_eq!(rt;
+        extents.derive(SECOND, ROOT, 0, 8, Access(7))?,
+        Err(Errno::Denied)
+    );
     extents.add(SECOND, ROOT, span)?;
     extents.move_run(ROOT, SECOND, PageNo(4), 4);
     let cases = [
         (Relation::ToSibling, FIRST, SECOND, 0, 2, Ok(())),
         (Relation::ToSibling, FIRST, SECOND, 1, 3, Err(Errno::Denied)),
         (Relation::ToChild, FIRST, SECOND, 2, 1, Err(Errno::ArgInval)),
-        (Relation::ToSibling, FIRST, FIRST, 2, 1, Err(Errno::ArgInval)),
-        (Relation::ToParent, SECOND, ROOT, 7, 2, Err(Errno::AddrInval)),
+        (
+            Relation::ToSibling,
+            FIRST,
+            FIRST,
+            2,
+            1,
+            Err(Errno::ArgInval),
+        ),
+        (
+            Relation::ToParent,
+            SECOND,
+            ROOT,
+            7,
+            2,
+            Err(Errno::AddrInval),
+        ),
         (Relation::ToParent, SECOND, ROOT, 7, 1, Ok(())),
     ];
     for (relation, from, to, offset, count, answer) in cases {
