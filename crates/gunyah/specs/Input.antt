@@ -2,6 +2,7 @@
 use Rattle.std.specs.Prelude.{◌≡◌, ◌+◌, ◌-◌, ⊤, ℕ, Bool, List, [], ◌∷◌, ◌++◌, length, count_by, nat_le, nat_lt, Option, Some, None, Result, Ok, Err, if◌then◌else◌}
 use Rattle.std.specs.List.{position}
 use Rattle.gh_base.specs.declared.ids.CpuNo.{CpuNo}
+use Rattle.gh_base.specs.declared.limits.TheConstants.{BOOT_FILE_BYTES}
 use Rattle.gh_bootfile.specs.BootFile.{boot_of, told}
 use Rattle.gh_model.specs.Told.{told_number}
 use Rattle.gh_callfile.specs.CallFile.{Reading, Good, BadAt, reading, calls_of_lines}
@@ -23,7 +24,7 @@ and_then (Err fault) next = Err fault
 
 -- the file has at most 8,388,608 bytes
 abbrev pub is_small : List ℕ → Bool
-is_small text = nat_le (length text) 8388608
+is_small text = nat_le (length text) BOOT_FILE_BYTES
 
 -- a file that isn't too large; files count from 1
 abbrev pub sized : ℕ → List ℕ → Result (List ℕ) BadFile

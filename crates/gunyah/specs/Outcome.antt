@@ -1,8 +1,9 @@
 -- What a command does to its files and its sink.
-use Rattle.std.specs.Prelude.{◌≡◌, ◌<◌, ◌-◌, ◌++◌, ◌⊎◌, ⊤, ℕ, Bool, true, List, [], ◌∷◌, length, take, map, Option, IfSome, IsOk, Result, Ok, Err}
+use Rattle.std.specs.Prelude.{◌≡◌, ◌<◌, ◌+◌, ◌-◌, ◌++◌, ◌⊎◌, ⊤, ℕ, Bool, true, List, [], ◌∷◌, length, take, map, Option, IfSome, IsOk, Result, Ok, Err}
 use Rattle.std.specs.List.{All}
 use Rattle.std.specs.Option.{option_map, option_map_or}
 use Rattle.std.specs.Io.KnownBytes.{append_known}
+use Rattle.gh_base.specs.declared.limits.TheConstants.{BOOT_FILE_BYTES}
 use Rattle.gh_io.specs.Outside.{Rose, request}
 use Rattle.gh_io.specs.declared.files.Request.{Request}
 use Rattle.gunyah.specs.Input.{step_input, is_small}
@@ -20,9 +21,13 @@ use Rattle.gunyah.specs.declared.status.Status.TheVariants.{Done, Usage, ReadFau
 abbrev pub told : Option (List ℕ) → ℕ
 told known = option_map_or (λ bytes. length bytes) known 0
 
--- what is asked for of these files: their limit, and one byte more
+-- a byte more than a file may have: so much is asked for, so that a file that is too large shows
+abbrev pub most_asked : ℕ
+most_asked = BOOT_FILE_BYTES + 1
+
+-- what is asked for of these files
 abbrev pub requests : List (List ℕ) → List Request
-requests names = map (λ name. request name 8388609) names
+requests names = map (λ name. request name most_asked) names
 
 -- how many requests were made between
 abbrev pub made : List Request → List Request → ℕ
@@ -165,10 +170,10 @@ ReadOf (Err stopped) count all = AskedOf (status_of_stop stopped) count all
 
 -- a load made its request; where memory ran out it may not have
 abbrev pub AsksFor : {X : Type 0} → Result X ReadErr → List Request → List Request → List ℕ → Type 0
-AsksFor (Ok value) before now name = now ≡ before ++ request name 8388609 ∷ []
-AsksFor (Err stop.Failed) before now name = now ≡ before ++ request name 8388609 ∷ []
-AsksFor (Err (stop.Bad fault)) before now name = now ≡ before ++ request name 8388609 ∷ []
-AsksFor (Err stop.NoMemory) before now name = (now ≡ before) ⊎ (now ≡ before ++ request name 8388609 ∷ [])
+AsksFor (Ok value) before now name = now ≡ before ++ request name most_asked ∷ []
+AsksFor (Err stop.Failed) before now name = now ≡ before ++ request name most_asked ∷ []
+AsksFor (Err (stop.Bad fault)) before now name = now ≡ before ++ request name most_asked ∷ []
+AsksFor (Err stop.NoMemory) before now name = (now ≡ before) ⊎ (now ≡ before ++ request name most_asked ∷ [])
 
 -- the one fault that a load finds in a file
 abbrev pub FindsLarge : {X : Type 0} → Result X ReadErr → ℕ → Type 0
