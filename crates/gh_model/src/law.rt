@@ -1,8 +1,12 @@
-//! What holds of every run by whole calls.
+//! What holds of every run by whole calls, and of every legal call as the history grows.
 
-ghost use Rattle.std.specs.Prelude.{◌≡◌, ℕ, false};
+ghost use Rattle.std.specs.Prelude.{◌≡◌, ◌++◌, ℕ, List, false};
+ghost use Rattle.gh_model.specs.declared.state.State.{State as Rows};
 ghost use Rattle.gh_model.specs.Boot.{has_manager};
 ghost use Rattle.gh_model.specs.Calls.{run_of};
+ghost use Rattle.gh_model.specs.History.{Event};
+ghost use Rattle.gh_model.specs.Legal.{CallIs};
+ghost use Rattle.gh_model.specs.Marks.{InTurn, Made};
 ghost use Rattle.gh_model.specs.Programs.{frames_made};
 ghost use Rattle.gh_model.specs.Run.{IsRun};
 
@@ -20,3 +24,10 @@ pub fn run_is_legal<P: Program>(boot: &Boot)
 {
     let _lines = boot.lines();
 }
+
+/// What is said of the finished calls of a CPU stays as the history grows. The function does nothing;
+/// its clause is the law.
+pub fn calls_stay_legal()
+    ensures { (boot : Rows) (history more : List Event) (cpu : ℕ) (calls : List Made)
+        → InTurn (CallIs boot history cpu) calls → InTurn (CallIs boot (history ++ more) cpu) calls }
+{}

@@ -25,7 +25,7 @@ pub use boot::Boot;
 pub use boot_line::BootLine;
 pub use entry::Entry;
 pub use file_err::FileErr;
-pub use law::run_is_legal;
+pub use law::{calls_stay_legal, run_is_legal};
 pub use memory::{Holders, MapRow, Span};
 pub use plain::{Judged, Plain};
 pub use program::{Line, Program, Standing, Step};
