@@ -8,6 +8,7 @@ use Rattle.std.proofs.lemmas.List.Folds.{find-append}
 use Rattle.gh_base.specs.Kind.{kind_number}
 use Rattle.gh_base.specs.declared.kind.Kind.{Kind}
 use Rattle.gh_base.specs.declared.kind.Kind.TheVariants as kind
+use Rattle.gh_base.specs.declared.limits.TheConstants.{OBJECT_INDICES, PARTITION_UNITS}
 use Rattle.gh_model.specs.declared.boot_line.BootLine.{BootLine}
 use Rattle.gh_model.specs.declared.boot_line.BootLine.TheVariants.{Pages, Partition, Cspace, Addrspace, Doorbell, RootExtent, Extent, Msgqueue, Map, Cap, Vm, Rm, Link}
 use Rattle.gh_model.specs.declared.rows.CpuRow.{CpuRow}
@@ -20,6 +21,7 @@ use Rattle.gh_model.specs.Boot.{after_line, empty_state, boot_object, cpu_cspace
 use Rattle.gh_model.specs.Boot.{with_object as state_with_object, with_partition as state_with_partition, with_bell as state_with_bell, with_root as state_with_root, with_extent as state_with_extent, with_queue as state_with_queue, with_mapping as state_with_mapping, with_capability as state_with_capability, with_cpu as state_with_cpu, with_link as state_with_link}
 use Rattle.gh_model.specs.Rows.{is_partition}
 use Rattle.gh_model.specs.Units.{row_quota}
+use Rattle.gh_model.proofs.FittingLemmas.{quota_more}
 use Rattle.gh_bootfile.specs.declared.tables.Tables.{Tables}
 use Rattle.gh_bootfile.specs.Tables.{places, units_at, slot_place, object_key, partition_key, extent_key, Shows, ShowsObjects, ShowsPartitions, ShowsExtents, HasRoom}
 use Rattle.gh_bootfile.specs.TablesLines.{blank_tables, new_object, with_object, with_partition, with_cspace, with_root, with_extent, with_queue, with_mapping, with_slot, with_capability, with_cpu, with_link, with_line, marked_if}
@@ -76,19 +78,9 @@ manager-kept (cpu ∷ cpus) row old new =
       | inr other ↦ rw other (manager-kept cpus row (rw other at old) new)
     ]
 
--- a small quota is added
-quota-more : (partitions : List PartitionRow) (row : PartitionRow) (n : ℕ) → row_quota (find (is_partition n) partitions) ≤ 128 → row.quota ≤ 128 → row_quota (find (is_partition n) (partitions ++ row ∷ [])) ≤ 128
-quota-more partitions row n old new =
-    rw find-append (either (find (is_partition n) partitions) (eqb row.serial.0 n) old)
-  where
-    either : (o : Option PartitionRow) (b : Bool) → row_quota o ≤ 128 → row_quota (option_or o (cond b (Some row) None)) ≤ 128
-    either None true old = new
-    either None false old = old
-    either (Some first) b old = old
-
 module _ (t : Tables) (s : State) (shows : Shows t s) (room : HasRoom t) where
   -- an object with the next serial
-  objects-put : (k : Kind) (partition cost partitions cspaces : ℕ) → s.next_serial ≤ 1024 → 0 < partition → partition < s.next_serial + 1
+  objects-put : (k : Kind) (partition cost partitions cspaces : ℕ) → s.next_serial ≤ OBJECT_INDICES → 0 < partition → partition < s.next_serial + 1
       → partitions ≡ t.partition_count + cond (eqb (kind_number k) 1) 1 0 → cspaces ≡ t.cspace_count + cond (eqb (kind_number k) 2) 1 0
       → ShowsObjects (s.next_serial + 1) (set t.objects s.next_serial (Some (new_object s.next_serial k partition cost))) (set t.used partition (units_at t.used partition + cost)) partitions cspaces (s.objects ++ boot_object s k partition cost ∷ [])
   objects-put k partition cost partitions cspaces few some below are spaces = record {
@@ -104,20 +96,20 @@ module _ (t : Tables) (s : State) (shows : Shows t s) (room : HasRoom t) where
   extents-pass : ShowsExtents (s.next_serial + 1) t.extents t.is_rooted s.extents
   extents-pass = record { rows = ShowsRows-pass extent_key s.next_serial t.extents s.extents shows.extents.rows; rooted = shows.extents.rooted }
 
-  extents-put : (row : ExtentRow) → row.serial.0 ≡ s.next_serial → s.next_serial ≤ 1024 → ShowsExtents (s.next_serial + 1) (set t.extents s.next_serial (Some row)) true (s.extents ++ row ∷ [])
+  extents-put : (row : ExtentRow) → row.serial.0 ≡ s.next_serial → s.next_serial ≤ OBJECT_INDICES → ShowsExtents (s.next_serial + 1) (set t.extents s.next_serial (Some row)) true (s.extents ++ row ∷ [])
   extents-put row is few = record {
     rows = ShowsRows-put extent_key s.next_serial t.extents s.extents shows.extents.rows row is shows.first (omega (arith, room.extents, few));
     rooted = sym (lt-ltb 0 (length (s.extents ++ row ∷ [])) (omega (arith, length-append s.extents (row ∷ []))));
   }
 
-  pub Shows-partition : (quota : ℕ) → s.next_serial ≤ 1024 → quota ≤ 128 → Shows (with_partition t quota) (state_with_partition s quota)
+  pub Shows-partition : (quota : ℕ) → s.next_serial ≤ OBJECT_INDICES → quota ≤ PARTITION_UNITS → Shows (with_partition t quota) (state_with_partition s quota)
   Shows-partition quota few small = rw shows.next (record {
     next = refl;
     first = omega arith;
     objects = objects-put kind.Partition s.next_serial 1 (t.partition_count + 1) t.cspace_count few shows.first (omega arith) refl (omega arith);
     partitions = record {
       rows = ShowsRows-put partition_key s.next_serial t.partitions s.partitions shows.partitions.rows _ refl shows.first (omega (arith, room.partitions, few));
-      quota = λ n. quota-more s.partitions _ n (shows.partitions.quota n) small;
+      quota = λ n. quota_more s.partitions _ n (shows.partitions.quota n) small;
       given = λ n some. given_by-more s.partitions _ n refl some ∙ shows.partitions.given n some;
     };
     extents = extents-pass;
@@ -130,7 +122,7 @@ module _ (t : Tables) (s : State) (shows : Shows t s) (room : HasRoom t) where
     manager = shows.manager;
   })
 
-  module _ (partition : ℕ) (few : s.next_serial ≤ 1024) (some : 0 < partition) (given : partition < s.next_serial) where
+  module _ (partition : ℕ) (few : s.next_serial ≤ OBJECT_INDICES) (some : 0 < partition) (given : partition < s.next_serial) where
     pub Shows-object : (k : Kind) (cost partitions cspaces : ℕ) → partitions ≡ t.partition_count + cond (eqb (kind_number k) 1) 1 0 → cspaces ≡ t.cspace_count + cond (eqb (kind_number k) 2) 1 0
         → Shows (record (with_object t k partition cost) { partition_count = partitions; cspace_count = cspaces }) (state_with_object s k partition cost)
     Shows-object k cost partitions cspaces are spaces = rw shows.next (record {

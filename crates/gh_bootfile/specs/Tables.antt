@@ -5,6 +5,7 @@ use Rattle.std.specs.List.{list_any}
 use Rattle.gh_base.specs.Kind.{kind_number}
 use Rattle.gh_base.specs.declared.kind.Kind.{Kind}
 use Rattle.gh_base.specs.declared.kind.Kind.TheVariants as kind
+use Rattle.gh_base.specs.declared.limits.TheConstants.{OBJECT_INDICES, PARTITION_UNITS}
 use Rattle.gh_model.specs.declared.rows.ObjectRow.{ObjectRow}
 use Rattle.gh_model.specs.declared.rows.PartitionRow.{PartitionRow}
 use Rattle.gh_model.specs.declared.rows.ExtentRow.{ExtentRow}
@@ -18,7 +19,7 @@ use Rattle.gh_bootfile.specs.declared.tables.Tables.{Tables}
 
 -- places of a table: those of the serials 1 to 1,024, and one that no object has
 abbrev pub places : ℕ
-places = 1025
+places = OBJECT_INDICES + 1
 
 -- the row of a serial; none past the table's end
 abbrev pub row_at : {R : Type 0} → List (Option R) → ℕ → Option R
@@ -85,7 +86,7 @@ pub record ShowsObjects (next : ℕ) (table : List (Option ObjectRow)) (used : L
 -- a table shows the partitions: the quota of each is small, and none gave units to another
 pub record ShowsPartitions (next : ℕ) (table : List (Option PartitionRow)) (partitions : List PartitionRow) : Type 0 where
   pub rows : ShowsRows partition_key next table partitions
-  pub quota : (n : ℕ) → row_quota (find (λ (row : PartitionRow). partition_key row == n) partitions) ≤ 128
+  pub quota : (n : ℕ) → row_quota (find (λ (row : PartitionRow). partition_key row == n) partitions) ≤ PARTITION_UNITS
   pub given : (n : ℕ) → 0 < n → given_by partitions n ≡ 0
 
 -- a table shows the extents, and a mark whether there is one

@@ -3,6 +3,7 @@ use Rattle.std.specs.Prelude.{◌≡◌, ℕ, ◌+◌, ◌*◌, ◌<◌, ◌≤�
 use Rattle.gh_base.specs.declared.kind.Kind.{Kind}
 use Rattle.gh_base.specs.declared.kind.Kind.TheVariants as kind
 use Rattle.gh_base.specs.declared.kind.Stage.TheVariants.{Active}
+use Rattle.gh_base.specs.declared.limits.TheConstants.{OBJECT_INDICES}
 use Rattle.gh_model.specs.declared.boot_line.BootLine.{BootLine}
 use Rattle.gh_model.specs.declared.boot_line.BootLine.TheVariants.{Pages, Partition, Cspace, Addrspace, Doorbell, RootExtent, Extent, Msgqueue, Map, Cap, Vm, Rm, Link}
 use Rattle.gh_model.specs.declared.rows.ExtentRow.{ExtentRow}
@@ -10,6 +11,7 @@ use Rattle.gh_model.specs.declared.rows.MappingRow.{MappingRow}
 use Rattle.gh_model.specs.declared.rows.ObjectRow.{ObjectRow}
 use Rattle.gh_model.specs.declared.state.State.{State}
 use Rattle.gh_model.specs.Boot.{serial_of, move_pages, queue_cost, cpu_vms, cpu_cspace, line_fits}
+use Rattle.gh_model.specs.Fitting.{IsFitting}
 use Rattle.std.specs.Option.{option_map_or}
 use Rattle.gh_bootfile.specs.Tables.{places, row_at, units_at, mappings_at, slot_place, HasRoom, Shows}
 use Rattle.gh_bootfile.specs.declared.tables.Tables.{Tables}
@@ -86,15 +88,16 @@ blank_tables places pages = record { objects = replicate places None; partitions
 -- there is a place for an object, and a partition whose units can be counted with its
 pub record CanMake (t : Tables) (partition cost : ℕ) : Type 0 where
   pub room : HasRoom t
-  pub serial : t.next_serial ≤ 1024
+  pub serial : t.next_serial ≤ OBJECT_INDICES
   pub home : partition < places
   pub units : units_at t.used partition + cost < 2 ^ 16
 
--- the line fits in the state that the tables show
+-- the line fits in the state that the tables show, which is bounded as behind lines that fit
 pub record CanTake (t : Tables) (line : BootLine) : Type 0 where
   pub room : HasRoom t
   pub state : State
   pub shows : Shows t state
+  pub fitting : IsFitting state
   pub fits : line_fits state line ≡ true
 
 -- the line makes an object

@@ -1,6 +1,7 @@
 //! Which CPUs and links a next line may make.
 
-ghost use Rattle.std.specs.Prelude.{◌≡◌, ◌==◌, is_some};
+ghost use Rattle.std.specs.Prelude.{◌≡◌, ◌==◌, ◌≤◌, true, is_some};
+ghost use Rattle.gh_base.specs.declared.limits.TheConstants.{VMS};
 ghost use Rattle.std.specs.List.{list_any};
 ghost use Rattle.gh_model.specs.Boot.{boot_state, line_fits, may_attach, is_attachment, is_linked_queue, manager_cspace};
 ghost use Rattle.gh_model.specs.Rows.{cpu_row as state_cpu_row};
@@ -8,7 +9,7 @@ ghost use Rattle.gh_bootfile.specs.Draft.{may_link};
 
 use crate::draft::Draft;
 use crate::tables_cpus::{cpu_row, manager_cspace, vm_count};
-use gh_base::{CpuNo, Kind, Serial, VmId};
+use gh_base::{CpuNo, Kind, Serial, VMS, VmId};
 use gh_model::{BootLine, CpuRow, LinkRow};
 
 /// Whether a CPU is attached to it.
@@ -46,13 +47,15 @@ impl Draft {
     pub fn vm_fits(&self, cspace: Serial, space: Serial) -> bool
         ensures { result ≡ line_fits (boot_state self.now) (BootLine.Vm cspace space) }
     {
-        self.may_attach(cspace, space) && vm_count(self.cpus()) < 8 && self.cpus().len() <= 8
+        self.may_attach(cspace, space) && vm_count(self.cpus()) < VMS as usize
     }
 
+    /// Whether the CPU is there; only the manager's and those of eight VMs are.
     fn has_cpu(&self, cpu: CpuNo) -> bool
-        ensures { result ≡ is_some (state_cpu_row (boot_state self.now) cpu.0) }
+        ensures there { result ≡ is_some (state_cpu_row (boot_state self.now) cpu.0) }
+        ensures small { result ≡ true → cpu.0 ≤ VMS }
     {
-        cpu_row(self.cpus(), cpu).is_some()
+        cpu_row(self.tables.cpus.as_slice(), cpu).is_some()
     }
 
     /// The capability space of the resource manager; serial 0 where there is none.
@@ -69,17 +72,16 @@ impl Draft {
             && self.may_attach(cspace, space)
             && self.is_free_slot(cspace, 1)
             && self.is_kind(partition, Kind::Partition)
-            && self.cpus().len() <= 8
     }
 
     /// Whether the VM, the extent and the queues are there, and neither the VM nor a queue is in a
     /// link yet.
     fn may_link(&self, vm: VmId, extent: Serial, request: Serial, reply: Serial) -> bool
-        ensures { result ≡ may_link (boot_state self.now) vm.0 extent.0 request.0 reply.0 }
+        ensures may { result ≡ may_link (boot_state self.now) vm.0 extent.0 request.0 reply.0 }
+        ensures small { result ≡ true → vm.0 ≤ VMS }
     {
         self.has_cpu(CpuNo(0))
             && 0 < vm.0
-            && vm.0 <= 8
             && self.has_cpu(CpuNo(vm.0))
             && !is_linked_vm(self.links(), vm)
             && self.is_kind(extent, Kind::Extent)

@@ -5,7 +5,7 @@ ghost use Rattle.std.specs.List.{list_all};
 ghost use Rattle.gh_model.specs.Boot.{boot_state, line_fits, is_access, access_fits, extent_fits, mapping_fits};
 
 use crate::draft::Draft;
-use crate::tables_extents::{NewExtent, first_page};
+use crate::tables_extents::NewExtent;
 use gh_base::{Access, Kind, Serial};
 use gh_model::{BootLine, ExtentRow};
 
@@ -47,13 +47,13 @@ impl Draft {
     pub fn root_fits(&self, partition: Serial) -> bool
         ensures { result ≡ line_fits (boot_state self.now) (BootLine.RootExtent partition) }
     {
-        self.has_units(partition, 1) && self.has_no_extent() && self.holders().len() <= 1024
+        self.has_units(partition, 1) && self.has_no_extent()
     }
 
     /// Whether there is a parent whose span and access have the new extent's, and which holds what
     /// the new one takes over.
     fn extent_fits(&self, new: NewExtent, parent: Option<ExtentRow>) -> bool
-        requires span { IfSome parent (λ row. row.first.0 + new.offset + new.count
+        requires span { IfSome parent (λ row. row.first.0 + row.count
             ≤ length (boot_state self.now).holders) }
         requires held { new.held_offset + new.held_count ≤ new.count }
         ensures { result ≡ extent_fits (boot_state self.now) new.parent.0 new.offset new.count
@@ -79,10 +79,7 @@ impl Draft {
             new.held_count) }
     {
         let parent = self.extent(new.parent);
-        let past = first_page(parent) as usize + new.offset as usize + new.count as usize;
         self.has_units(partition, 1)
-            && past <= self.holders().len()
-            && self.holders().len() <= 1024
             && new.held_offset as u32 + new.held_count as u32 <= new.count as u32
             && self.extent_fits(new, parent)
     }

@@ -9,6 +9,7 @@ use crate::draft::Draft;
 use crate::draft_extents::NewMapping;
 use crate::tables_cpus::vm_count;
 use crate::tables_extents::NewExtent;
+use gh_base::MACHINE_PAGES;
 use gh_model::BootLine;
 
 /// Whether it is a line of 1 to 1,024 pages.
@@ -16,7 +17,7 @@ fn first_fits(line: &BootLine) -> bool
     ensures { result ≡ first_fits line.now }
 {
     match *line {
-        BootLine::Pages { count } => 1 <= count && count <= 1024,
+        BootLine::Pages { count } => 1 <= count && count <= MACHINE_PAGES,
         _ => false,
     }
 }

@@ -5,7 +5,9 @@ ghost use Rattle.gh_model.specs.Boot.{boot_state, line_fits, is_of_kind, is_kind
 
 use crate::draft::Draft;
 use crate::tables_objects::cost_of_queue;
-use gh_base::{Kind, Rights, Serial};
+use gh_base::{
+    CSPACES, Kind, MESSAGE_BYTES, PARTITION_UNITS, PARTITIONS, QUEUE_DEPTH, Rights, Serial,
+};
 use gh_model::{BootLine, ObjectRow};
 
 /// Whether there is an object, and it is of this kind.
@@ -39,21 +41,19 @@ impl Draft {
     pub fn has_units(&self, partition: Serial, cost: u16) -> bool
         ensures { result ≡ has_units (boot_state self.now) partition.0 cost }
     {
-        self.is_kind(partition, Kind::Partition)
-            && cost <= self.free(partition)
-            && self.next_serial() <= 1024
+        self.is_kind(partition, Kind::Partition) && cost <= self.free(partition)
     }
 
     pub fn partition_fits(&self, quota: u16) -> bool
         ensures { result ≡ line_fits (boot_state self.now) (BootLine.Partition quota) }
     {
-        1 <= quota && quota <= 128 && self.partition_count() < 8 && self.next_serial() <= 1024
+        1 <= quota && quota <= PARTITION_UNITS && (self.partition_count() as usize) < PARTITIONS
     }
 
     pub fn cspace_fits(&self, partition: Serial) -> bool
         ensures { result ≡ line_fits (boot_state self.now) (BootLine.Cspace partition) }
     {
-        self.has_units(partition, 4) && self.cspace_count() < 16
+        self.has_units(partition, 4) && (self.cspace_count() as usize) < CSPACES
     }
 
     pub fn queue_fits(&self, partition: Serial, depth: u16, size: u16) -> bool
@@ -61,9 +61,9 @@ impl Draft {
             (BootLine.Msgqueue partition depth size) }
     {
         1 <= depth
-            && depth <= 64
+            && depth as u64 <= QUEUE_DEPTH
             && 1 <= size
-            && size <= 1024
+            && size as usize <= MESSAGE_BYTES
             && self.has_units(partition, cost_of_queue(depth, size))
     }
 

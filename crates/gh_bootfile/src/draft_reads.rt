@@ -1,6 +1,6 @@
 //! What a draft's tables say of the state that its lines make.
 
-ghost use Rattle.std.specs.Prelude.{◌≡◌, ◌==◌, find, filter, length, count_by, nat_lt};
+ghost use Rattle.std.specs.Prelude.{◌≡◌, ◌==◌, ◌+◌, ◌≤◌, IfSome, find, filter, length, count_by, nat_lt};
 ghost use Rattle.std.specs.List.{list_any};
 ghost use Rattle.gh_base.specs.declared.kind.Kind.TheVariants as kind;
 ghost use Rattle.gh_model.specs.Boot.{boot_state, is_kind, kind_count, is_row_of, is_master_of, is_small_queue, overlaps};
@@ -21,7 +21,9 @@ impl Draft {
     }
 
     pub fn extent(&self, serial: Serial) -> Option<ExtentRow>
-        ensures { result ≡ find (is_extent serial.0) (boot_state self.now).extents }
+        ensures found { result ≡ find (is_extent serial.0) (boot_state self.now).extents }
+        ensures span { IfSome result (λ row. row.first.0 + row.count
+            ≤ length (boot_state self.now).holders) }
     {
         row_at(self.tables.extents.as_slice(), serial)
     }
@@ -43,12 +45,6 @@ impl Draft {
     {
         let used = units_at(self.tables.used.as_slice(), partition);
         self.quota(partition).saturating_sub(used)
-    }
-
-    pub fn next_serial(&self) -> u32
-        ensures { result ≡ (boot_state self.now).next_serial }
-    {
-        self.tables.next_serial
     }
 
     pub fn partition_count(&self) -> u16

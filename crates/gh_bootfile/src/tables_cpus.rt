@@ -1,6 +1,7 @@
 //! The slots, CPUs and links that lines make, in the tables.
 
 ghost use Rattle.std.specs.Prelude.{◌≡◌, ◌+◌, ◌*◌, ◌<◌, ◌≤◌, find, length, OnOk, OnErr};
+ghost use Rattle.gh_base.specs.declared.limits.TheConstants.{VMS};
 ghost use Rattle.gh_model.specs.Boot.{cpu_vms, cpu_cspace};
 ghost use Rattle.gh_model.specs.Rows.{is_cpu};
 ghost use Rattle.gh_bootfile.specs.Tables.{slot_place};
@@ -69,7 +70,7 @@ impl Tables {
 
     /// The next VM.
     pub fn add_vm(&mut self, cspace: Serial, space: Serial) -> Result<(), NoMemory>
-        requires { cpu_vms self.old.cpus < 8 }
+        requires { cpu_vms self.old.cpus < VMS }
         ensures ok { OnOk result
             (self.new ≡ with_cpu self.old (cpu_vms self.old.cpus + 1) cspace.0 space.0) }
         ensures no_memory { OnErr result (self.new ≡ self.old) }
@@ -92,7 +93,7 @@ impl Tables {
 
     /// A VM's link, whose queues are in two slots of the resource manager.
     pub fn add_link(&mut self, row: LinkRow) -> Result<(), NoMemory>
-        requires vm { row.vm.0 ≤ 8 }
+        requires vm { row.vm.0 ≤ VMS }
         requires slot { slot_place (cpu_cspace self.old.cpus 0) (2 * row.vm.0 + 1)
             < length self.old.slots }
         ensures ok { OnOk result

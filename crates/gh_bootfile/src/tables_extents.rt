@@ -2,6 +2,7 @@
 
 ghost use Rattle.std.specs.Prelude.{◌≡◌, ◌+◌, ◌<◌, ◌≤◌, length, OnOk, OnErr};
 ghost use Rattle.std.specs.Option.{option_map_or};
+ghost use Rattle.gh_base.specs.declared.limits.TheConstants.{MACHINE_PAGES};
 ghost use Rattle.gh_model.specs.Boot.{move_pages};
 ghost use Rattle.gh_bootfile.specs.TablesLines.{span_start, with_root, with_extent, with_mapping, CanMake};
 
@@ -20,7 +21,7 @@ fn move_run(holders: &mut Sequence<Serial>, first: usize, count: usize, holder: 
 }
 
 /// The first machine page of an extent's span; 0 where there is none.
-pub(crate) fn first_page(extent: Option<ExtentRow>) -> u16
+fn first_page(extent: Option<ExtentRow>) -> u16
     ensures { result ≡ option_map_or (λ row. row.first.0) extent 0 }
 {
     match extent {
@@ -52,7 +53,7 @@ impl Tables {
     /// The extent of all pages, which holds them.
     pub fn add_root(&mut self, partition: Serial)
         requires object { CanMake self.old partition.0 1 }
-        requires pages { length self.old.holders ≤ 1024 }
+        requires pages { length self.old.holders ≤ MACHINE_PAGES }
         ensures { self.new ≡ with_root self.old partition.0 }
     {
         let serial = Serial(self.next_serial);
@@ -76,7 +77,7 @@ impl Tables {
     /// An extent with a parent, whose pages it takes over.
     pub fn add_extent(&mut self, partition: Serial, new: NewExtent)
         requires object { CanMake self.old partition.0 1 }
-        requires small { span_start self.old.extents new.parent.0 + new.offset + new.count ≤ 1024 }
+        requires pages { length self.old.holders ≤ MACHINE_PAGES }
         requires within { span_start self.old.extents new.parent.0 + new.offset + new.count
             ≤ length self.old.holders }
         requires held { new.held_offset + new.held_count ≤ new.count }

@@ -1,6 +1,7 @@
 //! The objects that lines make, in the tables.
 
 ghost use Rattle.std.specs.Prelude.{◌≡◌, ◌<◌, ◌≤◌, length};
+ghost use Rattle.gh_base.specs.declared.limits.TheConstants.{CSPACES, MESSAGE_BYTES, PARTITIONS, QUEUE_DEPTH};
 ghost use Rattle.gh_model.specs.Boot.{queue_cost};
 ghost use Rattle.gh_bootfile.specs.TablesLines.{with_object, with_partition, with_cspace, with_queue, marked_if, CanMake};
 
@@ -10,8 +11,8 @@ use gh_model::{ObjectRow, PartitionRow};
 
 /// Units of a queue: one, and its messages' room in pages, rounded up.
 pub(crate) fn cost_of_queue(depth: u16, size: u16) -> u16
-    requires depth { depth ≤ 64 }
-    requires size { size ≤ 1024 }
+    requires depth { depth ≤ QUEUE_DEPTH }
+    requires size { size ≤ MESSAGE_BYTES }
     ensures cost { result ≡ queue_cost depth size }
     ensures few { result ≤ 17 }
 {
@@ -55,7 +56,7 @@ impl Tables {
     /// A partition, which lives in itself.
     pub fn add_partition(&mut self, quota: u16)
         requires object { CanMake self.old self.old.next_serial 1 }
-        requires few { self.old.partition_count < 8 }
+        requires few { self.old.partition_count < PARTITIONS }
         ensures { self.new ≡ with_partition self.old quota }
     {
         let serial = Serial(self.next_serial);
@@ -73,7 +74,7 @@ impl Tables {
 
     pub fn add_cspace(&mut self, partition: Serial)
         requires object { CanMake self.old partition.0 4 }
-        requires few { self.old.cspace_count < 16 }
+        requires few { self.old.cspace_count < CSPACES }
         ensures { self.new ≡ with_cspace self.old partition.0 }
     {
         self.add_object(Kind::Cspace, partition, 4);
@@ -83,8 +84,8 @@ impl Tables {
     /// A queue of `depth` messages of at most `size` bytes.
     pub fn add_queue(&mut self, partition: Serial, depth: u16, size: u16)
         requires object { CanMake self.old partition.0 (queue_cost depth size) }
-        requires depth { depth ≤ 64 }
-        requires size { size ≤ 1024 }
+        requires depth { depth ≤ QUEUE_DEPTH }
+        requires size { size ≤ MESSAGE_BYTES }
         ensures { self.new ≡ with_queue self.old partition.0 depth size }
     {
         let serial = self.next_serial as usize;

@@ -1,12 +1,10 @@
 -- Steps along the lines of a boot file.
 use Rattle.std.proofs.Common.{◌≡◌, ◌+◌, ◌≤◌, ◌<◌, ℕ, List, length, drop, get_or, fold, IsTrue, refl, subst, sym, suc, add-one, drop-cons, ◌∙◌, arith}
-use Rattle.gh_base.specs.declared.access.Access.{Access}
-use Rattle.gh_base.specs.declared.ids.Serial.{Serial}
 use Rattle.gh_model.specs.declared.boot_line.BootLine.{BootLine}
 use Rattle.gh_model.specs.declared.boot_line.BootLine.TheVariants.{Pages, Partition, Cspace, Addrspace, Doorbell, RootExtent, Extent, Msgqueue, Map, Cap, Vm, Rm, Link}
 use Rattle.gh_model.specs.declared.state.State.{State}
-use Rattle.gh_model.specs.Boot.{line_fits, lines_fit, after_line, first_page, empty_state, boot_state}
-use Rattle.gh_model.proofs.Tests.{and-first, and-second, at_most}
+use Rattle.gh_model.specs.Boot.{line_fits, lines_fit, after_line, empty_state, boot_state}
+use Rattle.gh_model.proofs.Tests.{and-second}
 use Rattle.std.specs.Prelude.{[], ◌∷◌}
 
 -- behind a line that fits, the lines that are left fit
@@ -20,19 +18,6 @@ pub fold_rest : (s : State) (lines : List BootLine) (i : ℕ) (d : BootLine) →
 fold_rest s lines i d within =
     let here : drop i lines ≡ get_or lines i d ∷ drop (suc i) lines = drop-cons lines i d within in
     rw add-one (rw here refl)
-
-pub ruleset along_lines = (lines_fit_rest, fold_rest)
-
--- the span of an extent line that fits lies in the machine
-pub extent_span_fits : (s : State) (line : BootLine) (partition parent : Serial) (offset count : ℕ) (access : Access) (held_offset held_count : ℕ) → line ≡ Extent partition parent offset count access held_offset held_count → IsTrue (line_fits s line) → first_page s parent.0 + offset + count ≤ length s.holders
-extent_span_fits s line partition parent offset count access held_offset held_count is fit =
-    at_most _ _ (and-second _ _ (and-first _ _ (and-first _ _ (and-first _ _ (subst (λ (l : BootLine). IsTrue (line_fits s l)) is fit)))))
-
-pub extent_span_small : (s : State) (line : BootLine) (partition parent : Serial) (offset count : ℕ) (access : Access) (held_offset held_count : ℕ) → line ≡ Extent partition parent offset count access held_offset held_count → IsTrue (line_fits s line) → first_page s parent.0 + offset + count ≤ 1024
-extent_span_small s line partition parent offset count access held_offset held_count is fit =
-    let within : first_page s parent.0 + offset + count ≤ length s.holders = extent_span_fits s line partition parent offset count access held_offset held_count is fit in
-    let pages : length s.holders ≤ 1024 = at_most _ _ (and-second _ _ (and-first _ _ (and-first _ _ (subst (λ (l : BootLine). IsTrue (line_fits s l)) is fit)))) in
-    omega arith
 
 -- no line rings or makes an entry
 pub after_line-rings : (s : State) (line : BootLine) → (after_line s line).rings ≡ s.rings

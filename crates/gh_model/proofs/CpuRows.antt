@@ -14,6 +14,7 @@ use Rattle.gh_model.specs.declared.state.State.{State}
 use Rattle.gh_model.specs.Rows.{is_cpu}
 use Rattle.gh_model.specs.Boot.{boot_state, boot_fits, lines_fit, line_fits, after_line, empty_state, is_vm, vm_count}
 use Rattle.gh_model.specs.Calls.{rows_in_order, is_manager}
+use Rattle.gh_model.specs.Fitting.{IsNumbered}
 use Rattle.gh_model.proofs.RunLists.{count_snoc}
 
 pub no_item : {X : Type 0} (i : ℕ) (x : X) → slice_get {X = X} [] i ≡ Some x → ⊥
@@ -177,11 +178,6 @@ from_order rows i row is =
     elim (from_append (filter is_manager rows) (filter is_vm rows) i row is) as (λ _. Stands rows row)
     [ inl left ↦ from_filter is_manager rows left.at row left.is | inr right ↦ from_filter is_vm rows right.at row right.is ]
 
--- no two CPUs have one number, and the VMs are numbered from 1
-pub record IsNumbered (s : State) : Type 0 where
-  pub once : (n : ℕ) → count_by (is_cpu n) s.cpus ≤ 1
-  pub beyond : (n : ℕ) → vm_count s < n → count_by (is_cpu n) s.cpus ≡ 0
-
 pub once_more_cpu : (n : ℕ) (row : CpuRow) (rows : List CpuRow) → count_by (is_cpu n) rows ≤ 1 → count_by (is_cpu row.cpu.0) rows ≡ 0 → count_by (is_cpu n) (rows ++ row ∷ []) ≤ 1
 once_more_cpu n row rows once none =
     let all : count_by (is_cpu n) (rows ++ row ∷ []) ≡ count_by (is_cpu n) rows + tally (row.cpu.0 == n) = count_snoc (is_cpu n) rows row in
@@ -200,9 +196,9 @@ pub unfound_cpu : (o : Option CpuRow) → not (is_some o) ≡ true → o ≡ Non
 unfound_cpu None is = refl
 unfound_cpu (Some row) is = absurd (let never : ⊥ = cc in never)
 
-pub first_of_five : (a b c d e : Bool) → (a && b && c && d && e) ≡ true → a ≡ true
-first_of_five true b c d e all = refl
-first_of_five false b c d e all = absurd (let never : ⊥ = cc in never)
+pub first_of_four : (a b c d : Bool) → (a && b && c && d) ≡ true → a ≡ true
+first_of_four true b c d all = refl
+first_of_four false b c d all = absurd (let never : ⊥ = cc in never)
 
 pub line_numbered : (s : State) (line : BootLine) → line_fits s line ≡ true → IsNumbered s → IsNumbered (after_line s line)
 line_numbered s (Pages count) fits h = record { once = h.once; beyond = h.beyond }
@@ -224,7 +220,7 @@ line_numbered s (Vm cspace space) fits h =
     }
 line_numbered s (Rm cspace space partition) fits h =
     let row : CpuRow = record { cpu = record { 0 = 0 }; cspace = record { 0 = cspace.0 }; space = record { 0 = space.0 }; exited = false } in
-    let none : find (is_cpu 0) s.cpus ≡ None = unfound_cpu (find (is_cpu 0) s.cpus) (first_of_five _ _ _ _ _ fits) in
+    let none : find (is_cpu 0) s.cpus ≡ None = unfound_cpu (find (is_cpu 0) s.cpus) (first_of_four _ _ _ _ fits) in
     let more : vm_count (after_line s (Rm cspace space partition)) ≡ vm_count s = count_snoc is_vm s.cpus row ∙ (let sum : vm_count s + 0 ≡ vm_count s = omega arith in sum) in
     record {
       once = λ n. once_more_cpu n row s.cpus (h.once n) (unfound_none (is_cpu 0) s.cpus none);

@@ -3,6 +3,7 @@ pub mod BootLemmas
 pub mod CallsLemmas
 pub mod CpuRows
 pub mod Ends
+pub mod FittingLemmas
 pub mod Looks
 pub mod RunLaw
 pub mod RunLists

@@ -27,7 +27,8 @@ use Rattle.gh_model.specs.Programs.{frames_made}
 use Rattle.gh_model.specs.Run.{FollowPrograms, IsRun, is_mark_of}
 use Rattle.gh_model.specs.Calls.{seat_start, run_start, run_of, rows_in_order}
 use Rattle.gh_model.proofs.ActLemmas.{row_number}
-use Rattle.gh_model.proofs.CpuRows.{Found, Stands, Comes, IsNumbered as HaveNumbers, found_here, found_counts, counted_found, from_map, to_map, from_order, count_order, boot_numbered}
+use Rattle.gh_model.specs.Fitting.{IsNumbered as HaveNumbers}
+use Rattle.gh_model.proofs.CpuRows.{Found, Stands, Comes, found_here, found_counts, counted_found, from_map, to_map, from_order, count_order, boot_numbered}
 use Rattle.gh_model.proofs.Ends.{IsAct}
 use Rattle.gh_model.proofs.RunLists.{no_item}
 use Rattle.gh_model.proofs.RunSteps.{calls_of, Steady, Own}

@@ -24,7 +24,8 @@ use Rattle.gh_model.specs.Run.{is_mark_of}
 use Rattle.gh_model.specs.Calls.{after_mark, seat_behind, seat_after, next_call, turn_of, turn, turns, round, rounds, with_call, entries_of, rows_in_order}
 use Rattle.gh_model.proofs.ActLemmas.{row_number}
 use Rattle.gh_model.proofs.CallsLemmas.{rounds_none, rounds_more}
-use Rattle.gh_model.proofs.CpuRows.{Stands, Comes, IsNumbered as HaveNumbers, same_place, found_here, from_map, to_map, from_order, count_order}
+use Rattle.gh_model.specs.Fitting.{IsNumbered as HaveNumbers}
+use Rattle.gh_model.proofs.CpuRows.{Stands, Comes, same_place, found_here, from_map, to_map, from_order, count_order}
 use Rattle.gh_model.proofs.RunLists.{snoc_cases, no_item}
 use Rattle.gh_model.proofs.Ends.{whole_is}
 use Rattle.gh_model.proofs.RunSteps.{calls_of, calls_same, calls_other, cpu_field, ended_by, Told, Own, Grown, IsCall, made_in, here_of, own_later, own_step, grown}

@@ -6,6 +6,7 @@ use Rattle.std.specs.Prelude.{replicate}
 use Rattle.std.specs.Option.{option_map_or}
 use Rattle.gh_base.specs.Kind.{kind_number, kind_rights}
 use Rattle.gh_base.specs.declared.ids.Serial.{Serial}
+use Rattle.gh_base.specs.declared.limits.TheConstants.{CSPACES, MACHINE_PAGES, MESSAGE_BYTES, PARTITIONS, PARTITION_UNITS, QUEUE_DEPTH, VMS}
 use Rattle.gh_base.specs.declared.kind.Kind.{Kind}
 use Rattle.gh_base.specs.declared.kind.Kind.TheVariants as kind
 use Rattle.gh_base.specs.declared.kind.Stage.TheVariants.{Active}
@@ -207,7 +208,7 @@ is_kind s serial k = is_of_kind k (object_row s serial)
 -- the partition has the units
 abbrev pub has_units : State → ℕ → ℕ → Bool
 has_units s partition cost =
-    is_kind s partition kind.Partition && nat_le cost (free_units s partition) && nat_le s.next_serial 1024
+    is_kind s partition kind.Partition && nat_le cost (free_units s partition)
 
 -- how many objects of a kind are there
 abbrev pub kind_count : State → Kind → ℕ
@@ -276,40 +277,39 @@ is_small_queue queue row = (row.serial.0 == queue) && nat_le row.size 240
 
 abbrev pub link_fits : State → ℕ → ℕ → ℕ → ℕ → Bool
 link_fits s vm extent request reply =
-    is_some (cpu_row s 0) && nat_lt 0 vm && nat_le vm 8 && is_some (cpu_row s vm)
+    is_some (cpu_row s 0) && nat_lt 0 vm && is_some (cpu_row s vm)
     && not (list_any (λ (row : LinkRow). row.vm.0 == vm) s.links) && is_kind s extent kind.Extent
     && is_kind s request kind.Queue && is_kind s reply kind.Queue && not (request == reply)
     && not (list_any (is_linked_queue request) s.links) && not (list_any (is_linked_queue reply) s.links)
     && list_any (is_small_queue request) s.queues
     && is_free_slot s (manager_cspace s) (2 * vm) && is_free_slot s (manager_cspace s) (2 * vm + 1)
 
--- the line may come in this state, behind the line of pages. That there are at most 1,024 pages and
--- 1,024 objects, and at most eight CPUs before another comes, follows from the rest and is said
--- again where it is used
+-- the line may come in this state, behind the line of pages
 abbrev pub line_fits : State → BootLine → Bool
 line_fits s (Pages count) = false
 line_fits s (Partition quota) =
-    nat_le 1 quota && nat_le quota 128 && nat_lt (kind_count s kind.Partition) 8 && nat_le s.next_serial 1024
-line_fits s (Cspace partition) = has_units s partition.0 4 && nat_lt (kind_count s kind.Cspace) 16
+    nat_le 1 quota && nat_le quota PARTITION_UNITS && nat_lt (kind_count s kind.Partition) PARTITIONS
+line_fits s (Cspace partition) =
+    has_units s partition.0 4 && nat_lt (kind_count s kind.Cspace) CSPACES
 line_fits s (Addrspace partition) = has_units s partition.0 4
 line_fits s (Doorbell partition) = has_units s partition.0 1
-line_fits s (RootExtent partition) =
-    has_units s partition.0 1 && (length s.extents == 0) && nat_le (length s.holders) 1024
+line_fits s (RootExtent partition) = has_units s partition.0 1 && (length s.extents == 0)
 line_fits s (Extent partition parent offset count access held_offset held_count) =
-    has_units s partition.0 1 && nat_le (first_page s parent.0 + offset + count) (length s.holders) && nat_le (length s.holders) 1024
-    && nat_le (held_offset + held_count) count && extent_fits s parent.0 offset count access.0 held_offset held_count (find (is_extent parent.0) s.extents)
+    has_units s partition.0 1 && nat_le (held_offset + held_count) count
+    && extent_fits s parent.0 offset count access.0 held_offset held_count (find (is_extent parent.0) s.extents)
 line_fits s (Msgqueue partition depth size) =
-    nat_le 1 depth && nat_le depth 64 && nat_le 1 size && nat_le size 1024 && has_units s partition.0 (queue_cost depth size)
+    nat_le 1 depth && nat_le depth QUEUE_DEPTH && nat_le 1 size && nat_le size MESSAGE_BYTES
+    && has_units s partition.0 (queue_cost depth size)
 line_fits s (Map space extent base offset count access) =
     is_kind s space.0 kind.Space && mapping_fits s space.0 base offset count access.0 (find (is_extent extent.0) s.extents)
 line_fits s (Cap cspace slot object rights master) =
     is_kind s cspace.0 kind.Cspace && is_free_slot s cspace.0 slot && rights_fit_kind rights.0 (object_row s object.0)
     && not (master && list_any (is_master_of object.0) s.caps)
 line_fits s (Vm cspace space) =
-    may_attach s cspace.0 space.0 && nat_lt (vm_count s) 8 && nat_le (length s.cpus) 8
+    may_attach s cspace.0 space.0 && nat_lt (vm_count s) VMS
 line_fits s (Rm cspace space partition) =
-    not (is_some (cpu_row s 0)) && may_attach s cspace.0 space.0 && is_free_slot s cspace.0 1 && is_kind s partition.0 kind.Partition
-    && nat_le (length s.cpus) 8
+    not (is_some (cpu_row s 0)) && may_attach s cspace.0 space.0 && is_free_slot s cspace.0 1
+    && is_kind s partition.0 kind.Partition
 line_fits s (Link vm extent request reply) = link_fits s vm.0 extent.0 request.0 reply.0
 
 -- each line fits behind those before it
@@ -326,6 +326,7 @@ is_complete s = nat_lt 0 (length s.extents) && nat_lt 0 (vm_count s)
 abbrev pub boot_fits : List BootLine → Bool
 boot_fits [] = false
 boot_fits (Pages count ∷ lines) =
-    nat_le 1 count && nat_le count 1024 && lines_fit (after_line empty_state (Pages count)) lines
+    nat_le 1 count && nat_le count MACHINE_PAGES
+    && lines_fit (after_line empty_state (Pages count)) lines
     && is_complete (fold after_line (after_line empty_state (Pages count)) lines)
 boot_fits (_ ∷ lines) = false

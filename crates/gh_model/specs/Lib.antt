@@ -2,6 +2,7 @@ pub mod Access
 pub mod Act
 pub mod Boot
 pub mod Calls
+pub mod Fitting
 pub mod Graced
 pub mod History
 pub mod Legal

@@ -1,6 +1,8 @@
 //! The state that a boot file makes, line by line.
 
 ghost use Rattle.std.specs.Prelude.{◌≡◌, ◌+◌, ◌*◌, ◌/◌, ◌<◌, ◌≤◌, ◌^◌, ◌∷◌, ◌++◌, [], false, List, ℕ, length, fold, IsTrue, IfOk, OnOk};
+ghost use Rattle.gh_base.specs.declared.limits.TheConstants.{MACHINE_PAGES, MESSAGE_BYTES, OBJECT_INDICES, QUEUE_DEPTH, VMS};
+ghost use Rattle.gh_model.specs.Fitting.{IsFitting};
 ghost use Rattle.gh_model.specs.Boot.{boot_fits, line_fits, boot_state, after_line, empty_state, with_object, with_partition, with_bell, with_root, with_extent, with_queue, with_mapping, with_capability, with_cpu, with_link, queue_cost, kind_at, cpu_vms, cpu_cspace, object_kind, span_first, first_page, move_pages, lines_fit};
 
 use crate::boot_line::BootLine;
@@ -80,7 +82,7 @@ fn add_object(
     partition: Serial,
     cost: u16,
 ) -> Result<Serial, NoMemory>
-    requires { state.old.next_serial ≤ 1024 }
+    requires { state.old.next_serial ≤ OBJECT_INDICES + 1 }
     ensures serial { IfOk result (λ serial. serial.0 ≡ state.old.next_serial) }
     ensures state { OnOk result (state.new ≡ with_object state.old kind partition.0 cost) }
 {
@@ -98,7 +100,7 @@ fn add_object(
 }
 
 fn add_partition(state: &mut State, quota: u16) -> Result<(), NoMemory>
-    requires { state.old.next_serial ≤ 1024 }
+    requires { state.old.next_serial ≤ OBJECT_INDICES + 1 }
     ensures { OnOk result (state.new ≡ with_partition state.old quota) }
 {
     let serial = add_object(state, Kind::Partition, Serial(state.next_serial), 1)?;
@@ -110,7 +112,7 @@ fn add_partition(state: &mut State, quota: u16) -> Result<(), NoMemory>
 }
 
 fn add_bell(state: &mut State, partition: Serial) -> Result<(), NoMemory>
-    requires { state.old.next_serial ≤ 1024 }
+    requires { state.old.next_serial ≤ OBJECT_INDICES + 1 }
     ensures { OnOk result (state.new ≡ with_bell state.old partition.0) }
 {
     let serial = add_object(state, Kind::Bell, partition, 1)?;
@@ -133,8 +135,8 @@ pub(crate) fn move_run(holders: &mut Sequence<Serial>, first: usize, count: usiz
 }
 
 fn add_root(state: &mut State, partition: Serial) -> Result<(), NoMemory>
-    requires serials { state.old.next_serial ≤ 1024 }
-    requires pages { length state.old.holders ≤ 1024 }
+    requires serials { state.old.next_serial ≤ OBJECT_INDICES + 1 }
+    requires pages { length state.old.holders ≤ MACHINE_PAGES }
     ensures { OnOk result (state.new ≡ with_root state.old partition.0) }
 {
     let serial = add_object(state, Kind::Extent, partition, 1)?;
@@ -173,9 +175,9 @@ struct NewExtent {
 }
 
 fn add_extent(state: &mut State, partition: Serial, new: NewExtent) -> Result<(), NoMemory>
-    requires serials { state.old.next_serial ≤ 1024 }
-    requires span { first_page state.old new.parent.0 + new.offset + new.count ≤ 1024 }
-    requires pages { first_page state.old new.parent.0 + new.offset + new.count ≤ length state.old.holders }
+    requires serials { state.old.next_serial ≤ OBJECT_INDICES + 1 }
+    requires pages { length state.old.holders ≤ MACHINE_PAGES }
+    requires span { first_page state.old new.parent.0 + new.offset + new.count ≤ length state.old.holders }
     requires held { new.held_offset + new.held_count ≤ new.count }
     ensures { OnOk result (state.new ≡ with_extent state.old partition.0 new.parent.0 new.offset new.count new.access.0 new.held_offset new.held_count) }
 {
@@ -196,8 +198,8 @@ fn add_extent(state: &mut State, partition: Serial, new: NewExtent) -> Result<()
 
 /// Units of a queue: one, and its messages' room in pages, rounded up.
 fn cost_of_queue(depth: u16, size: u16) -> u16
-    requires depth { depth ≤ 64 }
-    requires size { size ≤ 1024 }
+    requires depth { depth ≤ QUEUE_DEPTH }
+    requires size { size ≤ MESSAGE_BYTES }
     ensures { result ≡ queue_cost depth size }
 {
     let bytes = depth as u32 * size as u32;
@@ -211,9 +213,9 @@ fn add_queue(
     depth: u16,
     size: u16,
 ) -> Result<(), NoMemory>
-    requires serials { state.old.next_serial ≤ 1024 }
-    requires depth { depth ≤ 64 }
-    requires size { size ≤ 1024 }
+    requires serials { state.old.next_serial ≤ OBJECT_INDICES + 1 }
+    requires depth { depth ≤ QUEUE_DEPTH }
+    requires size { size ≤ MESSAGE_BYTES }
     ensures { OnOk result (state.new ≡ with_queue state.old partition.0 depth size) }
 {
     let cost = cost_of_queue(depth, size);
@@ -305,7 +307,7 @@ fn add_link(
     request: Serial,
     reply: Serial,
 ) -> Result<(), NoMemory>
-    requires { vm.0 ≤ 8 }
+    requires { vm.0 ≤ VMS }
     ensures { OnOk result (state.new ≡ with_link state.old vm.0 extent.0 request.0 reply.0) }
 {
     let cspace = manager(state.cpus.as_slice());
@@ -319,8 +321,10 @@ fn add_link(
     })
 }
 
+#[tactic(auto, using(crate::proofs::FittingLemmas::few_serials))]
 fn add_line(alloc: Global, state: &mut State, line: BootLine) -> Result<(), NoMemory>
-    requires { IsTrue (line_fits state.old line) }
+    requires fits { IsTrue (line_fits state.old line) }
+    requires fitting { IsFitting state.old }
     ensures { OnOk result (state.new ≡ after_line state.old line) }
 {
     match line {
@@ -395,7 +399,7 @@ fn add_line(alloc: Global, state: &mut State, line: BootLine) -> Result<(), NoMe
 
 /// A capability space or an address space.
 fn add_simple(state: &mut State, kind: Kind, partition: Serial) -> Result<(), NoMemory>
-    requires { state.old.next_serial ≤ 1024 }
+    requires { state.old.next_serial ≤ OBJECT_INDICES + 1 }
     ensures { OnOk result (state.new ≡ with_object state.old kind partition.0 4) }
 {
     add_object(state, kind, partition, 4)?;
@@ -404,7 +408,7 @@ fn add_simple(state: &mut State, kind: Kind, partition: Serial) -> Result<(), No
 
 /// The next VM.
 fn add_vm(state: &mut State, cspace: Serial, space: Serial) -> Result<(), NoMemory>
-    requires { cpu_vms state.old.cpus < 8 }
+    requires { cpu_vms state.old.cpus < VMS }
     ensures { OnOk result (state.new ≡ with_cpu state.old (cpu_vms state.old.cpus + 1) cspace.0 space.0) }
 {
     let vm = vms(state.cpus.as_slice()) as u8 + 1;
@@ -412,9 +416,9 @@ fn add_vm(state: &mut State, cspace: Serial, space: Serial) -> Result<(), NoMemo
 }
 
 /// The lines behind the first.
-#[tactic(auto, using(crate::proofs::BootLemmas::along_lines))]
 fn add_lines(alloc: Global, state: &mut State, lines: &[BootLine]) -> Result<(), NoMemory>
-    requires { IsTrue (lines_fit state.old lines.now) }
+    requires fit { IsTrue (lines_fit state.old lines.now) }
+    requires fitting { IsFitting state.old }
     ensures { OnOk result (state.new ≡ fold after_line state.old lines.now) }
 {
     for line in lines {

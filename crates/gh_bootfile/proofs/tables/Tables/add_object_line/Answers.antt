@@ -1,4 +1,4 @@
-use Rattle.gh_bootfile.proofs.TablesFacts.{take-at, take-cspace, take-space, take-bell, take-root, take-queue, take-extent, extent-within, extent-small, extent-held}
+use Rattle.gh_bootfile.proofs.TablesFacts.{take-at, take-cspace, take-space, take-bell, take-root, take-queue, take-extent, take-pages, extent-within, extent-held}
 use Rattle.gh_bootfile.proofs.tables.Tables.add_object_line.Goals as goal
 
 pub add_cspace-requires-clause-object : goal.add_cspace-requires-clause-object
@@ -16,8 +16,11 @@ add_root-requires-clause-object c = take-root _ c.in-RootExtent.partition (take-
 pub add_extent-requires-clause-object : goal.add_extent-requires-clause-object
 add_extent-requires-clause-object c = take-extent _ _ _ _ _ _ _ _ (take-at _ _ _ c.in-Extent.is c.requires.take)
 
-pub add_extent-requires-clause-small : goal.add_extent-requires-clause-small
-add_extent-requires-clause-small c = extent-small c.args.self.now c.in-Extent.partition c.in-Extent.parent c.in-Extent.offset c.in-Extent.count c.in-Extent.access c.in-Extent.held_offset c.in-Extent.held_count (take-at _ _ _ c.in-Extent.is c.requires.take)
+pub add_root-requires-clause-pages : goal.add_root-requires-clause-pages
+add_root-requires-clause-pages c = take-pages _ _ c.requires.take
+
+pub add_extent-requires-clause-pages : goal.add_extent-requires-clause-pages
+add_extent-requires-clause-pages c = take-pages _ _ c.requires.take
 
 pub add_extent-requires-clause-within : goal.add_extent-requires-clause-within
 add_extent-requires-clause-within c = extent-within c.args.self.now c.in-Extent.partition c.in-Extent.parent c.in-Extent.offset c.in-Extent.count c.in-Extent.access c.in-Extent.held_offset c.in-Extent.held_count (take-at _ _ _ c.in-Extent.is c.requires.take)
