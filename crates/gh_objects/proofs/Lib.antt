@@ -1,3 +1,4 @@
+pub mod CountsLemmas
 pub mod ListLemmas
 pub mod PartitionsLemmas
 pub mod RisingLemmas

@@ -1,3 +1,5 @@
+pub mod Counts
+pub mod Headers
 pub mod Objects
 pub mod Partitions
 pub mod Rising

@@ -1,15 +1,14 @@
 //! The live objects: headers by index, reference counts, and which objects are doomed or retired.
 #![tactic(auto)]
 
-mod object;
-mod objects;
+mod count;
+mod counts;
+mod header;
+
 mod partitions;
 mod rising;
 mod table;
-mod taken;
 
-pub use object::Header;
-pub use objects::Objects;
+pub use header::Header;
 
-#[cfg(test)]
-mod tests;
+

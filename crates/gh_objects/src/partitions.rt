@@ -2,7 +2,7 @@
 
 ghost use Rattle.std.specs.Prelude.{◌≡◌, ◌<◌, is_none, is_some, length, count_by, position, slice_index_or};
 ghost use Rattle.std.specs.List.{position_or_len};
-ghost use Rattle.gh_objects.specs.Objects.{is_had_by, is_partition_kind};
+ghost use Rattle.gh_objects.specs.Headers.{is_had_by, is_partition_kind};
 
 use gh_base::{Kind, ObjIndex, PARTITIONS};
 
