@@ -38,7 +38,7 @@ module _ (serial_of : Option Count → Option Serial) (counts : List (Option Cou
 
   -- the list once this object is at the index
   pub listed-set : (count : Option Count) → rising (filter_map serial_of (set counts index count)) ≡ with_option (serial_of count) other_serials
-  listed-set object =
+  listed-set count =
       rw (set-pieces counts index count within, filter_map-append serial_of (take index counts) (count ∷ drop (index + 1) counts), filter_map-append serial_of (take index counts) (drop (index + 1) counts))
       (rising-cons_option (filter_map serial_of (take index counts)) (serial_of count) (filter_map serial_of (drop (index + 1) counts)))
 

@@ -1,9 +1,10 @@
 -- The live objects as callers see them: headers and counts by index, apart from each other, with the
 -- partition places that the live partitions have.
-use Rattle.std.specs.Prelude.{◌≡◌, ℕ, List, Option, Some, None, slice_set}
+use Rattle.std.specs.Prelude.{◌≡◌, ℕ, List, Option, Some, None, length, slice_set}
 use Rattle.std.specs.Option.{option_map}
 use Rattle.gh_base.specs.declared.ids.ObjIndex.{ObjIndex}
 use Rattle.gh_base.specs.declared.ids.Serial.{Serial}
+use Rattle.gh_base.specs.declared.limits.TheConstants.{OBJECT_INDICES}
 use Rattle.gh_objects.specs.declared.header.Header.{Header}
 use Rattle.gh_objects.specs.declared.count.Count.{Count}
 use Rattle.gh_objects.specs.Headers.{HeaderTable, no_headers, header_at, header_inserted, header_removed, new_index}
@@ -24,8 +25,10 @@ header_serial header = header.serial
 abbrev pub count_serial : Count → Serial
 count_serial count = count.serial
 
--- an index has a count exactly where it has a header, and both are of one serial
+-- every index stands in both lists, and has a count exactly where it has a header, both of one serial
 pub record ArePaired (s : Objects) : Type 0 where
+  pub headers : length s.table.headers ≡ OBJECT_INDICES
+  pub counts : length s.counts ≡ OBJECT_INDICES
   pub paired : (index : ℕ) → option_map header_serial (header_at s.table.headers index)
       ≡ option_map count_serial (count_at s.counts index)
 

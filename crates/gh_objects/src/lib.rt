@@ -4,11 +4,14 @@
 mod count;
 mod counts;
 mod header;
-
+mod headers;
+mod objects;
 mod partitions;
 mod rising;
 mod table;
 
+pub use count::Count;
+pub use counts::Counts;
 pub use header::Header;
-
-
+pub use headers::Headers;
+pub use objects::Objects;
