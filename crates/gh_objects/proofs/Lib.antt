@@ -1,5 +1,6 @@
 pub mod CountsLemmas
 pub mod ListLemmas
+pub mod NamesLemmas
 pub mod ObjectsLemmas
 pub mod PartitionsLemmas
 pub mod RisingLemmas

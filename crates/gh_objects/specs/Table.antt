@@ -1,4 +1,5 @@
--- How headers and counts lie: a bit for each index that is taken, and two lists of serials. No public
+-- How headers and counts lie: a bit for each index that is taken, a name for each
+-- live object, and two lists of serials. No public
 -- clause cites this module.
 use Rattle.std.specs.Prelude.{◌≡◌, ◌==◌, ℕ, ◌/◌, ◌%◌, ◌<◌, List, Option, length, is_none, slice_index}
 use Rattle.std.specs.Int.{bit_at}
@@ -8,6 +9,7 @@ use Rattle.gh_objects.specs.declared.header.Header.{Header}
 use Rattle.gh_objects.specs.declared.count.Count.{Count}
 use Rattle.gh_objects.specs.Headers.{header_at}
 use Rattle.gh_objects.specs.Counts.{doomed, retired}
+use Rattle.gh_objects.specs.Names.{AreNamed}
 
 -- the bit of an index in the words of the partition places
 abbrev pub bit_of : List ℕ → ℕ → ℕ
@@ -19,6 +21,11 @@ pub record IsMarked (headers : List (Option Header)) (taken : List ℕ) : Type 0
   pub words : length taken ≡ PARTITIONS
   pub bits : (index : ℕ) → index < OBJECT_INDICES
       → is_none (header_at headers index) ≡ (bit_of taken index == 0)
+
+-- each index has its bit, and each live object its name
+pub record IsKept (headers : List (Option Header)) (taken names : List ℕ) : Type 0 where
+  pub marked : IsMarked headers taken
+  pub named : AreNamed headers names
 
 -- the lists have the serials of the doomed and of the retired objects
 pub record AreListed (counts : List (Option Count)) (doomed_list retired_list : List Serial) : Type 0 where

@@ -1,14 +1,14 @@
 //! The headers of the live objects, and the partition places that the live partitions have.
 
-ghost use Rattle.std.specs.Prelude.{◌≡◌, ◌/◌, ◌<◌, false, None, is_some, is_none, IfOk, IfSome, IsSome, count_by};
+ghost use Rattle.std.specs.Prelude.{◌≡◌, ◌/◌, ◌<◌, ℕ, false, true, None, is_some, is_none, IfOk, IfSome, IsSome, count_by};
 ghost use Rattle.std.specs.List.{position_or_len};
-ghost use Rattle.gh_objects.specs.Headers.{no_headers, header_at, headers_in, is_partition, place_of, free_index, IsBootPlace, HasIndex, new_index, with_header, header_inserted, header_removed, header_staged, has_partition_place};
+ghost use Rattle.gh_objects.specs.Headers.{no_headers, header_at, headers_in, is_partition, place_of, free_index, IsBootPlace, HasIndex, new_index, with_header, header_inserted, header_removed, header_staged, has_partition_place, has_serial};
 ghost use Rattle.gh_objects.specs.Partitions.{HavePlaces, place_if};
 
 use crate::header::Header;
 use crate::partitions::{free_place, has_free_place, is_partition_kind, place_of};
 use crate::table::Table;
-use gh_base::{Kind, NoMemory, OBJECT_INDICES, ObjIndex, PARTITION_PLACES, PARTITIONS, Stage};
+use gh_base::{Kind, NoMemory, OBJECT_INDICES, ObjIndex, PARTITION_PLACES, PARTITIONS, Serial, Stage};
 use std::alloc::Global;
 use std::marker::Model;
 
@@ -65,6 +65,18 @@ impl Headers {
         ensures { result ≡ has_partition_place self.now }
     {
         has_free_place(&self.partitions)
+    }
+
+    /// The index of the live object with this serial, by a binary search; none exactly where no
+    /// live object has it.
+    pub fn index_of(&self, serial: Serial) -> Option<ObjIndex>
+        ensures found { IfSome result
+            (λ index. has_serial serial.0 (header_at self.now.headers index.0) ≡ true) }
+        ensures none { result ≡ None
+            → (index : ℕ) → has_serial serial.0 (header_at self.now.headers index) ≡ false }
+    {
+        let index = self.table.index_of(serial)?;
+        Some(ObjIndex(index as u16))
     }
 
     /// Puts the header of a new object to its index, and answers that: the least that is free in its

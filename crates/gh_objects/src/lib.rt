@@ -5,6 +5,8 @@ mod count;
 mod counts;
 mod header;
 mod headers;
+mod law;
+mod names;
 mod objects;
 mod partitions;
 mod rising;
@@ -14,4 +16,11 @@ pub use count::Count;
 pub use counts::Counts;
 pub use header::Header;
 pub use headers::Headers;
+pub use law::{
+    change_changes_one_count, insert_leaves_others, remove_clears_one_index,
+    stage_changes_one_header,
+};
 pub use objects::Objects;
+
+#[cfg(test)]
+mod tests;

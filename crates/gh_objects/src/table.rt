@@ -1,11 +1,12 @@
-//! The header of each index, and which indices are free.
+//! The header of each index, which indices are free, and which index a serial has.
 
-ghost use Rattle.std.specs.Prelude.{◌≡◌, ◌<◌, None, IfOk, is_some, count_by, replicate, slice_set};
-ghost use Rattle.gh_objects.specs.Headers.{header_at, headers_in, free_index};
+ghost use Rattle.std.specs.Prelude.{◌≡◌, ◌<◌, ℕ, false, true, None, IfOk, IfSome, is_some, count_by, replicate, slice_set};
+ghost use Rattle.gh_objects.specs.Headers.{header_at, headers_in, free_index, has_serial};
 
 use crate::header::Header;
+use crate::names::{INDEX_VALUES, Names, index_in, name_at, name_of, rename};
 use gh_base::{
-    NoMemory, OBJECT_INDICES, PARTITION_PLACES, PARTITIONS, first_free_place, with_place,
+    NoMemory, OBJECT_INDICES, PARTITION_PLACES, PARTITIONS, Serial, first_free_place, with_place,
 };
 use std::alloc::Global;
 use std::marker::Model;
@@ -16,18 +17,19 @@ pub struct Table {
     headers: Vec<Option<Header>>,
     // The word of each partition place has a bit for each of its indices that has a header.
     taken: [u128; PARTITIONS],
+    names: Names,
 }
 
 impl Model for Table {
     ghost use Rattle.std.specs.Prelude.{List, Option};
     ghost use Rattle.gh_objects.specs.declared.header.Header.{Header};
-    ghost use Rattle.gh_objects.specs.Table.{IsMarked};
+    ghost use Rattle.gh_objects.specs.Table.{IsKept};
 
     ghost Value = { List (Option Header) };
 
     ghost view = { λ t. t.headers.items };
 
-    ghost invariant = { λ t. IsMarked t.headers.items t.taken };
+    ghost invariant = { λ t. IsKept t.headers.items t.taken t.names };
 }
 
 impl Table {
@@ -38,6 +40,7 @@ impl Table {
         Ok(Table {
             headers: no_headers(alloc, OBJECT_INDICES)?,
             taken: [0; PARTITIONS],
+            names: Names::new(alloc)?,
         })
     }
 
@@ -53,6 +56,8 @@ impl Table {
         requires { index < OBJECT_INDICES }
         ensures { self.new ≡ slice_set self.old index header }
     {
+        let old = name_at(index, self.get(index));
+        rename(&mut self.names, old, name_at(index, header));
         let place = index / PARTITION_PLACES;
         let bits = self.taken[place];
         self.taken[place] = with_place(bits, index % PARTITION_PLACES, header.is_none());
@@ -68,6 +73,17 @@ impl Table {
         ensures free { header_at self.now result ≡ None }
     {
         place * PARTITION_PLACES + first_free_place(self.taken[place])
+    }
+
+    /// An index whose header has the serial. It looks at no header.
+    pub fn index_of(&self, serial: Serial) -> Option<usize>
+        ensures found { IfSome result
+            (λ index. has_serial serial.0 (header_at self.now index) ≡ true) }
+        ensures within { IfSome result (λ index. index < INDEX_VALUES) }
+        ensures none { result ≡ None
+            → (index : ℕ) → has_serial serial.0 (header_at self.now index) ≡ false }
+    {
+        index_in(self.names.first_from(name_of(serial, 0)), serial)
     }
 }
 
