@@ -3,8 +3,8 @@
 ghost use Rattle.std.specs.Prelude.{◌≡◌, ◌<◌, IfSome, count_by, is_some, length};
 ghost use Rattle.std.specs.Bool.{OnTrue};
 ghost use Rattle.bench_parts.specs.References.{HasReferences, HaveRoom};
-ghost use Rattle.gh_objects.specs.Objects as Spec;
-ghost use Rattle.gh_objects.specs.Objects.{object_at, objects_in};
+ghost use Rattle.gh_objects.specs.Headers as Spec;
+ghost use Rattle.gh_objects.specs.Headers.{header_at, headers_in};
 
 use crate::checksum::{checksum, folded};
 use gh_base::{
@@ -27,8 +27,8 @@ const BELLS: u32 = 952;
 
 /// Whether a live partition has the index.
 fn is_partition(objects: &Objects, index: ObjIndex) -> bool
-    ensures partition { result ≡ Spec.is_partition (object_at objects.now.objects index.0) }
-    ensures indices { length objects.now.objects ≡ OBJECT_INDICES }
+    ensures partition { result ≡ Spec.is_partition (header_at objects.now.table.headers index.0) }
+    ensures indices { length objects.now.table.headers ≡ OBJECT_INDICES }
 {
     match objects.header(index) {
         Some(header) => header.kind == Kind::Partition,
@@ -36,27 +36,12 @@ fn is_partition(objects: &Objects, index: ObjIndex) -> bool
     }
 }
 
-/// How many partitions live.
-#[tactic(auto, using(crate::proofs::ObjectsLemmas::take_indices, std::proofs::lemmas::List::Sums::count_by_more_yes, std::proofs::lemmas::List::Sums::count_by_more_no))]
-fn partitions(objects: &Objects) -> usize
-    requires { length objects.now.objects ≡ OBJECT_INDICES }
-    ensures { result ≡ count_by Spec.is_partition objects.now.objects }
-{
-    let mut count = 0;
-    for index in 0..OBJECT_INDICES {
-        if is_partition(objects, ObjIndex(index as u16)) {
-            count += 1;
-        }
-    }
-    count
-}
-
 /// Whether the last index of a partition place is free.
 #[tactic(auto, using(crate::proofs::ObjectsLemmas::room_last_free))]
 fn is_last_free(objects: &Objects, place: usize) -> bool
     requires { place < PARTITIONS }
     ensures { OnTrue result
-        (count_by is_some (objects_in objects.now.objects place) < PARTITION_PLACES) }
+        (count_by is_some (headers_in objects.now.table.headers place) < PARTITION_PLACES) }
 {
     let last = place * PARTITION_PLACES + PARTITION_PLACES - 1;
     objects.header(ObjIndex(last as u16)).is_none()
@@ -65,7 +50,7 @@ fn is_last_free(objects: &Objects, place: usize) -> bool
 /// Whether the last index of every partition place is free.
 #[tactic(auto, using(crate::proofs::ObjectsLemmas::room_places))]
 fn have_room(objects: &Objects) -> bool
-    requires { length objects.now.objects ≡ OBJECT_INDICES }
+    requires { length objects.now.table.headers ≡ OBJECT_INDICES }
     ensures { OnTrue result (HaveRoom objects.now) }
 {
     for place in 0..PARTITIONS {
@@ -86,11 +71,7 @@ fn make_bell(objects: &mut Objects, partition: ObjIndex, serial: Serial) -> Opti
     if !have_room(objects) {
         return None;
     }
-    let index = objects.insert(Kind::Bell, partition, serial, Stage::Ready);
-    if objects.header(index).is_none() {
-        return None;
-    }
-    Some(index)
+    Some(objects.insert(Kind::Bell, partition, serial, Stage::Ready))
 }
 
 /// Makes a partition in that of a boot file, where all have room and one more may live.
@@ -101,7 +82,7 @@ fn make_partition(objects: &mut Objects, serial: Serial) {
     if !have_room(objects) {
         return;
     }
-    if partitions(objects) < PARTITIONS {
+    if objects.has_partition_place() {
         objects.insert(Kind::Partition, HOME, serial, Stage::Init);
     }
 }

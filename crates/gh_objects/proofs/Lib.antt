@@ -1,4 +1,7 @@
+pub mod CountsLemmas
 pub mod ListLemmas
+pub mod NamesLemmas
+pub mod ObjectsLemmas
 pub mod PartitionsLemmas
 pub mod RisingLemmas
 pub mod TableLemmas

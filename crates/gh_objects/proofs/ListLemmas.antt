@@ -1,9 +1,12 @@
 -- Facts about any list that the others rest on.
-use Rattle.std.proofs.Common.{◌≡◌, ℕ, suc, ◌+◌, ◌<◌, ◌≤◌, Bool, not, List, [], ◌∷◌, ◌++◌, Option, None, Some, length, get_or, set, take, drop, count_by, filter_map, refl, sym, ap, ◌∙◌, arith, inl, inr, cond, ltb, is_some, replicate, zero-add, subst}
+use Rattle.std.proofs.Common.{◌≡◌, ℕ, zero, suc, ◌+◌, ◌<◌, ◌≤◌, Bool, not, List, [], ◌∷◌, ◌++◌, Option, None, Some, length, get_or, set, take, drop, count_by, filter_map, refl, sym, ap, ◌∙◌, arith, inl, inr, cond, true, false, ltb, is_some, replicate, zero-add, subst}
 use Rattle.std.specs.Prelude.{is_none, position, IsSomeAnd}
-use Rattle.std.specs.List.{position_or_len, cons_option}
-use Rattle.std.proofs.lemmas.Bool.{cases_Bool, cases_lt, lt-ltb, le-ltb}
-use Rattle.std.proofs.lemmas.List.Sums.{sum_by-cons, sum_by-set}
+use Rattle.std.specs.List.{position_or_len, cons_option, remove}
+use Rattle.std.specs.List.Sorted.{IsNonDecreasingBy}
+use Rattle.std.specs.Option.{option_map}
+use Rattle.std.proofs.lemmas.Bool.{cases_Bool, cases_lt, lt-ltb, le-ltb, false≢true}
+use Rattle.std.proofs.lemmas.List.Sums.{sum_by-cons, sum_by-set, sum_by-take-le, count_by_more_yes}
+use Rattle.std.proofs.lemmas.List.Edits.{get_or-remove_below, get_or-remove_above, length-remove}
 use Rattle.std.proofs.lemmas.List.{get_or-replicate, get_or_past, length-replicate, take-append-drop, take-set, drop-set}
 
 -- a list that is written at one place is what stands before, what was written and what stands behind
@@ -51,6 +54,26 @@ position-count p (x ∷ xs) =
           | inr above ↦ le-ltb (1 + m) (suc n) (omega arith) ∙ sym (le-ltb m n above)
         ]
 
+-- what has a value and what has none is all there is
+pub nones-somes : {X : Type 0} (xs : List (Option X)) → count_by is_none xs + count_by is_some xs ≡ length xs
+nones-somes [] = refl
+nones-somes (None ∷ xs) = omega (arith, nones-somes xs, sum_by-cons (λ y. cond (is_none y) 1 0) None xs, sum_by-cons (λ y. cond (is_some y) 1 0) None xs)
+nones-somes (Some x ∷ xs) = omega (arith, nones-somes xs, sum_by-cons (λ y. cond (is_none y) 1 0) (Some x) xs, sum_by-cons (λ y. cond (is_some y) 1 0) (Some x) xs)
+
+cond-is_some : {X : Type 0} (b : Bool) (x : X) → is_some (cond b (Some x) None) ≡ b
+cond-is_some true x = refl
+cond-is_some false x = refl
+
+-- one without a value is found exactly where fewer have one than there are
+pub found-few : {X : Type 0} (xs : List (Option X)) → is_some (position is_none xs) ≡ ltb (count_by is_some xs) (length xs)
+found-few xs =
+    cond-is_some (ltb (position_or_len is_none xs) (length xs)) (position_or_len is_none xs)
+    ∙ position-count is_none xs
+    ∙ elim (cases_lt (count_by is_some xs) (length xs)) [
+      | inl few ↦ lt-ltb 0 (count_by is_none xs) (omega (arith, nones-somes xs)) ∙ sym (lt-ltb (count_by is_some xs) (length xs) few)
+      | inr all ↦ le-ltb 0 (count_by is_none xs) (omega (arith, nones-somes xs)) ∙ sym (le-ltb (count_by is_some xs) (length xs) all)
+    ]
+
 -- a count where one element is written
 pub count_by-set : {X : Type 0} (p : X → Bool) (xs : List X) (i : ℕ) (y d : X) → i < length xs
     → count_by p (set xs i y) + cond (p (get_or xs i d)) 1 0 ≡ count_by p xs + cond (p y) 1 0
@@ -72,3 +95,41 @@ some-within {X} P xs i some =
       | inl within ↦ within
       | inr past ↦ absurd (subst (λ (o : Option X). IsSomeAnd o P) (get_or_past xs i None past) some)
     ]
+
+pub is_some-within : {X : Type 0} (xs : List (Option X)) (i : ℕ) → is_some (get_or xs i None) ≡ true → i < length xs
+is_some-within xs i some =
+    elim (cases_lt i (length xs)) [
+      | inl within ↦ within
+      | inr past ↦ absurd (false≢true (sym (ap is_some (get_or_past xs i None past)) ∙ some))
+    ]
+
+-- where one passes, more than none do
+pub count_by-passes : {X : Type 0} (p : X → Bool) (xs : List X) (i : ℕ) (d : X) → i < length xs → p (get_or xs i d) ≡ true → 0 < count_by p xs
+count_by-passes p xs i d within passes = omega (arith, count_by_more_yes p xs i d within passes, sum_by-take-le (λ x. cond (p x) 1 0) xs (i + 1))
+
+-- a list that rises with one element less still rises
+pub IsNonDecreasingBy-remove : {X : Type 0} (n : X → ℕ) (xs : List X) (at : ℕ) → IsNonDecreasingBy n xs → at < length xs → IsNonDecreasingBy n (remove xs at)
+IsNonDecreasingBy-remove n xs at up there i j d ordered within =
+    let below = get_or-remove_below xs at d in
+    let above = get_or-remove_above xs at d in
+    let fewer = length-remove xs at there in
+    elim (cases_lt i at) [
+      | inl i_below ↦
+          elim (cases_lt j at) [
+            | inl j_below ↦ omega (arith, ap n (below i i_below there), ap n (below j j_below there), up i j d ordered (omega arith))
+            | inr j_past ↦ omega (arith, ap n (below i i_below there), ap n (above j j_past there), up i (j + 1) d (omega arith) (omega arith))
+          ]
+      | inr i_past ↦
+          omega (arith, ap n (above i i_past there), ap n (above j (omega arith) there), up (i + 1) (j + 1) d (omega arith) (omega arith))
+    ]
+
+-- what is changed where it stands, and what is taken away
+pub set_map-here : {X : Type 0} (f : X → X) (xs : List (Option X)) (i : ℕ) → get_or (set xs i (option_map f (get_or xs i None))) i None ≡ option_map f (get_or xs i None)
+set_map-here f [] i = refl
+set_map-here f (x ∷ xs) zero = refl
+set_map-here f (x ∷ xs) (suc i) = set_map-here f xs i
+
+pub set_none-here : {X : Type 0} (xs : List (Option X)) (i : ℕ) → get_or (set xs i None) i None ≡ None
+set_none-here [] i = refl
+set_none-here (x ∷ xs) zero = refl
+set_none-here (x ∷ xs) (suc i) = set_none-here xs i

@@ -8,8 +8,8 @@ use Rattle.std.proofs.lemmas.List.Sums.{passes_at_first}
 use Rattle.std.proofs.lemmas.Option.{none-some, same_Some}
 use Rattle.gh_base.specs.declared.ids.ObjIndex.{ObjIndex}
 use Rattle.gh_base.specs.declared.limits.TheConstants.{OBJECT_INDICES, PARTITIONS}
-use Rattle.gh_objects.specs.declared.object.Object.{Object}
-use Rattle.gh_objects.specs.Objects.{object_at, is_partition, is_had_by, place_of}
+use Rattle.gh_objects.specs.declared.header.Header.{Header}
+use Rattle.gh_objects.specs.Headers.{header_at, is_partition, is_had_by, place_of}
 use Rattle.gh_objects.specs.Partitions.{place_if}
 use Rattle.gh_objects.specs.Partitions.{HavePlaces}
 use Rattle.gh_objects.proofs.ListLemmas.{position-count, count_by-set, replicate-at}
@@ -41,26 +41,26 @@ pub place_if-None : (b : Bool) (place : ℕ) → None ≡ place_if b place → b
 place_if-None true place is = absurd (none-some place is)
 place_if-None false place is = refl
 
-module _ (objects : List (Option Object)) (partitions : List (Option ObjIndex)) (have : HavePlaces objects partitions) where
+module _ (headers : List (Option Header)) (partitions : List (Option ObjIndex)) (have : HavePlaces headers partitions) where
   -- a place is found for a live partition, and for no other index
-  found : (index : ℕ) → ltb (place_of partitions index) (length partitions) ≡ is_partition (object_at objects index)
-  found index = position-count (is_had_by index) partitions ∙ ap (ltb 0) (have.one_each index) ∙ ltb-one (is_partition (object_at objects index))
+  found : (index : ℕ) → ltb (place_of partitions index) (length partitions) ≡ is_partition (header_at headers index)
+  found index = position-count (is_had_by index) partitions ∙ ap (ltb 0) (have.one_each index) ∙ ltb-one (is_partition (header_at headers index))
 
-  pub position-place_if : (index : ℕ) → position (is_had_by index) partitions ≡ place_if (is_partition (object_at objects index)) (place_of partitions index)
-  position-place_if index = rw (found index) (cond-place_if (is_partition (object_at objects index)) (place_of partitions index))
+  pub position-place_if : (index : ℕ) → position (is_had_by index) partitions ≡ place_if (is_partition (header_at headers index)) (place_of partitions index)
+  position-place_if index = rw (found index) (cond-place_if (is_partition (header_at headers index)) (place_of partitions index))
 
-  module _ (index : ℕ) (object : Option Object) (within : index < length objects) where
+  module _ (index : ℕ) (object : Option Header) (within : index < length headers) where
     -- what is a partition elsewhere stays one
-    elsewhere : (other : ℕ) → other ≢ index → is_partition (object_at (set objects index object) other) ≡ is_partition (object_at objects other)
-    elsewhere other apart = ap is_partition (get_or-set_other objects index other object None apart)
+    elsewhere : (other : ℕ) → other ≢ index → is_partition (header_at (set headers index object) other) ≡ is_partition (header_at headers other)
+    elsewhere other apart = ap is_partition (get_or-set_other headers index other object None apart)
 
-    here : is_partition (object_at (set objects index object) index) ≡ is_partition object
-    here = ap is_partition (get_or-set_same objects index object None within)
+    here : is_partition (header_at (set headers index object) index) ≡ is_partition object
+    here = ap is_partition (get_or-set_same headers index object None within)
 
     -- an index where the object changes and remains a partition, or remains none
-    pub HavePlaces-same : is_partition object ≡ is_partition (object_at objects index) → HavePlaces (set objects index object) partitions
+    pub HavePlaces-same : is_partition object ≡ is_partition (header_at headers index) → HavePlaces (set headers index object) partitions
     HavePlaces-same same = record {
-      indices = length-set objects index object ∙ have.indices;
+      indices = length-set headers index object ∙ have.indices;
       places = have.places;
       one_each = λ other.
           have.one_each other ∙
@@ -68,33 +68,33 @@ module _ (objects : List (Option Object)) (partitions : List (Option ObjIndex)) 
             | inl at ↦ rw (at, here, same) refl
             | inr apart ↦ ap (λ b. if b then 1 else 0) (sym (elsewhere other apart))
           ];
-      as_many = omega (arith, have.as_many, rw same at (count_by-set is_partition objects index object None within));
+      as_many = omega (arith, have.as_many, rw same at (count_by-set is_partition headers index object None within));
     }
 
     -- a new partition gets a place that none has
-    pub HavePlaces-new : (place : ℕ) → place < length partitions → get_or partitions place None ≡ None → is_partition (object_at objects index) ≡ false → is_partition object ≡ true
-        → HavePlaces (set objects index object) (set partitions place (Some (record { 0 = index })))
+    pub HavePlaces-new : (place : ℕ) → place < length partitions → get_or partitions place None ≡ None → is_partition (header_at headers index) ≡ false → is_partition object ≡ true
+        → HavePlaces (set headers index object) (set partitions place (Some (record { 0 = index })))
     HavePlaces-new place there free before after =
         let new : Option ObjIndex = Some (record { 0 = index }) in
         record {
-          indices = length-set objects index object ∙ have.indices;
+          indices = length-set headers index object ∙ have.indices;
           places = length-set partitions place new ∙ have.places;
           one_each = λ other.
               elim (cases_eq other index) [
                 | inl at ↦ rw (at, here, after) (omega (arith, rw (free, eq-eqb index index refl) at (count_by-set (is_had_by index) partitions place new None there), rw before at (have.one_each index)))
                 | inr apart ↦ rw (elsewhere other apart) (omega (arith, rw (free, ne_eqb index other (λ same. apart (sym same))) at (count_by-set (is_had_by other) partitions place new None there), have.one_each other))
               ];
-          as_many = omega (arith, have.as_many, rw free at (count_by-set is_some partitions place new None there), rw (before, after) at (count_by-set is_partition objects index object None within));
+          as_many = omega (arith, have.as_many, rw free at (count_by-set is_some partitions place new None there), rw (before, after) at (count_by-set is_partition headers index object None within));
         }
 
     -- a partition that goes leaves its place
-    pub HavePlaces-gone : is_partition (object_at objects index) ≡ true → is_partition object ≡ false → HavePlaces (set objects index object) (set partitions (place_of partitions index) None)
+    pub HavePlaces-gone : is_partition (header_at headers index) ≡ true → is_partition object ≡ false → HavePlaces (set headers index object) (set partitions (place_of partitions index) None)
     HavePlaces-gone before after =
         let place = place_of partitions index in
         let there : place < length partitions = ltb-true place (length partitions) (found index ∙ before) in
         let has = passes_at_first (is_had_by index) partitions None there in
         record {
-          indices = length-set objects index object ∙ have.indices;
+          indices = length-set headers index object ∙ have.indices;
           places = length-set partitions place None ∙ have.places;
           one_each = λ other.
               elim (cases_eq other index) [
@@ -106,17 +106,17 @@ module _ (objects : List (Option Object)) (partitions : List (Option ObjIndex)) 
                 arith,
                 have.as_many,
                 rw (had-is_some index _ has) at (count_by-set is_some partitions place None None there),
-                rw (before, after) at (count_by-set is_partition objects index object None within),
+                rw (before, after) at (count_by-set is_partition headers index object None within),
               );
         }
 
 -- no partition has a place where no object lives
-pub HavePlaces-none : (objects : List (Option Object)) (partitions : List (Option ObjIndex)) → objects ≡ replicate OBJECT_INDICES None → partitions ≡ replicate PARTITIONS None → HavePlaces objects partitions
-HavePlaces-none objects partitions none free = record {
-  indices = ap length none ∙ length-replicate {A = Option Object} OBJECT_INDICES None;
+pub HavePlaces-none : (headers : List (Option Header)) (partitions : List (Option ObjIndex)) → headers ≡ replicate OBJECT_INDICES None → partitions ≡ replicate PARTITIONS None → HavePlaces headers partitions
+HavePlaces-none headers partitions none free = record {
+  indices = ap length none ∙ length-replicate {A = Option Header} OBJECT_INDICES None;
   places = ap length free ∙ length-replicate {A = Option ObjIndex} PARTITIONS None;
-  one_each = λ index. no_count (is_had_by index) partitions PARTITIONS refl free ∙ rw (replicate-at None OBJECT_INDICES objects none index) refl;
-  as_many = no_count is_some partitions PARTITIONS refl free ∙ sym (no_count is_partition objects OBJECT_INDICES refl none);
+  one_each = λ index. no_count (is_had_by index) partitions PARTITIONS refl free ∙ rw (replicate-at None OBJECT_INDICES headers none index) refl;
+  as_many = no_count is_some partitions PARTITIONS refl free ∙ sym (no_count is_partition headers OBJECT_INDICES refl none);
 }
   where
     no_count : {X : Type 0} (p : Option X → Bool) (xs : List (Option X)) (count : ℕ) → p None ≡ false → xs ≡ replicate count None → count_by p xs ≡ 0

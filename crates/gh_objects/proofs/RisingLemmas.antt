@@ -3,7 +3,6 @@ use Rattle.std.proofs.Common.{◌≡◌, ℕ, ◌+◌, ◌<◌, ◌≤◌, true,
 use Rattle.std.specs.List.{insert, remove, Contains}
 use Rattle.std.specs.List.Sorted.{IsNonDecreasingBy, IsPartitionPoint}
 use Rattle.std.proofs.lemmas.Bool.{cases_lt, lt-ltb, le-ltb, ltb-true, ltb-false}
-use Rattle.std.proofs.lemmas.List.Edits.{get_or-remove_below, get_or-remove_above, length-remove}
 use Rattle.std.proofs.lemmas.List.Sorted.{IsNonDecreasingBy-insert}
 use Rattle.std.proofs.lemmas.List.Sums.{prefix_len-le-length, prefix_len_is, prefix_len_passes, prefix_len_stops}
 use Rattle.gh_base.specs.declared.ids.Serial.{Serial}
@@ -69,22 +68,6 @@ module _ (serial : Serial) (serials : List Serial) where
       (λ k d before. omega (arith, ltb-true _ _ (prefix_len_passes (is_above serial) serials k d before)))
       (λ k d from within.
       omega (arith, ltb-false _ _ (prefix_len_stops (is_above serial) serials d (omega arith)), up (place_in serial serials) k d from within))
-
--- a rising list with one serial less still rises
-pub IsNonDecreasingBy-remove : (serials : List Serial) (at : ℕ) → IsNonDecreasingBy number serials → at < length serials → IsNonDecreasingBy number (remove serials at)
-IsNonDecreasingBy-remove serials at up there i j d ordered within =
-    let below = get_or-remove_below serials at d in
-    let above = get_or-remove_above serials at d in
-    let fewer = length-remove serials at there in
-    elim (cases_lt i at) [
-      | inl i_below ↦
-          elim (cases_lt j at) [
-            | inl j_below ↦ omega (arith, ap number (below i i_below there), ap number (below j j_below there), up i j d ordered (omega arith))
-            | inr j_past ↦ omega (arith, ap number (below i i_below there), ap number (above j j_past there), up i (j + 1) d (omega arith) (omega arith))
-          ]
-      | inr i_past ↦
-          omega (arith, ap number (above i i_past there), ap number (above j (omega arith) there), up (i + 1) (j + 1) d (omega arith) (omega arith))
-    ]
 
 -- serials of one number are one
 same_serial : (a b : Serial) → a.0 ≡ b.0 → a ≡ b

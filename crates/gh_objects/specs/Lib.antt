@@ -1,3 +1,6 @@
+pub mod Counts
+pub mod Headers
+pub mod Names
 pub mod Objects
 pub mod Partitions
 pub mod Rising

@@ -1,8 +1,8 @@
 //! The partition places: for each the index of the live partition that has it.
 
-ghost use Rattle.std.specs.Prelude.{◌≡◌, ◌<◌, is_none, is_some, length, count_by, position, slice_index_or};
+ghost use Rattle.std.specs.Prelude.{◌≡◌, ◌<◌, is_none, is_some, length, nat_lt, count_by, position, slice_index_or};
 ghost use Rattle.std.specs.List.{position_or_len};
-ghost use Rattle.gh_objects.specs.Objects.{is_had_by, is_partition_kind};
+ghost use Rattle.gh_objects.specs.Headers.{is_had_by, is_partition_kind};
 
 use gh_base::{Kind, ObjIndex, PARTITIONS};
 
@@ -32,6 +32,13 @@ pub fn free_place(partitions: &[Option<ObjIndex>; PARTITIONS]) -> usize
     ensures free { slice_index_or partitions.now result None ≡ None }
 {
     find_free(partitions).unwrap()
+}
+
+/// Whether a partition place is left that no live partition has.
+pub fn has_free_place(partitions: &[Option<ObjIndex>; PARTITIONS]) -> bool
+    ensures { result ≡ nat_lt (count_by is_some partitions.now) (length partitions.now) }
+{
+    find_free(partitions).is_some()
 }
 
 fn find_free(partitions: &[Option<ObjIndex>; PARTITIONS]) -> Option<usize>

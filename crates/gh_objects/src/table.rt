@@ -1,129 +1,96 @@
-//! The object of each index, and what is found by it: the free indices, and the serials of the
-//! doomed and of the retired objects.
+//! The header of each index, which indices are free, and which index a serial has.
 
-ghost use Rattle.std.specs.Prelude.{◌≡◌, ◌+◌, ◌<◌, ◌≤◌, None, IfOk, IfSome, Contains, is_some, length, count_by, replicate, slice_set};
-ghost use Rattle.std.specs.Option.{option_to_list};
-ghost use Rattle.std.specs.List.Sorted.{IsNonDecreasingBy};
-ghost use Rattle.gh_objects.specs.Objects.{object_at, objects_in, free_index, doomed, retired};
-ghost use Rattle.gh_objects.specs.Rising.{Relists};
-ghost use Rattle.gh_objects.specs.Serials.{number};
+ghost use Rattle.std.specs.Prelude.{◌≡◌, ◌<◌, ℕ, false, true, None, IfOk, IfSome, is_some, count_by, replicate, slice_set};
+ghost use Rattle.gh_objects.specs.Headers.{header_at, headers_in, free_index, has_serial};
 
-use crate::object::{Object, doomed_serial, retired_serial};
-use crate::rising::Rising;
-use crate::taken::{first_free, with_place};
-use gh_base::{NoMemory, OBJECT_INDICES, PARTITION_PLACES, PARTITIONS, Serial};
+use crate::header::Header;
+use crate::names::{INDEX_VALUES, Names, index_in, name_at, name_of, rename};
+use gh_base::{
+    NoMemory, OBJECT_INDICES, PARTITION_PLACES, PARTITIONS, Serial, first_free_place, with_place,
+};
 use std::alloc::Global;
 use std::marker::Model;
 
-/// The objects by index. No call but `new` takes memory.
+/// The headers by index. No call but `new` takes memory.
 #[derive(Debug, Drop)]
 pub struct Table {
-    objects: Vec<Option<Object>>,
-    // The word of each partition place has a bit for each of its indices that has an object.
+    headers: Vec<Option<Header>>,
+    // The word of each partition place has a bit for each of its indices that has a header.
     taken: [u128; PARTITIONS],
-    doomed: Rising,
-    retired: Rising,
+    names: Names,
 }
 
 impl Model for Table {
     ghost use Rattle.std.specs.Prelude.{List, Option};
-    ghost use Rattle.gh_objects.specs.declared.object.Object.{Object};
-    ghost use Rattle.gh_objects.specs.Table.{IsIndexed};
+    ghost use Rattle.gh_objects.specs.declared.header.Header.{Header};
+    ghost use Rattle.gh_objects.specs.Table.{IsKept};
 
-    ghost Value = { List (Option Object) };
+    ghost Value = { List (Option Header) };
 
-    ghost view = { λ t. t.objects.items };
+    ghost view = { λ t. t.headers.items };
 
-    ghost invariant = { λ t. IsIndexed t.objects.items t.taken t.doomed t.retired };
+    ghost invariant = { λ t. IsKept t.headers.items t.taken t.names };
 }
 
 impl Table {
-    /// No object, with all the room taken.
+    /// No header, with all the room taken.
     pub fn new(alloc: Global) -> Result<Table, NoMemory>
         ensures { IfOk result (λ t. t ≡ replicate OBJECT_INDICES None) }
     {
         Ok(Table {
-            objects: no_objects(alloc, OBJECT_INDICES)?,
+            headers: no_headers(alloc, OBJECT_INDICES)?,
             taken: [0; PARTITIONS],
-            doomed: Rising::new(alloc)?,
-            retired: Rising::new(alloc)?,
+            names: Names::new(alloc)?,
         })
     }
 
-    /// The object of an index; none past the indices.
-    pub fn get(&self, index: usize) -> Option<Object>
-        ensures { result ≡ object_at self.now index }
+    /// The header of an index; none past the indices.
+    pub fn get(&self, index: usize) -> Option<Header>
+        ensures { result ≡ header_at self.now index }
     {
-        self.objects.get(index).copied().flatten()
+        self.headers.get(index).copied().flatten()
     }
 
-    /// Puts an object to an index, or takes away the one that is there.
-    pub fn set(&mut self, index: usize, object: Option<Object>)
+    /// Puts a header to an index, or takes away the one that is there.
+    pub fn set(&mut self, index: usize, header: Option<Header>)
         requires { index < OBJECT_INDICES }
-        ensures { self.new ≡ slice_set self.old index object }
+        ensures { self.new ≡ slice_set self.old index header }
     {
-        let old = self.get(index);
-        relist(&mut self.doomed, doomed_serial(old), doomed_serial(object));
-        relist(
-            &mut self.retired,
-            retired_serial(old),
-            retired_serial(object),
-        );
+        let old = name_at(index, self.get(index));
+        rename(&mut self.names, old, name_at(index, header));
         let place = index / PARTITION_PLACES;
         let bits = self.taken[place];
-        self.taken[place] = with_place(bits, index % PARTITION_PLACES, object.is_none());
-        self.objects[index] = object;
+        self.taken[place] = with_place(bits, index % PARTITION_PLACES, header.is_none());
+        self.headers[index] = header;
     }
 
-    /// The least free index of a partition place. It looks at no object.
+    /// The least free index of a partition place. It looks at no header.
     pub fn first_free(&self, place: usize) -> usize
         requires place { place < PARTITIONS }
-        requires free { count_by is_some (objects_in self.now place) < PARTITION_PLACES }
+        requires free { count_by is_some (headers_in self.now place) < PARTITION_PLACES }
         ensures least { result ≡ free_index self.now place }
         ensures within { result < OBJECT_INDICES }
-        ensures free { object_at self.now result ≡ None }
+        ensures free { header_at self.now result ≡ None }
     {
-        place * PARTITION_PLACES + first_free(self.taken[place])
+        place * PARTITION_PLACES + first_free_place(self.taken[place])
     }
 
-    /// The serials of the doomed objects that aren't retired, rising.
-    pub fn doomed(&self) -> &[Serial]
-        ensures listed { result.now ≡ doomed self.now }
-        ensures rising { IsNonDecreasingBy number result.now }
+    /// An index whose header has the serial. It looks at no header.
+    pub fn index_of(&self, serial: Serial) -> Option<usize>
+        ensures found { IfSome result
+            (λ index. has_serial serial.0 (header_at self.now index) ≡ true) }
+        ensures within { IfSome result (λ index. index < INDEX_VALUES) }
+        ensures none { result ≡ None
+            → (index : ℕ) → has_serial serial.0 (header_at self.now index) ≡ false }
     {
-        self.doomed.as_slice()
-    }
-
-    /// The serials of the retired objects, rising.
-    pub fn retired(&self) -> &[Serial]
-        ensures listed { result.now ≡ retired self.now }
-        ensures rising { IsNonDecreasingBy number result.now }
-    {
-        self.retired.as_slice()
+        index_in(self.names.first_from(name_of(serial, 0)), serial)
     }
 }
 
-/// So many indices without an object.
-fn no_objects(alloc: Global, count: usize) -> Result<Vec<Option<Object>>, NoMemory>
+/// So many indices without a header.
+fn no_headers(alloc: Global, count: usize) -> Result<Vec<Option<Header>>, NoMemory>
     ensures { IfOk result (λ v. v.items ≡ replicate count None) }
 {
-    let objects = vec![in alloc; None; count]?;
-    Ok(objects)
-}
-
-/// Puts one serial in the place of another, where there are such. A list that is to stay isn't touched.
-fn relist(list: &mut Rising, old: Option<Serial>, new: Option<Serial>)
-    requires listed { IfSome old (Contains list.old) }
-    requires room { length list.old < OBJECT_INDICES + length (option_to_list old) }
-    ensures { Relists old new list.old list.new }
-{
-    if old == new {
-        return;
-    }
-    if let Some(serial) = old {
-        list.remove(serial);
-    }
-    if let Some(serial) = new {
-        list.insert(serial);
-    }
+    let headers = vec![in alloc; None; count]?;
+    Ok(headers)
 }

@@ -35,6 +35,11 @@ fn objects_get_the_least_free_places(rt: HostRuntime) -> Result<(), Fail> {
     assert_eq!(rt; header.map(|h| h.serial), Some(Serial(4)));
     assert_eq!(rt; objects.header(ObjIndex(3)), None);
     assert_eq!(rt; objects.header(ObjIndex(1024)), None);
+    assert_eq!(rt; objects.place(made), Some(2));
+    assert_eq!(rt; objects.place(ObjIndex(1)), None);
+    assert!(rt; objects.has_partition_place());
+    assert_eq!(rt; objects.index_of(Serial(4)), Some(made));
+    assert_eq!(rt; objects.index_of(Serial(6)), None);
     Ok(())
 }
 
@@ -50,6 +55,8 @@ fn an_object_without_references_is_doomed(rt: HostRuntime) -> Result<(), Fail> {
     objects.add_ref(bell);
     assert_eq!(rt; objects.doomed(), [].as_slice());
     assert!(rt; objects.drop_ref(bell));
+    assert!(rt; objects.is_doomed(bell));
+    assert!(rt; !objects.is_doomed(home));
     assert_eq!(rt; objects.doomed(), [Serial(4)].as_slice());
     objects.set_stage(bell, Stage::Active);
     objects.retire(bell);
@@ -59,6 +66,7 @@ fn an_object_without_references_is_doomed(rt: HostRuntime) -> Result<(), Fail> {
     objects.remove(bell);
     assert_eq!(rt; objects.retired(), [].as_slice());
     assert_eq!(rt; objects.header(bell), None);
+    assert_eq!(rt; objects.index_of(Serial(4)), None);
     let next = objects.insert(Kind::Queue, home, Serial(10), Stage::Init);
     assert_eq!(rt; next, bell);
     Ok(())

@@ -19,3 +19,6 @@ retire-requires-clause-not_retired g c = rw (c.set_stage.ensures, c.drop_ref.ens
 
 pub insert-next-requires-clause-index : goal.insert-next-requires-clause-index
 insert-next-requires-clause-index g c = rw (c.remove.ensures, c.retire.ensures, c.set_stage.ensures, c.drop_ref.ensures.state, c.add_ref-2.ensures, c.add_ref.ensures, c.insert-2.ensures.inserted, c.insert.ensures.inserted, c.in_ok-objects.ensures) (lit< tt)
+
+pub set_stage-requires : goal.set_stage-requires
+set_stage-requires g c = rw (c.drop_ref.ensures.state, c.add_ref-2.ensures, c.add_ref.ensures, c.insert-2.ensures.inserted, c.insert.ensures.inserted, c.in_ok-objects.ensures) refl

@@ -1,15 +1,6 @@
--- No partition has a place where no object lives.
-use Rattle.std.proofs.Common.{List, Option, None, replicate, refl, ap}
-use Rattle.gh_base.specs.declared.limits.TheConstants.{PARTITIONS}
-use Rattle.gh_objects.specs.declared.object.Object.{Object}
-use Rattle.gh_objects.specs.Objects.{Objects}
-use Rattle.gh_objects.proofs.PartitionsLemmas.{HavePlaces-none}
+-- Nothing is paired where no object lives.
+use Rattle.gh_objects.proofs.ObjectsLemmas.{ArePaired-none}
 use Rattle.gh_objects.proofs.objects.Objects.new.Goals as goal
 
 pub invariant_of-result : goal.invariant_of-result
-invariant_of-result c = HavePlaces-none _ _ c.in_ok-new.ensures refl
-
-pub returns : goal.returns
-returns c =
-    let of : List (Option Object) → Objects = λ objects. record { objects = objects; partitions = replicate PARTITIONS None } in
-    ap of c.in_ok-new.ensures
+invariant_of-result c = rw (c.in_ok-new.ensures, c.in_ok-new-2.ensures) ArePaired-none

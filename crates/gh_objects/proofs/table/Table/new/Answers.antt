@@ -1,7 +1,11 @@
--- Nothing is taken or listed where no object lives.
+-- Nothing is taken where no object lives.
 use Rattle.std.proofs.Common.{refl}
-use Rattle.gh_objects.proofs.TableLemmas.{IsIndexed-none}
+use Rattle.gh_objects.proofs.NamesLemmas.{AreNamed-none}
+use Rattle.gh_objects.proofs.TableLemmas.{IsMarked-none}
 use Rattle.gh_objects.proofs.table.Table.new.Goals as goal
 
 pub invariant_of-result : goal.invariant_of-result
-invariant_of-result c = IsIndexed-none _ _ _ _ c.in_ok-no_objects.ensures refl c.in_ok-new.ensures c.in_ok-new-2.ensures
+invariant_of-result c = record {
+  marked = IsMarked-none _ _ c.in_ok-no_headers.ensures refl;
+  named = AreNamed-none _ _ c.in_ok-no_headers.ensures c.in_ok-new.ensures;
+}
