@@ -6,7 +6,7 @@ use Rattle.std.specs.Prelude.{replicate}
 use Rattle.std.specs.Option.{option_map_or}
 use Rattle.gh_base.specs.Kind.{kind_number, kind_rights}
 use Rattle.gh_base.specs.declared.ids.Serial.{Serial}
-use Rattle.gh_base.specs.declared.limits.TheConstants.{CSPACES, MACHINE_PAGES, MESSAGE_BYTES, PARTITIONS, PARTITION_UNITS, QUEUE_DEPTH, VMS}
+use Rattle.gh_base.specs.declared.limits.TheConstants.{CSPACES, FRAGMENT_BYTES, MACHINE_PAGES, MESSAGE_BYTES, NEW_BELL_ACK, NEW_BELL_ENABLE, NEW_BELL_FLAGS, PARTITIONS, PARTITION_UNITS, QUEUE_DEPTH, VMS}
 use Rattle.gh_base.specs.declared.kind.Kind.{Kind}
 use Rattle.gh_base.specs.declared.kind.Kind.TheVariants as kind
 use Rattle.gh_base.specs.declared.kind.Stage.TheVariants.{Active}
@@ -14,6 +14,7 @@ use Rattle.gh_model.specs.declared.boot_line.BootLine.{BootLine}
 use Rattle.gh_model.specs.declared.boot_line.BootLine.TheVariants.{Pages, Partition, Cspace, Addrspace, Doorbell, RootExtent, Extent, Msgqueue, Map, Cap, Vm, Rm, Link}
 use Rattle.gh_model.specs.declared.rows.ObjectRow.{ObjectRow}
 use Rattle.gh_model.specs.declared.rows.ExtentRow.{ExtentRow}
+use Rattle.gh_model.specs.declared.rows.BellRow.{BellRow}
 use Rattle.gh_model.specs.declared.rows.CapabilityRow.{CapabilityRow}
 use Rattle.gh_model.specs.declared.rows.MappingRow.{MappingRow}
 use Rattle.gh_model.specs.declared.rows.QueueRow.{QueueRow}
@@ -74,9 +75,17 @@ with_partition s quota = record (with_object s kind.Partition s.next_serial 1) {
 }
 
 -- a doorbell begins without flags, with all of them enabled and none acknowledged by itself
+abbrev pub new_bell : Serial → BellRow
+new_bell serial = record {
+  serial = serial;
+  flags = NEW_BELL_FLAGS;
+  enable = NEW_BELL_ENABLE;
+  ack = NEW_BELL_ACK;
+}
+
 abbrev pub with_bell : State → ℕ → State
 with_bell s partition = record (with_object s kind.Bell partition 1) {
-  bells = s.bells ++ record { serial = serial_of s.next_serial; flags = 0; enable = 2 ^ 64 - 1; ack = 0 } ∷ [];
+  bells = s.bells ++ new_bell (serial_of s.next_serial) ∷ [];
 }
 
 -- the root extent spans and holds all pages
@@ -273,7 +282,7 @@ abbrev pub is_linked_queue : ℕ → LinkRow → Bool
 is_linked_queue queue row = (row.request.0 == queue) || (row.reply.0 == queue)
 
 abbrev pub is_small_queue : ℕ → QueueRow → Bool
-is_small_queue queue row = (row.serial.0 == queue) && nat_le row.size 240
+is_small_queue queue row = (row.serial.0 == queue) && nat_le row.size FRAGMENT_BYTES
 
 abbrev pub link_fits : State → ℕ → ℕ → ℕ → ℕ → Bool
 link_fits s vm extent request reply =

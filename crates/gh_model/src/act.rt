@@ -1,6 +1,7 @@
 //! The acts of the calls on the state.
 
 ghost use Rattle.std.specs.Prelude.{◌≡◌, ◌+◌, ◌<◌, ◌≤◌, Option, find, position, if◌then◌else◌};
+ghost use Rattle.gh_base.specs.declared.limits.TheConstants.{HISTORY_ENTRIES};
 ghost use Rattle.gh_base.specs.Reply.{register_reply};
 ghost use Rattle.gh_model.specs.Rows.{change_row, is_bell, is_cpu};
 ghost use Rattle.gh_model.specs.Act.{Judges, act as act_of, effect as effect_of, all_active, any_doomed, is_active_row, first_grant, with_flags, with_bell_flags, bell_flags, flags_of, as_exited, with_exit, counted, identified};
@@ -45,7 +46,7 @@ fn first(grants: &[Serial]) -> Serial
 
 /// An entry of the history is made, which is no part of a revoke.
 fn count(alloc: Global, state: &mut State)
-    requires { state.old.entries < 4294963200 }
+    requires { state.old.entries < HISTORY_ENTRIES }
     ensures { state.new ≡ counted state.old }
 {
     state.entries += 1;
@@ -110,7 +111,7 @@ fn put_exited(cpus: &mut Sequence<CpuRow>, cpu: CpuNo)
 }
 
 fn exit(state: &mut State, cpu: CpuNo)
-    requires { state.old.rings < 4294963200 }
+    requires { state.old.rings < HISTORY_ENTRIES }
     ensures { state.new ≡ with_exit state.old cpu.0 }
 {
     put_exited(&mut state.cpus, cpu);
@@ -137,7 +138,7 @@ fn effect(
     bytes: &[u8],
     grants: &[Serial],
 ) -> Judged
-    requires entries { state.old.entries < 4294963200 }
+    requires entries { state.old.entries < HISTORY_ENTRIES }
     requires rings { state.old.rings ≤ state.old.entries }
     ensures { Judges state.old state.new result (effect_of state.old cpu.0 call.now bytes.now grants.now) }
 {
@@ -170,7 +171,7 @@ pub(crate) fn act(
     bytes: &[u8],
     grants: &[Serial],
 ) -> Judged
-    requires entries { state.old.entries < 4294963200 }
+    requires entries { state.old.entries < HISTORY_ENTRIES }
     requires rings { state.old.rings ≤ state.old.entries }
     ensures { Judges state.old state.new result (act_of state.old cpu.0 call.now bytes.now grants.now) }
 {

@@ -12,7 +12,10 @@ use crate::rows::{
     QueueRow,
 };
 use crate::state::State;
-use gh_base::{Access, CpuNo, Kind, NoMemory, PageNo, Rights, Sequence, Serial, Stage, VmId};
+use gh_base::{
+    Access, CpuNo, Kind, NEW_BELL_ACK, NEW_BELL_ENABLE, NEW_BELL_FLAGS, NoMemory, PageNo, Rights,
+    Sequence, Serial, Stage, VmId,
+};
 use std::alloc::Global;
 use std::marker::Model;
 
@@ -118,9 +121,9 @@ fn add_bell(state: &mut State, partition: Serial) -> Result<(), NoMemory>
     let serial = add_object(state, Kind::Bell, partition, 1)?;
     state.bells.push(BellRow {
         serial,
-        flags: 0,
-        enable: u64::MAX,
-        ack: 0,
+        flags: NEW_BELL_FLAGS,
+        enable: NEW_BELL_ENABLE,
+        ack: NEW_BELL_ACK,
     })
 }
 

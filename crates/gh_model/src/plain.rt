@@ -1,6 +1,7 @@
 //! The slow machine: its state is the definition's, and each of its calls is a definition.
 
 ghost use Rattle.std.specs.Prelude.{◌≡◌, ◌<◌, IfOk, OnErr};
+ghost use Rattle.gh_base.specs.declared.limits.TheConstants.{HISTORY_ENTRIES};
 ghost use Rattle.gh_model.specs.Act.{Judges, act as act_of};
 ghost use Rattle.gh_model.specs.Access.{access_at};
 ghost use Rattle.gh_model.specs.Boot.{boot_state};
@@ -75,7 +76,7 @@ impl Plain {
         call: &Call,
         grants: &[Serial],
     ) -> Result<Judged, NoMemory>
-        requires { self.old.entries < 4294963200 }
+        requires { self.old.entries < HISTORY_ENTRIES }
         ensures judged { IfOk result (λ judged. Judges self.old self.new judged
             (act_of self.old cpu.0 call.now frame.now.bytes grants.now)) }
         ensures no_memory { OnErr result (self.new ≡ self.old) }
