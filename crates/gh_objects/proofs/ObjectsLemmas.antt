@@ -28,9 +28,9 @@ ArePaired-set headers before after counts index header count pairs within same =
       elim (cases_eq other index) [
         | inl at ↦
             rw at (
-              ap (option_map header_serial) (get_or-set_same headers index header None (omega (arith, pairs.headers)))
-              ∙ same
-              ∙ sym (ap (option_map count_serial) (get_or-set_same counts index count None (omega (arith, pairs.counts)))))
+            ap (option_map header_serial) (get_or-set_same headers index header None (omega (arith, pairs.headers)))
+            ∙ same
+            ∙ sym (ap (option_map count_serial) (get_or-set_same counts index count None (omega (arith, pairs.counts)))))
         | inr apart ↦
             ap (option_map header_serial) (get_or-set_other headers index other header None apart)
             ∙ pairs.paired other
