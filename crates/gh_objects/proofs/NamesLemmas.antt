@@ -1,5 +1,5 @@
 -- Names that are put into a rising list, taken out of it and looked for, and how they follow the headers.
-use Rattle.std.proofs.Common.{◌≡◌, ◌≢◌, ℕ, zero, suc, ◌+◌, ◌*◌, ◌/◌, ◌%◌, ◌<◌, ◌≤◌, Bool, true, false, List, [], ◌∷◌, Option, None, Some, is_some, length, get_or, set, take, replicate, count_by, cond, eqb, ltb, refl, sym, ap, ◌∙◌, arith, inl, inr, eqb-true, eq-eqb, ne_eqb}
+use Rattle.std.proofs.Common.{◌≡◌, ◌≢◌, ℕ, zero, suc, ◌+◌, ◌/◌, ◌%◌, ◌<◌, ◌≤◌, Bool, true, false, List, [], ◌∷◌, Option, None, Some, is_some, length, get_or, set, replicate, cond, eqb, ltb, refl, sym, ap, ◌∙◌, arith, inl, inr, eqb-true, eq-eqb, ne_eqb}
 use Rattle.std.specs.Prelude.{IfSome, IsSomeAnd, is_none, slice_get}
 use Rattle.std.specs.List.{insert, remove, Contains, prefix_len, position_or_len}
 use Rattle.std.specs.List.Sorted.{IsNonDecreasingBy, IsPartitionPoint}

@@ -1,15 +1,14 @@
 -- Headers and counts stay paired.
-use Rattle.std.proofs.Common.{◌≡◌, ◌≢◌, ℕ, ◌<◌, List, Option, None, Some, length, set, replicate, refl, sym, ap, ◌∙◌, inl, inr, arith}
+use Rattle.std.proofs.Common.{◌≡◌, ℕ, ◌<◌, List, Option, None, set, replicate, refl, sym, ap, ◌∙◌, inl, inr, arith}
 use Rattle.std.specs.Option.{option_map}
 use Rattle.std.proofs.lemmas.Bool.{cases_eq}
-use Rattle.std.proofs.lemmas.List.{get_or-set_same, get_or-set_other, length-set, length-replicate, set-get_or}
+use Rattle.std.proofs.lemmas.List.{get_or-set_same, get_or-set_other, length-set, length-replicate}
 use Rattle.gh_base.specs.declared.ids.ObjIndex.{ObjIndex}
-use Rattle.gh_base.specs.declared.kind.Stage.{Stage}
 use Rattle.gh_base.specs.declared.limits.TheConstants.{OBJECT_INDICES}
 use Rattle.gh_objects.specs.declared.count.Count.{Count}
 use Rattle.gh_objects.specs.declared.header.Header.{Header}
-use Rattle.gh_objects.specs.Counts.{count_at, no_counts}
-use Rattle.gh_objects.specs.Headers.{HeaderTable, header_at, in_stage, no_headers}
+use Rattle.gh_objects.specs.Counts.{no_counts}
+use Rattle.gh_objects.specs.Headers.{no_headers}
 use Rattle.gh_objects.specs.Objects.{Objects, ArePaired, header_serial, count_serial}
 use Rattle.gh_objects.proofs.ListLemmas.{replicate-at}
 
@@ -29,9 +28,9 @@ ArePaired-set headers before after counts index header count pairs within same =
       elim (cases_eq other index) [
         | inl at ↦
             rw at (
-              ap (option_map header_serial) (get_or-set_same headers index header None (omega (arith, pairs.headers)))
-              ∙ same
-              ∙ sym (ap (option_map count_serial) (get_or-set_same counts index count None (omega (arith, pairs.counts)))))
+            ap (option_map header_serial) (get_or-set_same headers index header None (omega (arith, pairs.headers)))
+            ∙ same
+            ∙ sym (ap (option_map count_serial) (get_or-set_same counts index count None (omega (arith, pairs.counts)))))
         | inr apart ↦
             ap (option_map header_serial) (get_or-set_other headers index other header None apart)
             ∙ pairs.paired other

@@ -1,10 +1,9 @@
 -- The headers of the live objects as callers see them: by index, with the partition places that the
 -- live partitions have.
-use Rattle.std.specs.Prelude.{◌≡◌, ◌==◌, ◌&&◌, ℕ, ◌+◌, ◌-◌, ◌*◌, ◌/◌, ◌<◌, Bool, true, false, List, Option, Some, None, is_some, is_none, take, drop, count_by, nat_lt, slice_index_or, slice_set, replicate, if◌then◌else◌}
+use Rattle.std.specs.Prelude.{◌≡◌, ◌==◌, ℕ, ◌+◌, ◌*◌, ◌/◌, ◌<◌, Bool, true, false, List, Option, Some, None, is_some, is_none, take, drop, count_by, nat_lt, slice_index_or, slice_set, replicate, if◌then◌else◌}
 use Rattle.std.specs.List.{position_or_len}
 use Rattle.std.specs.Option.{option_map, option_map_or}
 use Rattle.gh_base.specs.declared.ids.ObjIndex.{ObjIndex}
-use Rattle.gh_base.specs.declared.ids.Serial.{Serial}
 use Rattle.gh_base.specs.declared.kind.Kind.{Kind}
 use Rattle.gh_base.specs.declared.kind.Kind.TheVariants.{Partition, Cspace, Space, Extent, Bell, Queue}
 use Rattle.gh_base.specs.declared.kind.Stage.{Stage}

@@ -60,7 +60,11 @@ impl Counts {
     {
         let old = self.get(index);
         relist(&mut self.doomed, doomed_serial(old), doomed_serial(count));
-        relist(&mut self.retired, retired_serial(old), retired_serial(count));
+        relist(
+            &mut self.retired,
+            retired_serial(old),
+            retired_serial(count),
+        );
         self.counts[index] = count;
     }
 

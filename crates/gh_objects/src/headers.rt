@@ -8,7 +8,9 @@ ghost use Rattle.gh_objects.specs.Partitions.{HavePlaces, place_if};
 use crate::header::Header;
 use crate::partitions::{free_place, has_free_place, is_partition_kind, place_of};
 use crate::table::Table;
-use gh_base::{Kind, NoMemory, OBJECT_INDICES, ObjIndex, PARTITION_PLACES, PARTITIONS, Serial, Stage};
+use gh_base::{
+    Kind, NoMemory, OBJECT_INDICES, ObjIndex, PARTITION_PLACES, PARTITIONS, Serial, Stage,
+};
 use std::alloc::Global;
 use std::marker::Model;
 

@@ -1,5 +1,5 @@
 -- A partition that goes leaves its place, and any other object has none to leave.
-use Rattle.std.proofs.Common.{◌≡◌, ◌<◌, Bool, ℕ, true, None, length, refl, sym, ap, ◌∙◌}
+use Rattle.std.proofs.Common.{◌<◌, Bool, ℕ, None, length, refl, sym, ap, ◌∙◌}
 use Rattle.gh_objects.specs.Headers.{HeaderTable, header_at, is_partition, place_of}
 use Rattle.gh_objects.proofs.ListLemmas.{is_some-within}
 use Rattle.gh_objects.proofs.PartitionsLemmas.{HavePlaces-same, HavePlaces-gone, place_if-Some, place_if-None}

@@ -1,6 +1,4 @@
 -- The least name that isn't less stands at the place of the name.
-use Rattle.std.proofs.Common.{ap, ◌∙◌}
-use Rattle.std.specs.Prelude.{slice_get}
 use Rattle.gh_objects.proofs.NamesLemmas.{first-there, first-from, first-least}
 use Rattle.gh_objects.proofs.names.Names.first_from.Goals as goal
 

@@ -1,6 +1,5 @@
 -- The list rises with the name at its place.
-use Rattle.std.proofs.Common.{arith, ap, ◌∙◌, length, ◌+◌, eqb}
-use Rattle.std.proofs.lemmas.List.Edits.{length-insert}
+use Rattle.std.proofs.Common.{arith, ap, ◌∙◌, ◌+◌, eqb}
 use Rattle.gh_objects.specs.Names.{times, once_if}
 use Rattle.gh_objects.proofs.NamesLemmas.{IsNonDecreasingBy-insert_place, times-insert}
 use Rattle.gh_objects.proofs.names.Names.insert.Goals as goal

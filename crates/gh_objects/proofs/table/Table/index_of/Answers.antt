@@ -1,9 +1,4 @@
 -- The first name from that of the serial at index 0 tells whether an object has it.
-use Rattle.std.proofs.Common.{◌≡◌, ℕ, List, Option, true, false, None, sym, ap, ◌∙◌, subst}
-use Rattle.std.specs.Prelude.{IfSome}
-use Rattle.gh_objects.specs.declared.header.Header.{Header}
-use Rattle.gh_objects.specs.declared.names.TheConstants.{INDEX_VALUES}
-use Rattle.gh_objects.specs.Headers.{header_at, has_serial}
 use Rattle.gh_objects.proofs.NamesLemmas.{index_of-found, index_of-within, index_of-none}
 use Rattle.gh_objects.proofs.table.Table.index_of.Goals as goal
 
