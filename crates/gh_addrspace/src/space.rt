@@ -15,7 +15,7 @@ use crate::mapping::{Chosen, Mapping};
 use crate::pages::{follow_all, hide_chosen, show};
 use gh_base::{Access, Errno, NoMemory, PageNo, SPACE_PAGES, SPACE_ROWS, Serial};
 use gh_model::{Holders, MapRow, Span};
-use gh_pagetable::{NUMBERED_PAGES, PageTable};
+use gh_pagetable::{NUMBERED_PAGES, PageTable, tables_are_their_answers};
 use std::alloc::Global;
 use std::marker::Model;
 
@@ -190,6 +190,15 @@ impl Space {
         ensures { result ≡ tables_of self.now.pages }
     {
         self.table.tables()
+    }
+
+    /// With nothing to run: where each page of two spaces leads to the same, their page tables are
+    /// equal.
+    pub(crate) fn compare_tables(&self, other: &Space)
+        ensures { ((v : ℕ) → v < SPACE_PAGES → at self.now.pages v ≡ at other.now.pages v)
+            → self.now.pages ≡ other.now.pages }
+    {
+        tables_are_their_answers(&self.table, &other.table);
     }
 
     /// Why a row of an extent of this span can't be mapped.
