@@ -78,7 +78,9 @@ fn fits(access: Access, wider: Access) -> bool
 impl Space {
     /// An address space without rows. It takes the room of all its tables and rows.
     pub fn new(alloc: Global) -> Result<Space, NoMemory>
-        ensures { IfOk result IsEmptySpace }
+        ensures empty { IfOk result IsEmptySpace }
+        ensures shows { (spans : ℕ → Option Spanned) (holders : List Number)
+            → IfOk result (Shows spans holders) }
     {
         let mappings = Vec::with_capacity(alloc, SPACE_ROWS)?;
         let table = PageTable::new(alloc)?;
