@@ -1,6 +1,8 @@
 //! Operations on extents and address spaces.
 
-use crate::checksum::checksum;
+ghost use Rattle.std.specs.Prelude.{◌≤◌, IfOk, length};
+
+use crate::checksum::{checksum, folded};
 use gh_addrspace::Space;
 use gh_base::{Access, NoMemory, PageNo, Relation, SPACE_PAGES, Serial};
 use gh_extent::{EXTENT_PAGES, Extents};
@@ -11,8 +13,10 @@ const ROOT: Serial = Serial(1);
 
 const CHILD: Serial = Serial(2);
 
-/// Donates so many pages to a relative, where both have rows; 1 if they moved.
-fn donate(extents: &mut Extents, relation: Relation, from: Serial, to: Serial, page: u64) -> u64 {
+/// Donates a page to a relative, where both have rows; 1 if it moved.
+fn donate(extents: &mut Extents, relation: Relation, from: Serial, to: Serial, page: u64) -> u64
+    ensures { length extents.old.holders ≤ length extents.new.holders }
+{
     if extents.span(from).is_none() || extents.span(to).is_none() {
         return 0;
     }
@@ -49,7 +53,9 @@ fn row(base: u64, count: u64) -> MapRow {
 }
 
 /// Extents of 4,096 pages, of which the root and its child hold every second one.
-fn every_second(alloc: Global) -> Result<Extents, NoMemory> {
+fn every_second(alloc: Global) -> Result<Extents, NoMemory>
+    ensures { IfOk result (λ e. EXTENT_PAGES ≤ length e.holders) }
+{
     let mut extents = Extents::new(alloc, EXTENT_PAGES, ROOT)?;
     let _ = extents.derive(CHILD, ROOT, 0, SPACE_PAGES, Access::ALL)?;
     for page in 0..SPACE_PAGES / 2 {
@@ -67,6 +73,42 @@ fn mapped(alloc: Global, extents: &Extents) -> Result<Space, NoMemory> {
 
 /// Asks for the holder of a page, of 4,096 runs.
 pub fn holder(alloc: Global, count: u64) -> Result<u64, NoMemory> {
+    let extents = every_second(alloc)?;
+    let mut sum = 0;
+    for turn in 0..count {
+        let page = PageNo((turn % SPACE_PAGES) as u16);
+        sum = folded(sum, extents.holder(page).0 as u64);
+    }
+    Ok(sum)
+}
+
+/// Derives a page of the root extent as a new extent; 1 if it was derived.
+fn derive_page(extents: &mut Extents, page: u64) -> u64 {
+    let child = Serial(CHILD.0 + page as u32 % 64);
+    if extents.span(child).is_some() || extents.span(ROOT).is_none() {
+        return 0;
+    }
+    match extents.derive(child, ROOT, page, 1, Access::ALL) {
+        Ok(Ok(())) => 1,
+        _ => 0,
+    }
+}
+
+/// Derives one page after another, with new extents after every 64.
+pub fn derive(alloc: Global, count: u64) -> Result<u64, NoMemory> {
+    let mut extents = Extents::new(alloc, 64, ROOT)?;
+    let mut sum = 0;
+    for turn in 0..count {
+        if turn % 64 == 0 {
+            extents = Extents::new(alloc, 64, ROOT)?;
+        }
+        sum = folded(sum, derive_page(&mut extents, turn % 64));
+    }
+    Ok(sum)
+}
+
+/// Asks whether an extent holds a page, of 4,096 runs.
+pub fn holds(alloc: Global, count: u64) -> Result<u64, NoMemory> {
     let extents = every_second(alloc)?;
     Ok(checksum(count, |turn| {
         extents.holds(ROOT, PageNo((turn % SPACE_PAGES) as u16)) as u64

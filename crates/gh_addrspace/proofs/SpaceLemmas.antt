@@ -250,3 +250,31 @@ module _
               ] refl named
         ] refl;
   }
+
+-- two machine pages that the same span and offset name are one
+same_place :
+    (o : Option Span) (p q offset : ℕ) → IsSomeAnd o (λ span. p ≡ span.first.0 + offset)
+    → IsSomeAnd o (λ span. q ≡ span.first.0 + offset) → p ≡ q
+same_place None p q offset a b = absurd a
+same_place (Some span) p q offset a b = a ∙ sym b
+
+-- the machine page of a row is that which the spans name
+same_mapping :
+    (spans : ℕ → Option Span) (m n : Mapping) → IsNamed spans m → IsNamed spans n → m.row ≡ n.row → m ≡ n
+same_mapping spans m n a b same =
+    let place = same_place (spans n.row.extent.0) m.page.0 n.page.0 n.row.offset (rw same at a) b in
+    let of : MapRow → ℕ → Mapping = λ row page. record { row = row; page = record { 0 = page } } in
+    ap (λ row. of row m.page.0) same ∙ ap (λ page. of n.row page) place
+
+pub same_mappings :
+    (spans : ℕ → Option Span) (ms ns : List Mapping) → All (IsNamed spans) ms → All (IsNamed spans) ns
+    → map (λ m. m.row) ms ≡ map (λ m. m.row) ns → ms ≡ ns
+same_mappings spans [] [] a b same = refl
+same_mappings spans [] (n ∷ ns) a b same = absurd (cc)
+same_mappings spans (m ∷ ms) [] a b same = absurd (cc)
+same_mappings spans (m ∷ ms) (n ∷ ns) a b same =
+    let row = ap (λ (rows : List MapRow). get_or rows 0 m.row) same in
+    let rest = ap (λ (rows : List MapRow). drop 1 rows) same in
+    let first = same_mapping spans m n (a 0 m (omega arith)) (b 0 n (omega arith)) row in
+    let others = same_mappings spans ms ns (λ k d within. a (suc k) d (omega arith)) (λ k d within. b (suc k) d (omega arith)) rest in
+    ap (λ x. x ∷ ms) first ∙ ap (λ xs. n ∷ xs) others

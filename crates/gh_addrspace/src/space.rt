@@ -15,7 +15,7 @@ use crate::mapping::{Chosen, Mapping};
 use crate::pages::{follow_all, hide_chosen, show};
 use gh_base::{Access, Errno, NoMemory, PageNo, SPACE_PAGES, SPACE_ROWS, Serial};
 use gh_model::{Holders, MapRow, Span};
-use gh_pagetable::{NUMBERED_PAGES, PageTable};
+use gh_pagetable::{NUMBERED_PAGES, PageTable, tables_are_their_answers};
 use std::alloc::Global;
 use std::marker::Model;
 
@@ -78,7 +78,9 @@ fn fits(access: Access, wider: Access) -> bool
 impl Space {
     /// An address space without rows. It takes the room of all its tables and rows.
     pub fn new(alloc: Global) -> Result<Space, NoMemory>
-        ensures { IfOk result IsEmptySpace }
+        ensures empty { IfOk result IsEmptySpace }
+        ensures shows { (spans : ℕ → Option Spanned) (holders : List Number)
+            → IfOk result (Shows spans holders) }
     {
         let mappings = Vec::with_capacity(alloc, SPACE_ROWS)?;
         let table = PageTable::new(alloc)?;
@@ -190,6 +192,15 @@ impl Space {
         ensures { result ≡ tables_of self.now.pages }
     {
         self.table.tables()
+    }
+
+    /// With nothing to run: where each page of two spaces leads to the same, their page tables are
+    /// equal.
+    pub(crate) fn compare_tables(&self, other: &Space)
+        ensures { ((v : ℕ) → v < SPACE_PAGES → at self.now.pages v ≡ at other.now.pages v)
+            → self.now.pages ≡ other.now.pages }
+    {
+        tables_are_their_answers(&self.table, &other.table);
     }
 
     /// Why a row of an extent of this span can't be mapped.

@@ -1,2 +1,3 @@
 pub mod ExtentLemmas
 pub mod RunLemmas
+pub mod TreeLemmas

@@ -63,6 +63,16 @@ pub record AreWithin (s : Extents) : Type 0 where
   pub most : length s.holders ≤ EXTENT_PAGES
   pub spans : All (λ row. row.first.0 + row.count ≤ length s.holders) s.rows
 
+-- the parent has a row; the root has no parent
+abbrev pub HasParent : Extents → ExtentRow → Type 0
+HasParent s row = row.parent.0 ≢ 0 → HasRow s row.parent.0
+
+-- each parent has a row, and so has the holder of each page
+pub record IsTree (s : Extents) : Type 0 where
+  pub within : AreWithin s
+  pub parents : All (HasParent s) s.rows
+  pub holders : All (λ holder. HasRow s holder.0) s.holders
+
 -- the extents with one row more
 abbrev pub with_row : Extents → ExtentRow → Extents
 with_row s row = record s { rows = s.rows ++ row ∷ [] }

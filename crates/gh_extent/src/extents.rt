@@ -2,7 +2,7 @@
 
 ghost use Rattle.std.specs.Prelude.{◌≡◌, ◌+◌, ◌<◌, ◌≤◌, IfOk, IfNone, IfSome, IsSomeAnd, OnErr, OnOk, IsOk, Some, All, filter, find, length, slice_get};
 ghost use Rattle.std.specs.Result.{result_err};
-ghost use Rattle.gh_extent.specs.Extents.{AreWithin, CanGiveBack, HasRow, IsNewChild, IsSpanIn, after_give_back, derive_refusal, derived, donate_refusal, donated, first_run, is_other, is_related, moved, root_alone, row_derive_refusal, row_of, rows_donate_refusal, span_row, spans_all, with_parcel, with_row, without_row};
+ghost use Rattle.gh_extent.specs.Extents.{CanGiveBack, HasRow, IsNewChild, IsSpanIn, IsTree, after_give_back, derive_refusal, derived, donate_refusal, donated, first_run, is_other, is_related, moved, root_alone, row_derive_refusal, row_of, rows_donate_refusal, span_row, spans_all, with_parcel, with_row, without_row};
 ghost use Rattle.gh_model.specs.Boot.{access_fits};
 ghost use Rattle.gh_model.specs.Memory.{HoldsRun};
 ghost use Rattle.gh_model.specs.Rows.{is_extent};
@@ -27,13 +27,13 @@ pub struct Extents {
 }
 
 impl Model for Extents {
-    ghost use Rattle.gh_extent.specs.Extents.{AreWithin, Extents as State};
+    ghost use Rattle.gh_extent.specs.Extents.{Extents as State, IsTree};
 
     ghost Value = { State };
 
     ghost view = { λ e. record { rows = e.rows.items; holders = e.holders } };
 
-    ghost invariant = { λ e. AreWithin (record { rows = e.rows.items; holders = e.holders }) };
+    ghost invariant = { λ e. IsTree (record { rows = e.rows.items; holders = e.holders }) };
 }
 
 /// The row of an extent.
@@ -230,7 +230,8 @@ impl Extents {
     pub fn holder(&self, page: PageNo) -> Serial
         requires { page.0 < length self.now.holders }
         ensures holder { slice_get self.now.holders page.0 ≡ Some result }
-        ensures within { AreWithin self.now }
+        ensures row { HasRow self.now result.0 }
+        ensures tree { IsTree self.now }
     {
         self.holders.holder(page.0)
     }
@@ -248,7 +249,8 @@ impl Extents {
 
     /// Puts a row last.
     fn push(&mut self, row: ExtentRow) -> Result<(), NoMemory>
-        requires { row.first.0 + row.count ≤ length self.old.holders }
+        requires span { row.first.0 + row.count ≤ length self.old.holders }
+        requires parent { HasRow self.old row.parent.0 }
         ensures ok { OnOk result (self.new ≡ with_row self.old row) }
         ensures err { OnErr result (self.new ≡ self.old) }
     {
@@ -258,7 +260,8 @@ impl Extents {
 
     /// Gives pages from an offset in an extent's span to another extent.
     fn give_from(&mut self, row: ExtentRow, offset: u64, count: u64, to: Serial)
-        requires { 0 < count → row.first.0 + offset + count ≤ length self.old.holders }
+        requires span { 0 < count → row.first.0 + offset + count ≤ length self.old.holders }
+        requires to { HasRow self.old to.0 }
         ensures { self.new ≡ moved self.old (row.first.0 + offset) count to }
     {
         if count > 0 {
