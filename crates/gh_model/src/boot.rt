@@ -195,7 +195,7 @@ fn add_extent(state: &mut State, partition: Serial, new: NewExtent) -> Result<()
 }
 
 /// Units of a queue: one, and its messages' room in pages, rounded up.
-fn cost_of_queue(depth: u16, size: u16) -> u16
+pub(crate) fn cost_of_queue(depth: u16, size: u16) -> u16
     requires depth { depth ≤ 64 }
     requires size { size ≤ 1024 }
     ensures { result ≡ queue_cost depth size }
