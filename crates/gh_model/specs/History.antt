@@ -23,6 +23,8 @@ use Rattle.gh_model.specs.Registers.{needs_of}
 use Rattle.gh_model.specs.Marks.{Seen, Made}
 use Rattle.gh_model.specs.References.{is_doomed, is_mapping_of}
 use Rattle.gh_model.specs.Act.{Verdict, Done, Refused, judge, counted}
+use Rattle.gh_model.specs.Changes.{changed}
+use Rattle.gh_model.specs.declared.change.Change.TheVariants as change
 
 -- an entry with what the log keeps beside it: of an act its call, the frame's bytes and the words
 -- that its looks found, and of a part those of the call that it is a part of. Beside another entry
@@ -36,8 +38,7 @@ pub record Event : Type 0 where
 -- what a look gives an entry of this number: its word, and of a look at that number or above it
 -- nothing
 abbrev pub word_for : ℕ → Seen → Word
-word_for number seen =
-    if nat_lt seen.look.place number then seen.word else record { row = None; set_at = 0 }
+word_for number seen = if nat_lt seen.look.place number then seen.word else record { row = None; set_at = 0 }
 
 -- the entry of this number that is the act of a finished call
 abbrev pub event_of : ℕ → Call → Made → Event
@@ -107,33 +108,19 @@ abbrev pub acted : State → ℕ → Call → List ℕ → List Word → State
 acted s cpu call bytes words =
     if may_act s cpu call words then after_verdict s (judge s cpu call bytes words) else numbered s
 
--- a slot's setting becomes this entry's number
-abbrev pub with_setting : List SetAtRow → ℕ → ℕ → ℕ → List SetAtRow
-with_setting rows cspace slot number =
-    if list_any (tells_setting cspace slot) rows
-    then change_row (tells_setting cspace slot) (λ (row : SetAtRow). record row {
-      number =
-          number;
-    }) rows
-    else rows ++ record { cspace = record { 0 = cspace }; slot = slot; number = number } ∷ []
-
-abbrev pub as_revoked : CapabilityRow → CapabilityRow
-as_revoked row = record row { valid = false }
-
 abbrev pub may_part : Option CapabilityRow → Bool
 may_part None = false
 may_part (Some row) = row.valid && not row.master
+
+-- a part of a revoke takes a slot
+abbrev pub took : State → Serial → ℕ → State
+took s space slot = record s { taken = s.taken ++ record { cspace = space; slot = slot } ∷ [] }
 
 -- one valid capability without master mark is revoked
 abbrev pub parted : State → Serial → ℕ → State
 parted s space slot =
     if may_part (find (fills space.0 slot) s.caps)
-    then record s {
-      caps = change_row (fills space.0 slot) as_revoked s.caps;
-      set_at = with_setting s.set_at space.0 slot (s.entries + 1);
-      taken = s.taken ++ record { cspace = space; slot = slot } ∷ [];
-      entries = s.entries + 1;
-    } else numbered s
+    then numbered (took (changed s (change.RevokeCapability space slot)) space slot) else numbered s
 
 abbrev pub is_unretired : Option ObjectRow → Bool
 is_unretired None = false
@@ -143,45 +130,17 @@ abbrev pub is_retired : Option ObjectRow → Bool
 is_retired None = false
 is_retired (Some row) = is_some row.retired
 
--- a doomed object's row gets the counters of its retirement
-abbrev pub with_counters : List ℕ → ObjectRow → ObjectRow
-with_counters seen row = record row { retired = Some seen }
-
+-- a doomed object is retired once: its row gets the counters
 abbrev pub retired : State → Serial → List ℕ → State
 retired s serial seen =
     if is_doomed s serial.0 && is_unretired (object_row s serial.0)
-    then counted (record s {
-      objects =
-          change_row (is_object serial.0) (with_counters seen) s.objects;
-    })
-    else numbered s
-
--- the extent's pages go to its parent
-abbrev pub parent_of : State → ℕ → Serial
-parent_of s extent =
-    option_map_or (λ (row : ExtentRow). row.parent) (find (is_extent extent) s.extents) (record { 0 = 0 })
-
-abbrev pub given_back : ℕ → Serial → Serial → Serial
-given_back extent parent holder = if holder.0 == extent then parent else holder
-
--- all rows of the object, but for the capabilities that name it
-abbrev pub without_object : State → ℕ → State
-without_object s serial = record s {
-  objects = filter (λ (row : ObjectRow). not (is_object serial row)) s.objects;
-  partitions = filter (λ (row : PartitionRow). not (is_partition serial row)) s.partitions;
-  extents = filter (λ (row : ExtentRow). not (is_extent serial row)) s.extents;
-  holders = map (given_back serial (parent_of s serial)) s.holders;
-  caps = filter (λ (row : CapabilityRow). not (row.cspace.0 == serial)) s.caps;
-  set_at = filter (λ (row : SetAtRow). not (row.cspace.0 == serial)) s.set_at;
-  mappings = filter (λ (row : MappingRow). not (is_mapping_of serial row)) s.mappings;
-  bells = filter (λ (row : BellRow). not (is_bell serial row)) s.bells;
-  queues = filter (λ (row : QueueRow). not (row.serial.0 == serial)) s.queues;
-}
+    then counted (changed s (change.Retire serial seen)) else numbered s
 
 -- a retired object that is still doomed goes away
 abbrev pub reclaimed : State → Serial → State
 reclaimed s serial =
-    if is_doomed s serial.0 && is_retired (object_row s serial.0) then counted (without_object s serial.0) else numbered s
+    if is_doomed s serial.0 && is_retired (object_row s serial.0)
+    then counted (changed s (change.Reclaim serial)) else numbered s
 
 -- the state after one more entry
 abbrev pub after_entry : State → Event → Entry → State

@@ -7,6 +7,7 @@ use Rattle.gh_model.specs.declared.rows.CapabilityRow.{CapabilityRow}
 use Rattle.gh_model.specs.declared.rows.SetAtRow.{SetAtRow}
 use Rattle.gh_model.specs.declared.rows.ExtentRow.{ExtentRow}
 use Rattle.gh_model.specs.declared.rows.BellRow.{BellRow}
+use Rattle.gh_model.specs.declared.rows.QueueRow.{QueueRow}
 use Rattle.gh_model.specs.declared.rows.CpuRow.{CpuRow}
 use Rattle.gh_model.specs.declared.state.State.{State}
 
@@ -19,7 +20,7 @@ abbrev pub change_row : {R : Type 0} → (R → Bool) → (R → R) → List R �
 change_row test change rows =
     put_row change rows (position_or_len test rows) (slice_get rows (position_or_len test rows))
 
--- the row of an object, a partition, an extent, a bell, a CPU
+-- the row of an object, a partition, an extent, a bell, a queue, a CPU
 abbrev pub is_object : ℕ → ObjectRow → Bool
 is_object serial row = row.serial.0 == serial
 
@@ -31,6 +32,9 @@ is_extent serial row = row.serial.0 == serial
 
 abbrev pub is_bell : ℕ → BellRow → Bool
 is_bell serial row = row.serial.0 == serial
+
+abbrev pub is_queue : ℕ → QueueRow → Bool
+is_queue serial row = row.serial.0 == serial
 
 abbrev pub is_cpu : ℕ → CpuRow → Bool
 is_cpu number row = row.cpu.0 == number

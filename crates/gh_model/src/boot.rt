@@ -200,7 +200,7 @@ fn add_extent(state: &mut State, partition: Serial, new: NewExtent) -> Result<()
 }
 
 /// Units of a queue: one, and its messages' room in pages, rounded up.
-fn cost_of_queue(depth: u16, size: u16) -> u16
+pub(crate) fn cost_of_queue(depth: u16, size: u16) -> u16
     requires depth { depth ≤ QUEUE_DEPTH }
     requires size { size ≤ MESSAGE_BYTES }
     ensures { result ≡ queue_cost depth size }

@@ -3,26 +3,37 @@
 
 mod access;
 mod act;
+mod bell_calls;
 mod boot;
 mod boot_line;
+mod capability_calls;
+mod change;
+mod decide;
 mod entry;
 mod file_err;
 mod law;
 mod lookup;
+mod manager_calls;
 mod memory;
+mod memory_calls;
+mod object_calls;
 mod plain;
 mod program;
+mod queue_calls;
 mod reads;
 mod references;
 mod rows;
 mod running;
 mod state;
+mod state_reads;
 mod units;
 mod word;
 
 pub use access::PageRun;
 pub use boot::Boot;
 pub use boot_line::BootLine;
+pub use change::{Change, Decision};
+pub use decide::decision;
 pub use entry::Entry;
 pub use file_err::FileErr;
 pub use law::{calls_stay_legal, run_is_legal};
@@ -35,4 +46,5 @@ pub use rows::{
 };
 pub use running::{CpuRun, Looked, Running, Seat};
 pub use state::State;
+pub use state_reads::{QueueFill, StateReads};
 pub use word::Word;
