@@ -13,7 +13,7 @@ use Rattle.gh_model.specs.declared.boot_line.BootLine.TheVariants.{Pages, Partit
 use Rattle.gh_model.specs.declared.rows.ExtentRow.{ExtentRow}
 use Rattle.gh_model.specs.declared.rows.ObjectRow.{ObjectRow}
 use Rattle.gh_model.specs.declared.state.State.{State}
-use Rattle.gh_model.specs.Boot.{line_fits, link_fits, after_line, has_units, is_kind, kind_count, is_of_kind, rights_fit_kind, may_attach, is_free_slot, queue_cost, cpu_vms, first_page}
+use Rattle.gh_model.specs.Boot.{line_fits, after_line, has_units, is_kind, kind_count, is_of_kind, rights_fit_kind, may_attach, is_free_slot, queue_cost, cpu_vms, first_page}
 use Rattle.gh_model.specs.Rows.{object_row}
 use Rattle.gh_model.specs.Fitting.{IsFitting}
 use Rattle.gh_model.proofs.FittingLemmas.{below, extent_held, extent_within, link_small, partition_serial, queue_some, units_serial, units_within}

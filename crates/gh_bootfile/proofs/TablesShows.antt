@@ -1,10 +1,9 @@
 -- The tables show the state after each kind of line.
-use Rattle.std.proofs.Common.{◌≡◌, ℕ, ◌+◌, ◌*◌, ◌<◌, ◌≤◌, ltb, Bool, true, false, List, [], ◌∷◌, ◌++◌, Option, None, Some, length, get_or, set, refl, sym, ap, ◌∙◌, arith, inl, inr, cond, eqb, subst, length-append}
-use Rattle.std.specs.Prelude.{◌&&◌, find, nat_le}
-use Rattle.std.specs.Option.{option_map_or, option_or}
+use Rattle.std.proofs.Common.{◌≡◌, ℕ, ◌+◌, ◌*◌, ◌<◌, ◌≤◌, ltb, Bool, true, false, List, [], ◌∷◌, ◌++◌, None, Some, length, get_or, set, refl, sym, ap, ◌∙◌, arith, inl, inr, cond, eqb, subst, length-append}
+use Rattle.std.specs.Prelude.{◌&&◌, nat_le}
+use Rattle.std.specs.Option.{option_map_or}
 use Rattle.std.proofs.lemmas.Bool.{cases_Bool, lt-ltb}
 use Rattle.std.proofs.lemmas.List.{length-set}
-use Rattle.std.proofs.lemmas.List.Folds.{find-append}
 use Rattle.gh_base.specs.Kind.{kind_number}
 use Rattle.gh_base.specs.declared.kind.Kind.{Kind}
 use Rattle.gh_base.specs.declared.kind.Kind.TheVariants as kind
@@ -15,12 +14,9 @@ use Rattle.gh_model.specs.declared.rows.CpuRow.{CpuRow}
 use Rattle.gh_model.specs.declared.rows.ExtentRow.{ExtentRow}
 use Rattle.gh_model.specs.declared.rows.LinkRow.{LinkRow}
 use Rattle.gh_model.specs.declared.rows.MappingRow.{MappingRow}
-use Rattle.gh_model.specs.declared.rows.PartitionRow.{PartitionRow}
 use Rattle.gh_model.specs.declared.state.State.{State}
 use Rattle.gh_model.specs.Boot.{after_line, empty_state, boot_object, cpu_cspace, is_small_queue, is_master_of, queue_cost, serial_of}
 use Rattle.gh_model.specs.Boot.{with_object as state_with_object, with_partition as state_with_partition, with_bell as state_with_bell, with_root as state_with_root, with_extent as state_with_extent, with_queue as state_with_queue, with_mapping as state_with_mapping, with_capability as state_with_capability, with_cpu as state_with_cpu, with_link as state_with_link}
-use Rattle.gh_model.specs.Rows.{is_partition}
-use Rattle.gh_model.specs.Units.{row_quota}
 use Rattle.gh_model.proofs.FittingLemmas.{quota_more}
 use Rattle.gh_bootfile.specs.declared.tables.Tables.{Tables}
 use Rattle.gh_bootfile.specs.Tables.{places, units_at, slot_place, object_key, partition_key, extent_key, Shows, ShowsObjects, ShowsPartitions, ShowsExtents, HasRoom}

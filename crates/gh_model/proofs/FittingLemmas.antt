@@ -1,6 +1,6 @@
 -- Lines that fit keep the state fitting, and what follows for the code.
 use Rattle.std.proofs.Common.{◌≡◌, ◌==◌, ◌+◌, ◌-◌, ◌*◌, ◌<◌, ◌≤◌, ◌∙◌, ℕ, suc, get_or, drop-cons, Bool, true, false, List, [], ◌∷◌, ◌++◌, length, take, drop, filter, find, map, fold, refl, subst, sym, ap, arith, inl, inr, IsTrue, IsSome, Option, Some, None, cond, eqb, if◌then◌else◌}
-use Rattle.std.specs.Prelude.{◌&&◌, count_by, sum_by, is_some, nat_le, nat_lt, replicate}
+use Rattle.std.specs.Prelude.{count_by, sum_by, is_some, nat_lt, replicate}
 use Rattle.std.specs.Option.{option_map_or, option_or}
 use Rattle.std.proofs.lemmas.Bool.{cases_Bool, cases_lt, eqb-true}
 use Rattle.std.proofs.lemmas.Bool.Decides.{nat_tests}
@@ -23,7 +23,7 @@ use Rattle.gh_model.specs.declared.rows.ObjectRow.{ObjectRow}
 use Rattle.gh_model.specs.declared.rows.PartitionRow.{PartitionRow}
 use Rattle.gh_model.specs.declared.state.State.{State}
 use Rattle.gh_model.specs.Boot.{after_line, boot_fits, boot_object, boot_state, empty_state, extent_fits, first_page, has_units, is_complete, is_vm, kind_count, line_fits, lines_fit, link_fits, move_pages, queue_cost, serial_of, vm_count, with_object}
-use Rattle.gh_model.specs.Fitting.{FitObjects, IsFitting, IsNumbered, left_by, left_in, object_units, partitions_among, span_end}
+use Rattle.gh_model.specs.Fitting.{FitObjects, IsFitting, left_by, left_in, object_units, partitions_among, span_end}
 use Rattle.gh_model.specs.Rows.{cpu_row, is_cpu, is_extent, is_partition}
 use Rattle.gh_model.specs.Units.{free_units, given_by, is_given_by, lives_in, object_cost, partition_quota, row_quota, used_by}
 use Rattle.gh_model.proofs.CpuRows.{empty_numbered, found_counts, line_numbered, one_if}
@@ -161,7 +161,7 @@ module _ (s : State) (h : IsFitting s) where
         let row : ObjectRow = boot_object s k partition cost in
         let longer : length (s.objects ++ boot_object s k partition cost ∷ []) ≡ length s.objects + 1 = length-append s.objects (row ∷ []) in
         let less : left_in (s.objects ++ boot_object s k partition cost ∷ []) s.partitions + 1 ≤ left_in s.objects s.partitions =
-            sum_fewer (left_by (s.objects ++ boot_object s k partition cost ∷ [])) (left_by s.objects) (is_partition partition) s.partitions home.0 home.1 (left_less s.objects row) (λ one is. left_fewer s.objects row one some (omega (arith, units_within, some)) is) in
+        sum_fewer (left_by (s.objects ++ boot_object s k partition cost ∷ [])) (left_by s.objects) (is_partition partition) s.partitions home.0 home.1 (left_less s.objects row) (λ one is. left_fewer s.objects row one some (omega (arith, units_within, some)) is) in
         record {
           serials = omega (arith, longer, h.objects.serials);
           rows = omega (arith, other, h.objects.rows);

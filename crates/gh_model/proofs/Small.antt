@@ -1,5 +1,5 @@
 -- The states of boot files have few objects and partitions, and so small sums of units.
-use Rattle.std.proofs.Common.{◌≡◌, ◌+◌, ◌*◌, ◌<◌, ◌≤◌, List, IsTrue, subst, sym, arith}
+use Rattle.std.proofs.Common.{◌≡◌, List, IsTrue, subst, sym, arith}
 use Rattle.gh_model.specs.declared.boot_line.BootLine.{BootLine}
 use Rattle.gh_model.specs.declared.state.State.{State}
 use Rattle.gh_model.specs.Boot.{boot_fits, boot_state}
