@@ -73,7 +73,7 @@ frames_from_progress progress last [] going = refl
 frames_from_progress progress last (reply ∷ replies) going =
     ap (λ (frame : Frame). frame ∷ (if is_exit frame then [] else frames_on vm_answer vm_after (progress.made + 1 + 1) (asked vm_answer vm_after (progress.made + 1 + 1) (asked vm_answer vm_after (progress.made + 1) progress last).program (Some reply)) replies)) (frame_is progress last going)
     ∙ ap (λ (frames : List Frame). next_frame (progress.made + 1) (position_now progress last).left ∷ frames)
-        (behind progress last reply replies going (λ onward goes. frames_from_progress onward (Some reply) replies goes) (is_exit (next_frame (progress.made + 1) (position_now progress last).left)) refl)
+    (behind progress last reply replies going (λ onward goes. frames_from_progress onward (Some reply) replies goes) (is_exit (next_frame (progress.made + 1) (position_now progress last).left)) refl)
     ∙ sym (ap (λ (ended : Bool). if ended then [] else next_frame (progress.made + 1) (position_now progress last).left ∷ frames_from (progress.made + 1 + 1) (after_reply (position_now progress last) (next_frame (progress.made + 1) (position_now progress last).left) reply) replies) going)
 
 -- the frames that the program of a call file makes are those of its lines

@@ -59,7 +59,7 @@ sent s queue message (Some fill) =
     if nat_lt fill.size (length message) then Refuse ArgSize
     else (if nat_le fill.depth fill.count then Refuse QueueFull
     else Make (PutMessage queue message ∷ rings_if (is_request_queue s queue))
-        (done_with (one_if (nat_lt (fill.count + 1) fill.depth))))
+    (done_with (one_if (nat_lt (fill.count + 1) fill.depth))))
 
 abbrev pub msgq_send : State → Serial → List ℕ → Decision
 msgq_send s queue message = sent s queue message (queue_fill s queue)

@@ -72,12 +72,7 @@ pub(crate) fn bell_receive<R: StateReads>(
     received(alloc, clear, rows.bell(bell))
 }
 
-fn masked(
-    alloc: Global,
-    enable: u64,
-    ack: u64,
-    row: Option<BellRow>,
-) -> Result<Decision, NoMemory>
+fn masked(alloc: Global, enable: u64, ack: u64, row: Option<BellRow>) -> Result<Decision, NoMemory>
     ensures { IfOk result (λ decision. decision ≡ masked enable ack row) }
 {
     match row {

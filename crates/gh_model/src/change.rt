@@ -1,49 +1,94 @@
 //! The changes of the state that acts and the history's other entries are made of.
 
-use crate::rows::{
-    BellRow, CapabilityRow, ExtentRow, MappingRow, ObjectRow,
-};
+use crate::rows::{BellRow, CapabilityRow, ExtentRow, MappingRow, ObjectRow};
 use gh_base::{CpuNo, Errno, Reply, Sequence, Serial, Stage};
 
 /// One change of the rows. Pages, depths and units are numbers of them, sizes are in bytes.
 #[derive(Debug, Drop)]
 pub enum Change {
     /// A free slot is filled.
-    PutCapability { row: CapabilityRow },
+    PutCapability {
+        row: CapabilityRow,
+    },
     /// A filled slot is emptied.
-    DropCapability { cspace: Serial, slot: u8 },
+    DropCapability {
+        cspace: Serial,
+        slot: u8,
+    },
     /// A slot's capability is revoked, and stays in its slot.
-    RevokeCapability { cspace: Serial, slot: u8 },
+    RevokeCapability {
+        cspace: Serial,
+        slot: u8,
+    },
     /// An object of the next serial, with its partition's, bell's or queue's row.
-    AddObject { row: ObjectRow },
+    AddObject {
+        row: ObjectRow,
+    },
     /// An object comes to another stage.
-    SetStage { object: Serial, stage: Stage },
+    SetStage {
+        object: Serial,
+        stage: Stage,
+    },
     /// An object's row gets the CPUs' counters at its retirement.
-    Retire { object: Serial, seen: [u64; 9] },
+    Retire {
+        object: Serial,
+        seen: [u64; 9],
+    },
     /// An object goes with all its rows, and an extent's pages go to its parent.
-    Reclaim { object: Serial },
+    Reclaim {
+        object: Serial,
+    },
     /// A partition gets its quota, which its parent gives.
-    GiveQuota { partition: Serial, quota: u16 },
+    GiveQuota {
+        partition: Serial,
+        quota: u16,
+    },
     /// An extent gets its span.
-    AddExtent { row: ExtentRow },
+    AddExtent {
+        row: ExtentRow,
+    },
     /// A run of pages of the machine gets another holder.
-    MovePages { first: u16, count: u16, holder: Serial },
+    MovePages {
+        first: u16,
+        count: u16,
+        holder: Serial,
+    },
     /// Pages of an extent appear in an address space.
-    PutMapping { row: MappingRow },
+    PutMapping {
+        row: MappingRow,
+    },
     /// A mapping row of the map call goes.
-    DropMapping { row: MappingRow },
+    DropMapping {
+        row: MappingRow,
+    },
     /// A bell's words are set.
-    SetBell { row: BellRow },
+    SetBell {
+        row: BellRow,
+    },
     /// A queue gets its depth and its size, and costs so many units from now on.
-    ConfigureQueue { queue: Serial, depth: u16, size: u16, cost: u16 },
+    ConfigureQueue {
+        queue: Serial,
+        depth: u16,
+        size: u16,
+        cost: u16,
+    },
     /// A message goes behind a queue's others.
-    PutMessage { queue: Serial, message: Sequence<u8> },
+    PutMessage {
+        queue: Serial,
+        message: Sequence<u8>,
+    },
     /// A queue's first message goes.
-    DropMessage { queue: Serial },
+    DropMessage {
+        queue: Serial,
+    },
     /// A queue's messages go.
-    EmptyQueue { queue: Serial },
+    EmptyQueue {
+        queue: Serial,
+    },
     /// A CPU has exited.
-    Exit { cpu: CpuNo },
+    Exit {
+        cpu: CpuNo,
+    },
     /// The resource manager's bell rings.
     Ring,
 }
@@ -52,9 +97,14 @@ pub enum Change {
 #[derive(Debug, Drop)]
 pub enum Decision {
     /// It is refused, and nothing changes.
-    Refuse { errno: Errno },
+    Refuse {
+        errno: Errno,
+    },
     /// Capabilities of a revoke are left, which its parts must take first: x0 is 0, and nothing changes.
     Unfinished,
     /// These changes are made in order, and an entry of the history, with this reply.
-    Make { changes: Sequence<Change>, reply: Reply },
+    Make {
+        changes: Sequence<Change>,
+        reply: Reply,
+    },
 }

@@ -56,7 +56,9 @@ fn is_init_row(row: Option<ObjectRow>) -> bool
 fn all_active<R: StateReads>(rows: &R, grants: &[Serial]) -> bool
     ensures { result ≡ all_active (R.rows rows.now) grants.now }
 {
-    grants.iter().all(|grant| is_active_row(rows.object(*grant)))
+    grants
+        .iter()
+        .all(|grant| is_active_row(rows.object(*grant)))
 }
 
 fn is_active<R: StateReads>(rows: &R, object: Serial) -> bool
@@ -110,36 +112,88 @@ fn decided<R: StateReads>(
         }),
         Call::Exit => exit(alloc, cpu),
         Call::BellSend { cap: _, flags } => bell_send(alloc, rows, first, flags),
-        Call::BellSetMask { cap: _, enable, ack } => bell_set_mask(alloc, rows, first, enable, ack),
+        Call::BellSetMask {
+            cap: _,
+            enable,
+            ack,
+        } => bell_set_mask(alloc, rows, first, enable, ack),
         Call::BellReceive { cap: _, clear } => bell_receive(alloc, rows, first, clear),
         Call::BellReset { cap: _ } => bell_reset(alloc, first),
-        Call::MsgqSend { cap: _, size: _, buffer: _, flags: _ } => msgq_send(alloc, rows, first, bytes),
-        Call::MsgqRecv { cap: _, buffer: _, size } => msgq_recv(alloc, rows, first, size),
+        Call::MsgqSend {
+            cap: _,
+            size: _,
+            buffer: _,
+            flags: _,
+        } => msgq_send(alloc, rows, first, bytes),
+        Call::MsgqRecv {
+            cap: _,
+            buffer: _,
+            size,
+        } => msgq_recv(alloc, rows, first, size),
         Call::MsgqFlush { cap: _ } => msgq_flush(alloc, rows, first),
-        Call::Map { space, extent: _, base, attributes, flags, offset, size } => {
+        Call::Map {
+            space,
+            extent: _,
+            base,
+            attributes,
+            flags,
+            offset,
+            size,
+        } => {
             let extent = named_extent(space, grants);
             let space = named_space(rows, cpu, space, grants);
-            map(alloc, rows, space, extent, base, attributes, flags, offset, size)
+            map(
+                alloc, rows, space, extent, base, attributes, flags, offset, size,
+            )
         }
-        Call::Unmap { space, extent: _, base, flags, offset, size } => {
+        Call::Unmap {
+            space,
+            extent: _,
+            base,
+            flags,
+            offset,
+            size,
+        } => {
             let extent = named_extent(space, grants);
             let space = named_space(rows, cpu, space, grants);
             unmap(alloc, rows, space, extent, base, flags, offset, size)
         }
-        Call::Donate { options, from: _, to: _, offset, size } => {
-            donate(alloc, rows, options, first, second, offset, size)
-        }
-        Call::Derive { child: _, parent: _, offset, size, access } => {
-            derive(alloc, rows, first, second, offset, size, access)
-        }
+        Call::Donate {
+            options,
+            from: _,
+            to: _,
+            offset,
+            size,
+        } => { donate(alloc, rows, options, first, second, offset, size) }
+        Call::Derive {
+            child: _,
+            parent: _,
+            offset,
+            size,
+            access,
+        } => { derive(alloc, rows, first, second, offset, size, access) }
         Call::AsLookup { space, address } => {
             Ok(as_lookup(alloc, rows, named_space(rows, cpu, space, grants), address))
         }
-        Call::Create { partition: _, cspace: _, kind } => create(alloc, rows, first, second, kind),
-        Call::ConfigurePartition { cap: _, quota } => configure_partition(alloc, rows, first, quota),
-        Call::ConfigureQueue { cap: _, depth, size } => configure_queue(alloc, rows, first, depth, size),
+        Call::Create {
+            partition: _,
+            cspace: _,
+            kind,
+        } => create(alloc, rows, first, second, kind),
+        Call::ConfigurePartition { cap: _, quota } => configure_partition(
+            alloc, rows, first, quota,
+        ),
+        Call::ConfigureQueue {
+            cap: _,
+            depth,
+            size,
+        } => configure_queue(alloc, rows, first, depth, size),
         Call::Activate { cap: _ } => activate(alloc, rows, first),
-        Call::CapCopy { cspace: _, source, mask } => cap_copy(alloc, rows, cpu, first, second, source, mask),
+        Call::CapCopy {
+            cspace: _,
+            source,
+            mask,
+        } => cap_copy(alloc, rows, cpu, first, second, source, mask),
         Call::CapDelete { cspace: _, slot } => cap_delete(alloc, rows, first, slot),
         Call::CapRevoke { cspace: _, slot } => cap_revoke(alloc, rows, first, slot),
         Call::CapsRevoke { cap: _ } => Ok(caps_revoke(alloc, rows, first)),

@@ -47,7 +47,11 @@ fn exit_bit<R: StateReads>(rows: &R, vm: u8, bit: u64) -> u64
     ensures bit { result ≡ exit_bit (R.rows rows.now) vm bit }
     ensures small { result ≤ 256 }
 {
-    if has_exited(rows.cpu(CpuNo(vm))) { bit } else { 0 }
+    if has_exited(rows.cpu(CpuNo(vm))) {
+        bit
+    } else {
+        0
+    }
 }
 
 fn request_bits<R: StateReads>(rows: &R) -> u64

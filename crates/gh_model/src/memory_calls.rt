@@ -180,17 +180,16 @@ pub(crate) fn unmap<R: StateReads>(
         Some(row) => {
             let offset = meant_offset(flags, offset);
             let count = meant_count(row, flags, size);
-            unmapped_row(alloc, rows.mapping(space, extent, base / 4096, offset, count))
+            unmapped_row(
+                alloc,
+                rows.mapping(space, extent, base / 4096, offset, count),
+            )
         }
     }
 }
 
 /// The changes of a derive.
-fn derive_changes(
-    alloc: Global,
-    child: Serial,
-    row: ExtentRow,
-) -> Result<Decision, NoMemory>
+fn derive_changes(alloc: Global, child: Serial, row: ExtentRow) -> Result<Decision, NoMemory>
     ensures { IfOk result (λ decision. decision ≡ Decision.Make (Change.AddExtent row ∷ Change.MovePages row.first.0 row.count child ∷ Change.SetStage child Stage.Ready ∷ []) done) }
 {
     let mut changes = Sequence::new(alloc);

@@ -124,14 +124,7 @@ fn created<R: StateReads>(
         None => Ok(Decision::Refuse {
             errno: Errno::ArgInval,
         }),
-        Some(kind) => created_in(
-            alloc,
-            rows,
-            partition,
-            cspace,
-            kind,
-            rows.free_slot(cspace),
-        ),
+        Some(kind) => created_in(alloc, rows, partition, cspace, kind, rows.free_slot(cspace)),
     }
 }
 
@@ -184,7 +177,13 @@ pub(crate) fn configure_partition<R: StateReads>(
             errno: Errno::ArgInval,
         });
     }
-    quota_given(alloc, rows, partition, quota as u16, rows.partition(partition))
+    quota_given(
+        alloc,
+        rows,
+        partition,
+        quota as u16,
+        rows.partition(partition),
+    )
 }
 
 /// The room of a queue's messages in pages, rounded up.
@@ -253,11 +252,7 @@ pub(crate) fn configure_queue<R: StateReads>(
     )
 }
 
-fn activated(
-    alloc: Global,
-    object: Serial,
-    row: Option<ObjectRow>,
-) -> Result<Decision, NoMemory>
+fn activated(alloc: Global, object: Serial, row: Option<ObjectRow>) -> Result<Decision, NoMemory>
     ensures { IfOk result (λ decision. decision ≡ activated object row) }
 {
     match row {

@@ -115,11 +115,7 @@ pub trait StateReads {
         ensures { result ≡ queue_fill (rows self.now) queue };
 
     /// A copy of the queue's first message.
-    fn first_message(
-        &self,
-        alloc: Global,
-        queue: Serial,
-    ) -> Result<Option<Sequence<u8>>, NoMemory>
+    fn first_message(&self, alloc: Global, queue: Serial) -> Result<Option<Sequence<u8>>, NoMemory>
         ensures { IfOk result (λ message. message ≡ first_message (rows self.now) queue) };
 
     /// Whether it is the request queue of a link.
