@@ -84,7 +84,7 @@ pub fn holder(alloc: Global, count: u64) -> Result<u64, NoMemory> {
 
 /// Derives a page of the root extent as a new extent; 1 if it was derived.
 fn derive_page(extents: &mut Extents, page: u64) -> u64 {
-    let child = Serial(CHILD.0 + page as u32 % 64);
+    let child = Serial(CHILD.0 + (page % 64) as u32);
     if extents.span(child).is_some() || extents.span(ROOT).is_none() {
         return 0;
     }
