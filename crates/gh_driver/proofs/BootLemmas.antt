@@ -1,5 +1,5 @@
 -- The CPUs of a boot state, and the run that begins there.
-use Rattle.std.proofs.Common.{◌≡◌, ◌==◌, ◌+◌, ◌≤◌, ◌∙◌, ℕ, suc, List, [], ◌∷◌, ◌++◌, length, fold, filter, map, IsTrue, All, refl, sym, ap, subst, nat_le, nat_lt, if◌then◌else◌, arith, length-append}
+use Rattle.std.proofs.Common.{◌≡◌, ◌==◌, ◌+◌, ◌≤◌, ◌∙◌, ℕ, suc, List, [], ◌∷◌, ◌++◌, length, fold, filter, map, IsTrue, All, refl, sym, ap, subst, cond, count_by, nat_lt, if◌then◌else◌, arith, length-append}
 use Rattle.std.proofs.lemmas.Bool.Decides.{nat_tests}
 use Rattle.std.proofs.lemmas.List.{length-map}
 use Rattle.std.proofs.lemmas.List.Elements.{All-map}
@@ -8,45 +8,32 @@ use Rattle.gh_model.specs.declared.boot_line.BootLine.TheVariants.{Pages, Partit
 use Rattle.gh_model.specs.declared.rows.CpuRow.{CpuRow}
 use Rattle.gh_model.specs.declared.running.Running.{Running}
 use Rattle.gh_model.specs.declared.state.State.{State}
-use Rattle.gh_model.specs.Boot.{line_fits, lines_fit, after_line, empty_state, boot_state, boot_fits, is_complete, is_vm}
+use Rattle.std.proofs.lemmas.List.Sums.{sum_by-cons}
+use Rattle.gh_model.specs.Boot.{after_line, empty_state, boot_state, boot_fits, is_vm}
+use Rattle.gh_model.specs.Rows.{is_cpu}
 use Rattle.gh_model.specs.Calls.{is_manager, rows_in_order, cpus_in_order, seat_start, run_start}
 use Rattle.gh_model.specs.declared.program.Line.{Line}
 use Rattle.gh_callfile.specs.VmProgress.{Progress, has_made_one, vm_after, vm_answer}
 use Rattle.gh_driver.specs.FileRun.{file_program}
 use Rattle.gh_driver.specs.Pace.{IsPaced, IsBounded}
-use Rattle.gh_model.proofs.Tests.{and-first, and-second, at_most}
+use Rattle.gh_model.proofs.FittingLemmas.{boot_fitting}
 
--- a line that fits makes no tenth CPU
-pub one_cpu_more : (cpus : List CpuRow) (row : CpuRow) → IsTrue (nat_le (length cpus) 8) → length (cpus ++ row ∷ []) ≤ 9
-one_cpu_more cpus row fit =
-    let few : length cpus ≤ 8 = at_most (length cpus) 8 fit in
-    omega (arith, length-append cpus (row ∷ []))
+-- a row is a VM's CPU, or that of the resource manager
+one_of_two : (n vms managers rows : ℕ) → rows ≤ vms + managers → 1 + rows ≤ (cond (nat_lt 0 n) 1 0 + vms) + (cond (n == 0) 1 0 + managers)
+one_of_two n vms managers rows few = grind (arith, nat_tests)
 
-pub line_cpus : (s : State) (line : BootLine) → IsTrue (line_fits s line) → length s.cpus ≤ 9 → length (after_line s line).cpus ≤ 9
-line_cpus s (Pages count) fit few = few
-line_cpus s (Partition quota) fit few = few
-line_cpus s (Cspace partition) fit few = few
-line_cpus s (Addrspace partition) fit few = few
-line_cpus s (Doorbell partition) fit few = few
-line_cpus s (RootExtent partition) fit few = few
-line_cpus s (Extent partition parent offset count access held_offset held_count) fit few = few
-line_cpus s (Msgqueue partition depth size) fit few = few
-line_cpus s (Map space extent base offset count access) fit few = few
-line_cpus s (Cap cspace slot object rights master) fit few = few
-line_cpus s (Vm cspace space) fit few = one_cpu_more s.cpus _ (and-second _ (nat_le (length s.cpus) 8) fit)
-line_cpus s (Rm cspace space partition) fit few = one_cpu_more s.cpus _ (and-second _ (nat_le (length s.cpus) 8) fit)
-line_cpus s (Link vm extent request reply) fit few = few
+parted : (rows : List CpuRow) → length rows ≤ count_by is_vm rows + count_by (is_cpu 0) rows
+parted [] = omega arith
+parted (row ∷ rows) =
+    let vms : count_by is_vm (row ∷ rows) ≡ cond (is_vm row) 1 0 + count_by is_vm rows = sum_by-cons (λ (r : CpuRow). cond (is_vm r) 1 0) row rows in
+    let managers : count_by (is_cpu 0) (row ∷ rows) ≡ cond (is_cpu 0 row) 1 0 + count_by (is_cpu 0) rows = sum_by-cons (λ (r : CpuRow). cond (is_cpu 0 r) 1 0) row rows in
+    omega (arith, vms, managers, one_of_two row.cpu.0 (count_by is_vm rows) (count_by (is_cpu 0) rows) (length rows) (parted rows))
 
-pub fold_cpus : (s : State) (lines : List BootLine) → IsTrue (lines_fit s lines) → length s.cpus ≤ 9 → length (fold after_line s lines).cpus ≤ 9
-fold_cpus s [] fit few = few
-fold_cpus s (line ∷ lines) fit few =
-    fold_cpus (after_line s line) lines (and-second (line_fits s line) (lines_fit (after_line s line) lines) fit) (line_cpus s line (and-first (line_fits s line) (lines_fit (after_line s line) lines) fit) few)
-
+-- at most eight VMs and one resource manager
 pub boot_cpus : (lines : List BootLine) → IsTrue (boot_fits lines) → length (boot_state lines).cpus ≤ 9
-boot_cpus [] fit = cc
-boot_cpus (Pages count ∷ lines) fit =
-    fold_cpus (after_line empty_state (Pages count)) lines (and-second _ (lines_fit (after_line empty_state (Pages count)) lines) (and-first _ (is_complete (fold after_line (after_line empty_state (Pages count)) lines)) fit)) (omega arith)
-boot_cpus (_ ∷ lines) fit = cc
+boot_cpus lines fit =
+    let fitting = boot_fitting lines fit in
+    omega (arith, parted (boot_state lines).cpus, fitting.vms, fitting.numbered.once 0)
 
 -- no boot line makes an entry
 pub after_line-entries : (s : State) (line : BootLine) → (after_line s line).entries ≡ s.entries
