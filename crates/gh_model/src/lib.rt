@@ -22,6 +22,7 @@ mod program;
 mod queue_calls;
 mod reads;
 mod references;
+mod row_reads;
 mod rows;
 mod running;
 mod state;

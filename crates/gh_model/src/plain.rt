@@ -7,14 +7,13 @@ ghost use Rattle.gh_model.specs.Access.{access_at};
 ghost use Rattle.gh_model.specs.Boot.{boot_state};
 ghost use Rattle.gh_model.specs.Small.{IsSmall};
 ghost use Rattle.gh_model.specs.Units.{used_units, free_units, given_units};
-ghost use Rattle.gh_model.specs.Word.{word_at, setting_number};
+ghost use Rattle.gh_model.specs.Word.{word_at};
 
 use crate::access::access;
 use crate::act::act;
 use crate::boot::{Boot, booted};
-use crate::lookup::{capability_row, setting_row};
-use crate::rows::SetAtRow;
 use crate::state::State;
+use crate::state_reads::StateReads;
 use crate::units::{free, given, used};
 use crate::word::Word;
 use gh_base::{Access, Call, CpuNo, Frame, NoMemory, PageNo, Reply, Serial};
@@ -45,15 +44,6 @@ impl Model for Plain {
     ghost view = { λ plain. plain.state };
 
     ghost invariant = { λ plain. IsKept plain.state };
-}
-
-fn setting_of(row: Option<SetAtRow>) -> u32
-    ensures { result ≡ setting_number row }
-{
-    match row {
-        None => 0,
-        Some(row) => row.number,
-    }
 }
 
 impl Plain {
@@ -95,17 +85,7 @@ impl Plain {
     pub fn word(&self, cspace: Serial, slot: u64) -> Word
         ensures { result ≡ word_at self.now cspace.0 slot }
     {
-        if slot < 1 || slot > 127 {
-            Word {
-                row: None,
-                set_at: 0,
-            }
-        } else {
-            Word {
-                row: capability_row(self.state.caps.as_slice(), cspace, slot),
-                set_at: setting_of(setting_row(self.state.set_at.as_slice(), cspace, slot)),
-            }
-        }
+        self.state.word(cspace, slot)
     }
 
     /// Entries of the history so far.
