@@ -5,6 +5,8 @@ pub mod CpuRows
 pub mod Ends
 pub mod FittingLemmas
 pub mod Looks
+pub mod RoomLemmas
+pub mod RowLemmas
 pub mod RunLaw
 pub mod RunLists
 pub mod RunSteps
