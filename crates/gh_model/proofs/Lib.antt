@@ -2,8 +2,10 @@ pub mod ActLemmas
 pub mod BootLemmas
 pub mod CallsLemmas
 pub mod CpuRows
+pub mod DecideLemmas
 pub mod Ends
 pub mod FittingLemmas
+pub mod KeptLemmas
 pub mod Looks
 pub mod RoomLemmas
 pub mod RowLemmas
@@ -13,4 +15,5 @@ pub mod RunSteps
 pub mod RunWhole
 pub mod Small
 pub mod Stays
+pub mod SumLemmas
 pub mod Tests

@@ -2,7 +2,8 @@
 
 ghost use Rattle.std.specs.Prelude.{◌≡◌, ◌<◌, IfOk, OnErr};
 ghost use Rattle.gh_base.specs.declared.limits.TheConstants.{HISTORY_ENTRIES};
-ghost use Rattle.gh_model.specs.Act.{Judges, act as act_of};
+ghost use Rattle.gh_model.specs.Act.{Judges, grants_of};
+ghost use Rattle.gh_model.specs.Decide.{act as act_of, judge as judge_of};
 ghost use Rattle.gh_model.specs.Access.{access_at};
 ghost use Rattle.gh_model.specs.Boot.{boot_state};
 ghost use Rattle.gh_model.specs.Small.{IsSmall};
@@ -10,7 +11,7 @@ ghost use Rattle.gh_model.specs.Units.{used_units, free_units, given_units};
 ghost use Rattle.gh_model.specs.Word.{word_at};
 
 use crate::access::access;
-use crate::act::act;
+use crate::act::{act, has_moved};
 use crate::boot::{Boot, booted};
 use crate::state::State;
 use crate::state_reads::StateReads;
@@ -71,14 +72,30 @@ impl Plain {
             (act_of self.old cpu.0 call.now frame.now.bytes grants.now)) }
         ensures no_memory { OnErr result (self.new ≡ self.old) }
     {
-        Ok(act(
-            alloc,
-            &mut self.state,
-            cpu,
-            call,
-            frame.bytes.as_slice(),
-            grants,
-        ))
+        let bytes = frame.bytes.as_slice();
+        act(alloc, &mut self.state, false, cpu, call, bytes, grants)
+    }
+
+    /// The act of a call whose looks found these words, which granted these objects. A copy is refused
+    /// where the source's word is another now.
+    pub fn judge(
+        &mut self,
+        alloc: Global,
+        cpu: CpuNo,
+        frame: &Frame,
+        call: &Call,
+        words: &[Word],
+        grants: &[Serial],
+    ) -> Result<Judged, NoMemory>
+        requires entries { self.old.entries < HISTORY_ENTRIES }
+        requires granted { grants.now ≡ grants_of call.now words.now }
+        ensures judged { IfOk result (λ judged. Judges self.old self.new judged
+            (judge_of self.old cpu.0 call.now frame.now.bytes words.now)) }
+        ensures no_memory { OnErr result (self.new ≡ self.old) }
+    {
+        let moved = has_moved(&self.state, cpu, call, words);
+        let bytes = frame.bytes.as_slice();
+        act(alloc, &mut self.state, moved, cpu, call, bytes, grants)
     }
 
     /// What a slot holds. A number outside 1 to 127 is an empty slot that no entry set.
