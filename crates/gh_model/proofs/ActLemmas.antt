@@ -47,7 +47,7 @@ verdict_counts s (Make changes its_reply) new reply is =
     let same : counted (changed_all s changes) ≡ new = cc in
     ap (λ (t : State). t.entries) (sym same) ∙ ap (λ (n : ℕ). n + 1) (changes_count s changes).entries
 
-made_kept : (s : State) (changes : List Change) → MayMake s changes → IsKept s → IsKept (counted (changed_all s changes))
+pub made_kept : (s : State) (changes : List Change) → MayMake s changes → IsKept s → IsKept (counted (changed_all s changes))
 made_kept s changes may kept =
     let small : AreSmall (changed_all s changes) = changes_small s changes may.modest (small_kept s kept) in
     let counts : CountsAll s (changed_all s changes) changes = changes_count s changes in

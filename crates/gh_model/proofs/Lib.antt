@@ -4,6 +4,7 @@ pub mod CallsLemmas
 pub mod CpuRows
 pub mod DecideLemmas
 pub mod Ends
+pub mod EntryLemmas
 pub mod FittingLemmas
 pub mod KeptLemmas
 pub mod Looks

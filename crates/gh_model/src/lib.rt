@@ -20,6 +20,7 @@ mod memory;
 mod memory_calls;
 mod object_calls;
 mod object_changes;
+mod other_entries;
 mod page_changes;
 mod plain;
 mod program;
