@@ -16,7 +16,7 @@ use Rattle.gh_base.specs.declared.ids.Serial.{Serial}
 use Rattle.gh_base.specs.declared.access.Access.{Access}
 use Rattle.gh_base.specs.declared.kind.Kind.{Kind}
 use Rattle.gh_base.specs.declared.kind.Kind.TheVariants as kind
-use Rattle.gh_base.specs.declared.limits.TheConstants.{HISTORY_ENTRIES, PARTITION_UNITS}
+use Rattle.gh_base.specs.declared.limits.TheConstants.{HISTORY_ENTRIES, PARTITION_UNITS, SPACE_PAGES, SPACE_ROWS}
 use Rattle.gh_model.specs.declared.change.Change.{Change}
 use Rattle.gh_model.specs.declared.change.Change.TheVariants.{PutCapability, RevokeCapability, AddObject, SetStage, GiveQuota, AddExtent, MovePages, PutMapping, ConfigureQueue, PutMessage}
 use Rattle.gh_model.specs.declared.change.Decision.{Decision}
@@ -123,8 +123,8 @@ queue_flushed s queue (Some fill) = may_one s _ _ (omega arith) (omega arith) tt
 
 mapped_at : (s : State) (space extent : Serial) (row : ExtentRow) (base offset count access : ℕ) → May s (memory.mapped_at s space extent row base offset count access)
 mapped_at s space extent row base offset count access =
-    unless_five (nat_lt 4096 (base + count)) (nat_lt row.count (offset + count)) (not (access_fits access row.access.0))
-    (list_any (overlaps space.0 base count) s.mappings) (nat_le 64 (count_by (is_row_of space.0) s.mappings))
+    unless_five (nat_lt SPACE_PAGES (base + count)) (nat_lt row.count (offset + count)) (not (access_fits access row.access.0))
+    (list_any (overlaps space.0 base count) s.mappings) (nat_le SPACE_ROWS (count_by (is_row_of space.0) s.mappings))
     s AddrOvfl ArgSize Denied Busy Nomem
     (make_one (PutMapping (memory.mapped_row space extent base offset count access)) done)
     (may_one s (PutMapping (memory.mapped_row space extent base offset count access)) done (omega arith) (omega arith) tt)
@@ -276,9 +276,9 @@ module _ (s : State) (h : AreSmall s) where
   quota_given partition quota None is few = record { is = tt }
   quota_given partition quota (Some row) is few = quota_room (nat_lt (free_units s row.parent.0) quota) partition quota row _ is few refl
 
-  quota_asked : (many : Bool) (partition : Serial) (quota : ℕ) → nat_lt 128 quota ≡ many → May s (if many then Refuse ArgInval else objects.quota_given s partition quota (find (is_partition partition.0) s.partitions))
+  quota_asked : (many : Bool) (partition : Serial) (quota : ℕ) → nat_lt PARTITION_UNITS quota ≡ many → May s (if many then Refuse ArgInval else objects.quota_given s partition quota (find (is_partition partition.0) s.partitions))
   quota_asked true partition quota is = record { is = tt }
-  quota_asked false partition quota is = quota_given partition quota (find (is_partition partition.0) s.partitions) refl (enough 128 quota is)
+  quota_asked false partition quota is = quota_given partition quota (find (is_partition partition.0) s.partitions) refl (enough PARTITION_UNITS quota is)
 
   queue_room : (lacks : Bool) (queue : Serial) (depth size : ℕ) (row : ObjectRow) (reply : Reply) → object_row s queue.0 ≡ Some row → nat_lt (free_units s row.partition.0) (objects.room_cost depth size) ≡ lacks
       → May s (if lacks then Refuse Nomem else Make (ConfigureQueue queue depth size (queue_cost depth size) ∷ SetStage queue Ready ∷ []) reply)
@@ -317,7 +317,7 @@ module _ (s : State) (h : AreSmall s) where
   decided_may cpu (calls.Derive child parent offset size access) bytes grants = derived s _ _ offset size access _
   decided_may cpu (calls.AsLookup space address) bytes grants = within_space _ s _ _ (looked_up s _)
   decided_may cpu (calls.Create partition cspace number) bytes grants = created _ _ (kind_numbered number)
-  decided_may cpu (calls.ConfigurePartition cap quota) bytes grants = quota_asked (nat_lt 128 quota) _ quota refl
+  decided_may cpu (calls.ConfigurePartition cap quota) bytes grants = quota_asked (nat_lt PARTITION_UNITS quota) _ quota refl
   decided_may cpu (calls.ConfigureQueue cap depth size) bytes grants = unless _ s _ _ (room_given _ depth size _ refl)
   decided_may cpu (calls.Activate cap) bytes grants = activated s _ _
   decided_may cpu (calls.CapCopy cspace source mask) bytes grants =
