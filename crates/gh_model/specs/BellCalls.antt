@@ -1,5 +1,5 @@
 -- What the calls on doorbells come to. They have no refusals of their own.
-use Rattle.std.specs.Prelude.{◌-◌, ◌^◌, ℕ, Option, Some, None, [], find, bit_or, bit_and}
+use Rattle.std.specs.Prelude.{ℕ, Option, Some, None, [], find, bit_or, bit_and}
 use Rattle.std.specs.Int.{w64, bit_not}
 use Rattle.gh_base.specs.declared.ids.Serial.{Serial}
 use Rattle.gh_model.specs.declared.change.Decision.{Decision}
@@ -7,7 +7,7 @@ use Rattle.gh_model.specs.declared.change.Decision.TheVariants.{Make}
 use Rattle.gh_model.specs.declared.change.Change.TheVariants.{SetBell}
 use Rattle.gh_model.specs.declared.rows.BellRow.{BellRow}
 use Rattle.gh_model.specs.declared.state.State.{State}
-use Rattle.gh_model.specs.Changes.{fresh_bell}
+use Rattle.gh_model.specs.Boot.{new_bell}
 use Rattle.gh_model.specs.Decisions.{done, done_with, make_one}
 use Rattle.gh_model.specs.Rows.{is_bell}
 
@@ -41,4 +41,4 @@ bell_set_mask s bell enable ack = masked enable ack (bell_row s bell)
 
 -- bell_reset: as after creation
 abbrev pub bell_reset : Serial → Decision
-bell_reset bell = make_one (SetBell (fresh_bell bell)) done
+bell_reset bell = make_one (SetBell (new_bell bell)) done

@@ -1,6 +1,6 @@
 -- The changes of the state that acts and the history's other entries are made of: what each makes
 -- of the rows. All else stays.
-use Rattle.std.specs.Prelude.{◌==◌, ◌&&◌, ◌+◌, ◌^◌, ◌-◌, not, ℕ, Bool, true, false, List, [], ◌∷◌, ◌++◌, length, drop, Option, Some, None, fold, find, position, filter, map, nat_le, if◌then◌else◌}
+use Rattle.std.specs.Prelude.{◌==◌, ◌&&◌, ◌+◌, not, ℕ, Bool, true, false, List, [], ◌∷◌, ◌++◌, length, drop, Option, Some, None, fold, find, position, filter, map, nat_le, if◌then◌else◌}
 use Rattle.std.specs.Option.{option_map_or}
 use Rattle.gh_base.specs.declared.ids.Serial.{Serial}
 use Rattle.gh_base.specs.declared.kind.Kind.{Kind}
@@ -18,7 +18,7 @@ use Rattle.gh_model.specs.declared.rows.BellRow.{BellRow}
 use Rattle.gh_model.specs.declared.rows.QueueRow.{QueueRow}
 use Rattle.gh_model.specs.declared.rows.CpuRow.{CpuRow}
 use Rattle.gh_model.specs.declared.state.State.{State}
-use Rattle.gh_model.specs.Boot.{move_pages}
+use Rattle.gh_model.specs.Boot.{move_pages, new_bell}
 use Rattle.gh_model.specs.References.{is_mapping_of}
 use Rattle.gh_model.specs.Rows.{change_row, is_object, is_partition, is_extent, is_bell, is_queue, is_cpu, fills, tells_setting}
 
@@ -71,12 +71,8 @@ abbrev pub new_partitions : Kind → Serial → Serial → List PartitionRow
 new_partitions kind.Partition serial parent = record { serial = serial; parent = parent; quota = 0 } ∷ []
 new_partitions _ serial parent = []
 
--- a doorbell without flags, with all of them enabled and none acknowledged by itself
-abbrev pub fresh_bell : Serial → BellRow
-fresh_bell serial = record { serial = serial; flags = 0; enable = 2 ^ 64 - 1; ack = 0 }
-
 abbrev pub new_bells : Kind → Serial → List BellRow
-new_bells kind.Bell serial = fresh_bell serial ∷ []
+new_bells kind.Bell serial = new_bell serial ∷ []
 new_bells _ serial = []
 
 -- a queue begins without room

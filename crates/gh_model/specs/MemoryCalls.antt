@@ -1,13 +1,14 @@
 -- What the calls on memory come to: their own refusals in order, and their changes. Registers are in
 -- bytes, rows in pages of 4,096 bytes.
-use Rattle.std.specs.Prelude.{◌==◌, ◌&&◌, ◌||◌, ◌+◌, ◌-◌, ◌*◌, ◌/◌, ◌%◌, not, ℕ, Bool, true, false, List, [], ◌∷◌, length, Option, Some, None, nat_lt, nat_le, find, count_by, take, drop, if◌then◌else◌}
-use Rattle.std.specs.List.{list_any, list_all}
+use Rattle.std.specs.Prelude.{◌==◌, ◌&&◌, ◌||◌, ◌+◌, ◌*◌, ◌/◌, ◌%◌, not, ℕ, Bool, false, List, [], ◌∷◌, length, Option, Some, None, nat_lt, nat_le, find, count_by, if◌then◌else◌}
+use Rattle.std.specs.List.{list_any}
 use Rattle.gh_base.specs.Reply.{register_reply}
 use Rattle.gh_base.specs.declared.access.Access.{Access}
 use Rattle.gh_base.specs.declared.errno.Errno.TheVariants.{ArgInval, ArgSize, AddrInval, AddrOvfl, Busy, Denied, Nomem}
 use Rattle.gh_base.specs.declared.ids.PageNo.{PageNo}
 use Rattle.gh_base.specs.declared.ids.Serial.{Serial}
 use Rattle.gh_base.specs.declared.kind.Stage.TheVariants.{Ready}
+use Rattle.gh_base.specs.declared.limits.TheConstants.{PAGE_BYTES, SPACE_PAGES, SPACE_ROWS}
 use Rattle.gh_model.specs.declared.change.Decision.{Decision}
 use Rattle.gh_model.specs.declared.change.Decision.TheVariants.{Refuse, Make}
 use Rattle.gh_model.specs.declared.change.Change.TheVariants.{SetStage, AddExtent, MovePages, PutMapping, DropMapping}
@@ -25,7 +26,7 @@ use Rattle.gh_model.specs.Rows.{is_extent, cpu_row}
 
 -- the page of an address, or the pages of a size
 abbrev pub page_of : ℕ → ℕ
-page_of bytes = bytes / 4096
+page_of bytes = bytes / PAGE_BYTES
 
 -- the address space that a call names; 0 is the caller's own, which isn't looked up
 abbrev pub row_space : Option CpuRow → Serial
@@ -49,11 +50,11 @@ meant_count row flags size = if has_partial flags then page_of size else row.cou
 -- map: a row with handle 0
 abbrev pub mapping_refused : State → Serial → ExtentRow → ℕ → ℕ → ℕ → ℕ → Decision → Decision
 mapping_refused s space row base offset count access others =
-    if nat_lt 4096 (base + count) then Refuse AddrOvfl
+    if nat_lt SPACE_PAGES (base + count) then Refuse AddrOvfl
     else (if nat_lt row.count (offset + count) then Refuse ArgSize
     else (if not (access_fits access row.access.0) then Refuse Denied
     else (if list_any (overlaps space.0 base count) s.mappings then Refuse Busy
-    else (if nat_le 64 (count_by (is_row_of space.0) s.mappings) then Refuse Nomem
+    else (if nat_le SPACE_ROWS (count_by (is_row_of space.0) s.mappings) then Refuse Nomem
     else others))))
 
 abbrev pub mapped_row : Serial → Serial → ℕ → ℕ → ℕ → ℕ → MappingRow
@@ -165,8 +166,8 @@ donate s options giver receiver offset size =
 -- as_lookup: the machine address of the page, and the access. An address space has 4,096 pages
 abbrev pub looked_up : Option (PageNo × Access) → Decision
 looked_up None = Refuse AddrInval
-looked_up (Some found) = Make [] (register_reply 0 (found.0.0 * 4096) found.1.0 0)
+looked_up (Some found) = Make [] (register_reply 0 (found.0.0 * PAGE_BYTES) found.1.0 0)
 
 abbrev pub as_lookup : State → Serial → ℕ → Decision
 as_lookup s space address =
-    if nat_lt (page_of address) 4096 then looked_up (access_at s space.0 (page_of address)) else Refuse AddrInval
+    if nat_lt (page_of address) SPACE_PAGES then looked_up (access_at s space.0 (page_of address)) else Refuse AddrInval

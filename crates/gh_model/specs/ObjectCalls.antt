@@ -1,10 +1,11 @@
 -- What the calls on objects come to: their own refusals in order, and their changes.
-use Rattle.std.specs.Prelude.{◌==◌, ◌&&◌, ◌||◌, ◌+◌, ◌*◌, ◌/◌, not, ℕ, Bool, true, false, List, [], ◌∷◌, Option, Some, None, nat_lt, nat_le, find, if◌then◌else◌}
+use Rattle.std.specs.Prelude.{◌||◌, ◌+◌, ◌*◌, ◌/◌, ℕ, Bool, true, false, [], ◌∷◌, Option, Some, None, nat_lt, nat_le, find, if◌then◌else◌}
 use Rattle.gh_base.specs.Kind.{kind_cost, kind_rights, kind_stage, kind_numbered}
 use Rattle.gh_base.specs.declared.errno.Errno.TheVariants.{ArgInval, Nomem, ObjConfig, ObjState, CspaceFull}
 use Rattle.gh_base.specs.declared.ids.Serial.{Serial}
 use Rattle.gh_base.specs.declared.ids.TheConstants.Rights as right
 use Rattle.gh_base.specs.declared.kind.Kind.{Kind}
+use Rattle.gh_base.specs.declared.limits.TheConstants.{CSPACES, MESSAGE_BYTES, PARTITIONS, PARTITION_UNITS, QUEUE_DEPTH}
 use Rattle.gh_base.specs.declared.kind.Kind.TheVariants as kind
 use Rattle.gh_base.specs.declared.kind.Stage.TheVariants.{Ready, Active}
 use Rattle.gh_model.specs.declared.change.Decision.{Decision}
@@ -24,8 +25,8 @@ use Rattle.gh_model.specs.Units.{free_units}
 
 -- as many partitions, or capability spaces, as there can be
 abbrev pub is_full : State → Kind → Bool
-is_full s kind.Partition = nat_le 8 (kind_count s kind.Partition)
-is_full s kind.Cspace = nat_le 16 (kind_count s kind.Cspace)
+is_full s kind.Partition = nat_le PARTITIONS (kind_count s kind.Partition)
+is_full s kind.Cspace = nat_le CSPACES (kind_count s kind.Cspace)
 is_full s _ = false
 
 -- the free units are fewer than the cost, or there are as many of the kind as there can be
@@ -86,7 +87,7 @@ quota_given s partition quota (Some row) =
 -- a quota above 128 comes from no frame
 abbrev pub configure_partition : State → Serial → ℕ → Decision
 configure_partition s partition quota =
-    if nat_lt 128 quota then Refuse ArgInval
+    if nat_lt PARTITION_UNITS quota then Refuse ArgInval
     else quota_given s partition quota (find (is_partition partition.0) s.partitions)
 
 -- configure_queue: the room of its messages in pages, rounded up, comes from its partition's free units
@@ -102,7 +103,7 @@ room_given s queue depth size (Some row) =
 -- a depth above 64 or a size above 1,024 comes from no frame
 abbrev pub configure_queue : State → Serial → ℕ → ℕ → Decision
 configure_queue s queue depth size =
-    if nat_lt 64 depth || nat_lt 1024 size then Refuse ArgInval
+    if nat_lt QUEUE_DEPTH depth || nat_lt MESSAGE_BYTES size then Refuse ArgInval
     else room_given s queue depth size (object_row s queue.0)
 
 -- activate: an object that isn't configured is 34; one that is active was 33 before

@@ -7,7 +7,7 @@ use crate::capability_calls::{done, done_with, make_one};
 use crate::change::{Change, Decision};
 use crate::rows::BellRow;
 use crate::state_reads::StateReads;
-use gh_base::{NoMemory, Reply, Sequence, Serial};
+use gh_base::{NEW_BELL_ACK, NEW_BELL_ENABLE, NEW_BELL_FLAGS, NoMemory, Reply, Sequence, Serial};
 use std::alloc::Global;
 
 /// No change.
@@ -101,9 +101,9 @@ pub(crate) fn bell_reset(alloc: Global, bell: Serial) -> Result<Decision, NoMemo
 {
     let row = BellRow {
         serial: bell,
-        flags: 0,
-        enable: u64::MAX,
-        ack: 0,
+        flags: NEW_BELL_FLAGS,
+        enable: NEW_BELL_ENABLE,
+        ack: NEW_BELL_ACK,
     };
     make_one(alloc, Change::SetBell { row }, done())
 }

@@ -11,7 +11,10 @@ use crate::capability_calls::{done, make_one};
 use crate::change::{Change, Decision};
 use crate::rows::{ExtentRow, MappingRow};
 use crate::state_reads::StateReads;
-use gh_base::{Access, CpuNo, Errno, NoMemory, PageNo, Reply, Sequence, Serial, Stage};
+use gh_base::{
+    Access, CpuNo, Errno, NoMemory, PAGE_BYTES, PageNo, Reply, SPACE_PAGES, SPACE_ROWS, Sequence,
+    Serial, Stage,
+};
 use std::alloc::Global;
 
 /// The object that the look of this place granted.
@@ -58,14 +61,18 @@ fn has_partial(flags: u64) -> bool
 fn meant_offset(flags: u64, offset: u64) -> u64
     ensures { result ≡ meant_offset flags offset }
 {
-    if has_partial(flags) { offset / 4096 } else { 0 }
+    if has_partial(flags) {
+        offset / PAGE_BYTES
+    } else {
+        0
+    }
 }
 
 fn meant_count(row: ExtentRow, flags: u64, size: u64) -> u64
     ensures { result ≡ meant_count row flags size }
 {
     if has_partial(flags) {
-        size / 4096
+        size / PAGE_BYTES
     } else {
         row.count as u64
     }
@@ -96,7 +103,7 @@ fn mapped_at<R: StateReads>(
 ) -> Result<Decision, NoMemory>
     ensures { IfOk result (λ decision. decision ≡ mapped_at (R.rows rows.now) space extent row new.base new.offset new.count new.access) }
 {
-    let errno = if new.base as u128 + new.count as u128 > 4096 {
+    let errno = if new.base as u128 + new.count as u128 > SPACE_PAGES as u128 {
         Errno::AddrOvfl
     } else if new.offset as u128 + new.count as u128 > row.count as u128 {
         Errno::ArgSize
@@ -104,7 +111,7 @@ fn mapped_at<R: StateReads>(
         Errno::Denied
     } else if rows.overlaps(space, new.base, new.count) {
         Errno::Busy
-    } else if rows.mappings(space) >= 64 {
+    } else if rows.mappings(space) >= SPACE_ROWS {
         Errno::Nomem
     } else {
         let row = MappingRow {
@@ -140,7 +147,7 @@ pub(crate) fn map<R: StateReads>(
         }),
         Some(row) => {
             let new = Mapping {
-                base: base / 4096,
+                base: base / PAGE_BYTES,
                 offset: meant_offset(flags, offset),
                 count: meant_count(row, flags, size),
                 access: (attributes % 8) as u8,
@@ -182,7 +189,7 @@ pub(crate) fn unmap<R: StateReads>(
             let count = meant_count(row, flags, size);
             unmapped_row(
                 alloc,
-                rows.mapping(space, extent, base / 4096, offset, count),
+                rows.mapping(space, extent, base / PAGE_BYTES, offset, count),
             )
         }
     }
@@ -264,8 +271,8 @@ pub(crate) fn derive<R: StateReads>(
             child,
             parent,
             row,
-            offset / 4096,
-            size / 4096,
+            offset / PAGE_BYTES,
+            size / PAGE_BYTES,
             access,
         ),
     }
@@ -365,8 +372,8 @@ pub(crate) fn donate<R: StateReads>(
             alloc,
             rows,
             options % 256,
-            offset / 4096,
-            size / 4096,
+            offset / PAGE_BYTES,
+            size / PAGE_BYTES,
             giver,
             rows.extent(receiver),
         ),
@@ -382,7 +389,7 @@ fn looked_up(alloc: Global, found: Option<(PageNo, Access)>) -> Decision
         },
         Some(found) => Decision::Make {
             changes: Sequence::new(alloc),
-            reply: Reply::registers(0, found.0.0 as u64 * 4096, found.1.0 as u64, 0),
+            reply: Reply::registers(0, found.0.0 as u64 * PAGE_BYTES, found.1.0 as u64, 0),
         },
     }
 }
@@ -396,8 +403,8 @@ pub(crate) fn as_lookup<R: StateReads>(
     requires { IsSmall (R.rows rows.now) }
     ensures { result ≡ as_lookup_of (R.rows rows.now) space address }
 {
-    let page = address / 4096;
-    if page < 4096 {
+    let page = address / PAGE_BYTES;
+    if page < SPACE_PAGES {
         looked_up(alloc, rows.access(space, page as u16))
     } else {
         Decision::Refuse {

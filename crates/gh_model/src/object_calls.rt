@@ -1,6 +1,7 @@
 //! What the calls on objects come to.
 
 ghost use Rattle.std.specs.Prelude.{◌≡◌, ◌≤◌, ◌∷◌, [], Option, IfOk};
+ghost use Rattle.gh_base.specs.declared.limits.TheConstants.{MESSAGE_BYTES, QUEUE_DEPTH};
 ghost use Rattle.gh_model.specs.Boot.{queue_cost};
 ghost use Rattle.gh_model.specs.ObjectCalls.{is_full, lacks_room, new_object, master_rights, new_master, created_in, created, create as create_of, quota_given, configure_partition as configure_partition_of, room_cost, room_given, configure_queue as configure_queue_of, activated, activate as activate_of};
 
@@ -9,7 +10,10 @@ use crate::capability_calls::{done, done_with, make_one};
 use crate::change::{Change, Decision};
 use crate::rows::{CapabilityRow, ObjectRow, PartitionRow};
 use crate::state_reads::StateReads;
-use gh_base::{Errno, Kind, NoMemory, Reply, Rights, Sequence, Serial, Stage};
+use gh_base::{
+    CSPACES, Errno, Kind, MESSAGE_BYTES, NoMemory, PARTITION_UNITS, PARTITIONS, QUEUE_DEPTH, Reply,
+    Rights, Sequence, Serial, Stage,
+};
 use std::alloc::Global;
 
 /// Two changes in order.
@@ -31,8 +35,8 @@ fn is_full<R: StateReads>(rows: &R, kind: Kind) -> bool
     ensures { result ≡ is_full (R.rows rows.now) kind }
 {
     match kind {
-        Kind::Partition => rows.kind_count(Kind::Partition) >= 8,
-        Kind::Cspace => rows.kind_count(Kind::Cspace) >= 16,
+        Kind::Partition => rows.kind_count(Kind::Partition) >= PARTITIONS,
+        Kind::Cspace => rows.kind_count(Kind::Cspace) >= CSPACES,
         _ => false,
     }
 }
@@ -172,7 +176,7 @@ pub(crate) fn configure_partition<R: StateReads>(
 ) -> Result<Decision, NoMemory>
     ensures { IfOk result (λ decision. decision ≡ configure_partition_of (R.rows rows.now) partition quota) }
 {
-    if quota > 128 {
+    if quota > PARTITION_UNITS as u64 {
         return Ok(Decision::Refuse {
             errno: Errno::ArgInval,
         });
@@ -188,8 +192,8 @@ pub(crate) fn configure_partition<R: StateReads>(
 
 /// The room of a queue's messages in pages, rounded up.
 fn room_cost(depth: u16, size: u16) -> u16
-    requires depth { depth ≤ 64 }
-    requires size { size ≤ 1024 }
+    requires depth { depth ≤ QUEUE_DEPTH }
+    requires size { size ≤ MESSAGE_BYTES }
     ensures { result ≡ room_cost depth size }
 {
     let bytes = depth as u32 * size as u32;
@@ -204,8 +208,8 @@ fn room_given<R: StateReads>(
     size: u16,
     row: Option<ObjectRow>,
 ) -> Result<Decision, NoMemory>
-    requires depth { depth ≤ 64 }
-    requires size { size ≤ 1024 }
+    requires depth { depth ≤ QUEUE_DEPTH }
+    requires size { size ≤ MESSAGE_BYTES }
     ensures { IfOk result (λ decision. decision ≡ room_given (R.rows rows.now) queue depth size row) }
 {
     match row {
@@ -237,7 +241,7 @@ pub(crate) fn configure_queue<R: StateReads>(
 ) -> Result<Decision, NoMemory>
     ensures { IfOk result (λ decision. decision ≡ configure_queue_of (R.rows rows.now) queue depth size) }
 {
-    if depth > 64 || size > 1024 {
+    if depth > QUEUE_DEPTH || size > MESSAGE_BYTES as u64 {
         return Ok(Decision::Refuse {
             errno: Errno::ArgInval,
         });
