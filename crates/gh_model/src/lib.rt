@@ -30,13 +30,16 @@ mod units;
 mod word;
 
 pub use access::PageRun;
-pub use boot::Boot;
+pub use boot::{
+    Boot, add_line, add_pages, cost_of_queue, empty_state, manager_cspace, vm_count,
+};
 pub use boot_line::BootLine;
 pub use change::{Change, Decision};
 pub use decide::decision;
 pub use entry::Entry;
 pub use file_err::FileErr;
 pub use law::{calls_stay_legal, run_is_legal};
+pub use lookup::{cpu_row, extent_row, object_row};
 pub use memory::{Holders, MapRow, Span};
 pub use plain::{Judged, Plain};
 pub use program::{Line, Program, Standing, Step};
