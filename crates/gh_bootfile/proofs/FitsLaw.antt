@@ -11,17 +11,12 @@ use Rattle.gh_bootfile.specs.Reading.{line_of, pieces_at}
 use Rattle.gh_bootfile.proofs.DraftLemmas.{all_fit-more, boot_whole}
 use Rattle.gh_bootfile.proofs.FileLaw.{and_then_ok, chosen, chosen_ok, when_ok}
 
--- lines that fit, and one more that fits behind them
-all_fit_next : (lines : List BootLine) (line : BootLine) → all_fit lines ≡ true → next_fits lines line ≡ true → all_fit (lines ++ line ∷ []) ≡ true
-all_fit_next [] line fit fits = rw fits refl
-all_fit_next (first ∷ lines) line fit fits = all_fit-more (first ∷ lines) line (omega arith) fit fits
-
 with_line_fits : (lines more : List BootLine) (o : Option BootLine) → all_fit lines ≡ true → with_line lines o ≡ Ok more → all_fit more ≡ true
 unfolding with_line
 with_line_fits lines more None fit e = absurd cc
 with_line_fits lines more (Some line) fit e =
     let fits : next_fits lines line ≡ true = when_ok (next_fits lines line) (next_number lines) (lines ++ line ∷ []) more e in
-    subst (λ (ls : List BootLine). all_fit ls ≡ true) (chosen_ok (next_fits lines line) (next_number lines) (lines ++ line ∷ []) more e) (all_fit_next lines line fit fits)
+    subst (λ (ls : List BootLine). all_fit ls ≡ true) (chosen_ok (next_fits lines line) (next_number lines) (lines ++ line ∷ []) more e) (all_fit-more lines line fit fits)
 
 lines_fit_whole : (lines : List BootLine) (texts : List (List ℕ)) (all : List BootLine) → all_fit lines ≡ true → lines_on lines texts ≡ Ok all → boot_fits all ≡ true
 unfolding lines_on at_end
