@@ -1,5 +1,5 @@
 -- A draft stays one with each line that is added.
-use Rattle.std.proofs.Common.{◌≡◌, ℕ, ◌+◌, ◌<◌, ◌≤◌, ◌||◌, ◌&&◌, Bool, true, false, List, [], ◌∷◌, ◌++◌, length, fold, refl, sym, ap, ◌∙◌, arith, subst}
+use Rattle.std.proofs.Common.{◌≡◌, ◌||◌, Bool, true, false, List, [], ◌∷◌, ◌++◌, length, fold, refl, sym, ap, ◌∙◌, arith, subst}
 use Rattle.std.specs.Prelude.{Option, slice_get}
 use Rattle.std.proofs.lemmas.Bool.{false≢true}
 use Rattle.std.proofs.lemmas.Option.{slice_get_past}
@@ -11,7 +11,7 @@ use Rattle.gh_model.specs.declared.rows.MappingRow.{MappingRow}
 use Rattle.gh_model.specs.declared.state.State.{State}
 use Rattle.gh_model.specs.Boot.{empty_state, after_line, boot_state, line_fits, lines_fit, boot_fits}
 use Rattle.gh_model.specs.Fitting.{IsFitting}
-use Rattle.gh_model.proofs.FittingLemmas.{empty_fitting, line_fitting, pages_fitting}
+use Rattle.gh_model.proofs.FittingLemmas.{line_fitting, pages_fitting}
 use Rattle.gh_model.proofs.Tests.{and-first, and-second, at_most}
 use Rattle.gh_model.proofs.RunLists.{slice_get_seam}
 use Rattle.gh_bootfile.specs.declared.draft.Draft.{Draft}

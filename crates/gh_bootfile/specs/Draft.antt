@@ -58,12 +58,15 @@ abbrev pub is_capability_line : BootLine → Bool
 is_capability_line (Cap cspace slot object rights master) = true
 is_capability_line _ = false
 
+abbrev pub is_link_line : BootLine → Bool
+is_link_line (Link vm extent request reply) = true
+is_link_line _ = false
+
 -- a CPU, or its link
 abbrev pub is_cpu_line : BootLine → Bool
 is_cpu_line (Vm cspace space) = true
 is_cpu_line (Rm cspace space partition) = true
-is_cpu_line (Link vm extent request reply) = true
-is_cpu_line _ = false
+is_cpu_line line = is_link_line line
 
 -- the line fits by the test of its kind
 abbrev pub any_kind_fits : State → BootLine → Bool

@@ -1,5 +1,5 @@
 -- What a line of a boot file reads as: its first word says which line it is, and the words behind are numbers.
-use Rattle.std.specs.Prelude.{◌==◌, ◌&&◌, ◌++◌, ◌^◌, ℕ, Bool, true, not, List, [], ◌∷◌, length, slice_index, codes, nat_lt, nat_le, Option, Some, None, find, if◌then◌else◌}
+use Rattle.std.specs.Prelude.{◌==◌, ◌&&◌, ◌++◌, ◌^◌, ℕ, Bool, not, List, [], ◌∷◌, length, slice_index, nat_lt, nat_le, Option, Some, None, find, if◌then◌else◌}
 use Rattle.std.specs.List.{list_all, slice_split}
 use Rattle.std.specs.Option.{option_and_then}
 use Rattle.std.specs.Str.{bytes_eq}
@@ -7,7 +7,7 @@ use Rattle.std.specs.Str.Parse.{digits_value}
 use Rattle.gh_base.specs.declared.ids.Serial.{Serial}
 use Rattle.gh_bootfile.specs.declared.keyword.Keyword.{Keyword}
 use Rattle.gh_bootfile.specs.declared.keyword.Keyword.TheVariants as word
-use Rattle.gh_bootfile.specs.Grammar.{fields_hold}
+use Rattle.gh_bootfile.specs.Grammar.{keyword_text, parts_hold, parts_of}
 use Rattle.gh_model.specs.declared.boot_line.BootLine.{BootLine}
 use Rattle.gh_model.specs.declared.boot_line.BootLine.TheVariants as boot
 
@@ -27,21 +27,6 @@ pieces_left byte (Some text) = pieces_at byte text
 
 -- the keyword
 
-abbrev pub keyword_text : Keyword → List ℕ
-keyword_text word.Pages = codes "pages"
-keyword_text word.Partition = codes "partition"
-keyword_text word.Cspace = codes "cspace"
-keyword_text word.Addrspace = codes "addrspace"
-keyword_text word.Doorbell = codes "doorbell"
-keyword_text word.RootExtent = codes "rootextent"
-keyword_text word.Extent = codes "extent"
-keyword_text word.Msgqueue = codes "msgqueue"
-keyword_text word.Map = codes "map"
-keyword_text word.Cap = codes "cap"
-keyword_text word.Vm = codes "vm"
-keyword_text word.Rm = codes "rm"
-keyword_text word.Link = codes "link"
-
 abbrev pub keywords : List Keyword
 keywords =
     word.Pages ∷ word.Partition ∷ word.Cspace ∷ word.Addrspace ∷ word.Doorbell ∷ word.RootExtent ∷ word.Extent
@@ -53,22 +38,6 @@ has_text text keyword = bytes_eq (keyword_text keyword) text
 -- the keyword with this text
 abbrev pub keyword_of : List ℕ → Option Keyword
 keyword_of text = find (has_text text) keywords
-
--- how many numbers stand behind a keyword
-abbrev pub number_count : Keyword → ℕ
-number_count word.Pages = 1
-number_count word.Partition = 1
-number_count word.Cspace = 1
-number_count word.Addrspace = 1
-number_count word.Doorbell = 1
-number_count word.RootExtent = 1
-number_count word.Extent = 7
-number_count word.Msgqueue = 3
-number_count word.Map = 6
-number_count word.Cap = 5
-number_count word.Vm = 2
-number_count word.Rm = 3
-number_count word.Link = 4
 
 -- the numbers
 
@@ -102,7 +71,7 @@ numbers_on numbers (text ∷ texts) =
 abbrev pub serial_at : List ℕ → ℕ → Serial
 serial_at numbers at = record { 0 = slice_index numbers at }
 
--- the line of a keyword and as many numbers as it wants
+-- the line of a keyword and its numbers
 abbrev pub line_made : Keyword → List ℕ → BootLine
 line_made word.Pages ns = boot.Pages (slice_index ns 0)
 line_made word.Partition ns = boot.Partition (slice_index ns 0)
@@ -123,19 +92,9 @@ line_made word.Vm ns = boot.Vm (serial_at ns 0) (serial_at ns 1)
 line_made word.Rm ns = boot.Rm (serial_at ns 0) (serial_at ns 1) (serial_at ns 2)
 line_made word.Link ns = boot.Link (record { 0 = slice_index ns 0 }) (serial_at ns 1) (serial_at ns 2) (serial_at ns 3)
 
--- a capability's mark is 0 or 1
-abbrev pub mark_holds : Keyword → List ℕ → Bool
-mark_holds word.Cap ns = nat_le (slice_index ns 4) 1
-mark_holds keyword ns = true
-
 -- that line, where each of the numbers is within its field
-abbrev pub line_with : Keyword → List ℕ → Option BootLine
-line_with keyword ns =
-    if mark_holds keyword ns && fields_hold (line_made keyword ns) then Some (line_made keyword ns) else None
-
--- the line of a keyword and numbers
 abbrev pub line_from : Keyword → List ℕ → Option BootLine
-line_from keyword ns = if length ns == number_count keyword then line_with keyword ns else None
+line_from keyword ns = if parts_hold (parts_of keyword ns) then Some (line_made keyword ns) else None
 
 abbrev pub line_of_words : List (List ℕ) → Option BootLine
 line_of_words [] = None

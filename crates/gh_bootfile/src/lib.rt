@@ -10,6 +10,7 @@ mod laws;
 mod line;
 mod mappings;
 mod number;
+mod parts;
 mod pieces;
 mod read;
 mod write;
