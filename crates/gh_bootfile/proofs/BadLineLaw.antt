@@ -13,7 +13,8 @@ use Rattle.gh_model.specs.declared.file_err.FileErr.TheVariants as errors
 use Rattle.gh_bootfile.specs.BootFile.{Answers, and_then, at_end, boot_of, lines_on, next_number, told, with_line}
 use Rattle.gh_bootfile.specs.Draft.{next_fits, is_whole}
 use Rattle.gh_bootfile.specs.Grammar.{ended_line, fields_hold, format_line, line_text}
-use Rattle.gh_bootfile.specs.Reading.{is_byte_of, pieces_at, line_of}
+use Rattle.gh_bootfile.specs.Reading.{line_of}
+use Rattle.gh_model.specs.Pieces.{is_byte_of, pieces_at}
 use Rattle.gh_bootfile.proofs.FreeBytes.{free_all}
 use Rattle.gh_bootfile.proofs.LineLaw.{line_read, line_again, line_free}
 use Rattle.gh_bootfile.proofs.FileLaw.{Pieces, pieces, lines_step, lines_end, file_step, file_end, with_line_read, when_ok}

@@ -17,7 +17,8 @@ use Rattle.gh_model.specs.Boot.{after_line, boot_fits, boot_state, empty_state, 
 use Rattle.gh_bootfile.specs.BootFile.{Answers, Fails, and_then, at_end, boot_of, file_of, lines_on, next_number, with_line}
 use Rattle.gh_bootfile.specs.Draft.{next_fits, is_whole}
 use Rattle.gh_bootfile.specs.Grammar.{boot_text, ended_line, fields_hold, format_line, line_text}
-use Rattle.gh_bootfile.specs.Reading.{is_byte_of, pieces_at, line_of}
+use Rattle.gh_bootfile.specs.Reading.{line_of}
+use Rattle.gh_model.specs.Pieces.{is_byte_of, pieces_at}
 use Rattle.gh_bootfile.proofs.FreeBytes.{free_all}
 use Rattle.gh_bootfile.proofs.LineLaw.{line_read, line_again, line_free}
 

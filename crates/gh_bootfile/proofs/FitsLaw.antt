@@ -7,7 +7,8 @@ use Rattle.gh_model.specs.Boot.{boot_fits}
 use Rattle.gh_bootfile.specs.BootFile.{at_end, boot_of, file_of, lines_on, next_number, with_line}
 use Rattle.gh_bootfile.specs.Draft.{all_fit, next_fits, is_whole}
 use Rattle.gh_bootfile.specs.Grammar.{format_line}
-use Rattle.gh_bootfile.specs.Reading.{line_of, pieces_at}
+use Rattle.gh_bootfile.specs.Reading.{line_of}
+use Rattle.gh_model.specs.Pieces.{pieces_at}
 use Rattle.gh_bootfile.proofs.DraftLemmas.{all_fit-more, boot_whole}
 use Rattle.gh_bootfile.proofs.FileLaw.{and_then_ok, chosen, chosen_ok, when_ok}
 

@@ -6,5 +6,3 @@ pub mod FreeBytes
 pub mod LineLaw
 pub mod MappingLemmas
 pub mod NumberLaw
-pub mod NumberLemmas
-pub mod PieceLemmas

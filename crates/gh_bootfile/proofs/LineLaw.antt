@@ -13,7 +13,8 @@ use Rattle.std.proofs.lemmas.Slice.Eq.{bytes_eq-Decides}
 use Rattle.gh_bootfile.specs.declared.keyword.Keyword.{Keyword}
 use Rattle.gh_bootfile.specs.declared.keyword.Keyword.TheVariants as word
 use Rattle.gh_bootfile.specs.Grammar.{keyword_text, mark_number, parts_of, line_parts, spaced, spelled, parts_text, line_text, bounds, are_below, parts_hold, fields_hold}
-use Rattle.gh_bootfile.specs.Reading.{is_byte_of, pieces_at, has_text, keywords, keyword_of, number_of, with_number, numbers_on, line_made, line_from, line_of_words, line_of}
+use Rattle.gh_bootfile.specs.Reading.{has_text, keywords, keyword_of, number_of, with_number, numbers_on, line_made, line_from, line_of_words, line_of}
+use Rattle.gh_model.specs.Pieces.{is_byte_of, pieces_at}
 use Rattle.gh_model.specs.declared.boot_line.BootLine.{BootLine}
 use Rattle.gh_model.specs.declared.boot_line.BootLine.TheVariants as boot
 use Rattle.gh_bootfile.proofs.FreeBytes.{is_free, free_append, free_all, is_letter, letters_free}

@@ -7,7 +7,8 @@ use Rattle.gh_model.specs.declared.file_err.FileErr.TheVariants as errors
 use Rattle.gh_model.specs.Told.{told_number}
 use Rattle.gh_bootfile.specs.Draft.{next_fits, is_whole}
 use Rattle.gh_bootfile.specs.Grammar.{format_line}
-use Rattle.gh_bootfile.specs.Reading.{pieces_at, line_of}
+use Rattle.gh_bootfile.specs.Reading.{line_of}
+use Rattle.gh_model.specs.Pieces.{pieces_at}
 
 -- the number of the line that comes behind these and the line of the format
 abbrev pub next_number : List BootLine → ℕ

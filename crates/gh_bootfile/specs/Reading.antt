@@ -1,29 +1,15 @@
 -- What a line of a boot file reads as: its first word says which line it is, and the words behind are numbers.
-use Rattle.std.specs.Prelude.{◌==◌, ◌&&◌, ◌++◌, ◌^◌, ℕ, Bool, not, List, [], ◌∷◌, length, slice_index, nat_lt, nat_le, Option, Some, None, find, if◌then◌else◌}
-use Rattle.std.specs.List.{list_all, slice_split}
+use Rattle.std.specs.Prelude.{◌==◌, ◌++◌, ◌^◌, ℕ, Bool, List, [], ◌∷◌, length, slice_index, nat_lt, Option, Some, None, find, if◌then◌else◌}
 use Rattle.std.specs.Option.{option_and_then}
 use Rattle.std.specs.Str.{bytes_eq}
-use Rattle.std.specs.Str.Parse.{digits_value}
 use Rattle.gh_base.specs.declared.ids.Serial.{Serial}
 use Rattle.gh_bootfile.specs.declared.keyword.Keyword.{Keyword}
 use Rattle.gh_bootfile.specs.declared.keyword.Keyword.TheVariants as word
 use Rattle.gh_bootfile.specs.Grammar.{keyword_text, parts_hold, parts_of}
+use Rattle.gh_model.specs.Numeral.{number_of as numeral_of}
+use Rattle.gh_model.specs.Pieces.{pieces_at}
 use Rattle.gh_model.specs.declared.boot_line.BootLine.{BootLine}
 use Rattle.gh_model.specs.declared.boot_line.BootLine.TheVariants as boot
-
--- the words of a line, which single spaces part
-
-abbrev pub is_byte_of : ℕ → ℕ → Bool
-is_byte_of wanted byte = byte == wanted
-
--- the pieces of a text between the bytes of this number
-abbrev pub pieces_at : ℕ → List ℕ → List (List ℕ)
-pieces_at byte text = slice_split (is_byte_of byte) text
-
--- the pieces of what is left of a text, if anything is
-abbrev pub pieces_left : ℕ → Option (List ℕ) → List (List ℕ)
-pieces_left byte None = []
-pieces_left byte (Some text) = pieces_at byte text
 
 -- the keyword
 
@@ -41,19 +27,14 @@ keyword_of text = find (has_text text) keywords
 
 -- the numbers
 
-abbrev pub is_digit : ℕ → Bool
-is_digit byte = nat_le 48 byte && nat_le byte 57
+-- the number, where it has at most 32 bits
+abbrev pub with_bits : Option ℕ → Option ℕ
+with_bits None = None
+with_bits (Some number) = if nat_lt number (2 ^ 32) then Some number else None
 
 -- a number in decimal: 1 to 10 digits, of which the first of several isn't 0
-abbrev pub is_decimal : List ℕ → Bool
-is_decimal text =
-    nat_le 1 (length text) && nat_le (length text) 10 && list_all is_digit text
-    && not (nat_le 2 (length text) && (slice_index text 0 == 48))
-
--- the number, where it has at most 32 bits
 abbrev pub number_of : List ℕ → Option ℕ
-number_of text =
-    if is_decimal text && nat_lt (digits_value 10 text) (2 ^ 32) then Some (digits_value 10 text) else None
+number_of text = with_bits (numeral_of 10 10 text)
 
 -- one number more behind those so far; no line has more than seven
 abbrev pub with_number : List ℕ → Option ℕ → Option (List ℕ)

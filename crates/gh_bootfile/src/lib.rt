@@ -11,7 +11,6 @@ mod line;
 mod mappings;
 mod number;
 mod parts;
-mod pieces;
 mod read;
 mod write;
 

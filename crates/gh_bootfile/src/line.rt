@@ -6,9 +6,8 @@ ghost use Rattle.gh_bootfile.specs.Reading.{line_from, line_of};
 
 use crate::keyword::{Keyword, read_keyword};
 use crate::number::numbers;
-use crate::pieces::split_first;
 use gh_base::{Access, Rights, Serial, VmId};
-use gh_model::BootLine;
+use gh_model::{BootLine, split_first};
 
 fn small(number: u32) -> Option<u16>
     ensures { result ≡ (if nat_lt number small_bound then Some number else None) }

@@ -6,13 +6,13 @@ ghost use Rattle.gh_bootfile.specs.BadLine.{TellsFirstBad};
 ghost use Rattle.gh_bootfile.specs.BootFile.{Answers, at_end, boot_of, lines_on, told, with_line};
 ghost use Rattle.gh_bootfile.specs.Draft.{IsDraft};
 ghost use Rattle.gh_bootfile.specs.Grammar.{boot_text, format_line};
-ghost use Rattle.gh_bootfile.specs.Reading.{line_of, pieces_at};
+ghost use Rattle.gh_bootfile.specs.Reading.{line_of};
+ghost use Rattle.gh_model.specs.Pieces.{pieces_at};
 ghost use Rattle.gh_model.specs.Told.{told_number};
 
 use crate::draft::Draft;
 use crate::line::read_line;
-use crate::pieces::split_first;
-use gh_model::{Boot, FileErr};
+use gh_model::{Boot, FileErr, split_first};
 use std::alloc::Global;
 
 const FORMAT: &[u8] = b"gunyah 1";

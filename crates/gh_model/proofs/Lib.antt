@@ -2,9 +2,12 @@ pub mod ActLemmas
 pub mod BootLemmas
 pub mod CallsLemmas
 pub mod CpuRows
+pub mod DecimalLaw
 pub mod Ends
 pub mod FittingLemmas
 pub mod Looks
+pub mod NumeralLemmas
+pub mod PieceLemmas
 pub mod RunLaw
 pub mod RunLists
 pub mod RunSteps

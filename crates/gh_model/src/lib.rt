@@ -16,7 +16,9 @@ mod lookup;
 mod manager_calls;
 mod memory;
 mod memory_calls;
+mod numeral;
 mod object_calls;
+mod pieces;
 mod plain;
 mod program;
 mod queue_calls;
@@ -30,9 +32,7 @@ mod units;
 mod word;
 
 pub use access::PageRun;
-pub use boot::{
-    Boot, add_line, add_pages, cost_of_queue, empty_state, manager_cspace, vm_count,
-};
+pub use boot::{Boot, add_line, add_pages, cost_of_queue, empty_state, manager_cspace, vm_count};
 pub use boot_line::BootLine;
 pub use change::{Change, Decision};
 pub use decide::decision;
@@ -41,6 +41,8 @@ pub use file_err::FileErr;
 pub use law::{calls_stay_legal, run_is_legal};
 pub use lookup::{cpu_row, extent_row, object_row};
 pub use memory::{Holders, MapRow, Span};
+pub use numeral::{all_digits, number};
+pub use pieces::split_first;
 pub use plain::{Judged, Plain};
 pub use program::{Line, Program, Standing, Step};
 pub use rows::{

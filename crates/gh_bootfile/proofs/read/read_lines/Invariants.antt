@@ -1,7 +1,7 @@
 use Rattle.std.proofs.Common.{◌≡◌, ◌≤◌, ◌+◌, [], length}
 use Rattle.gh_bootfile.specs.BootFile.{lines_on}
 use Rattle.gh_bootfile.specs.Draft.{IsDraft}
-use Rattle.gh_bootfile.specs.Reading.{pieces_at}
+use Rattle.gh_model.specs.Pieces.{pieces_at}
 use Rattle.gh_bootfile.proofs.read.read_lines.Given as goal
 
 abbrev pub invariant-lines : goal.invariant-lines

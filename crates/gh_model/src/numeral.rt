@@ -4,7 +4,7 @@ ghost use Rattle.std.specs.Prelude.{◌≡◌, ◌≤◌, ◌<◌, true, length}
 ghost use Rattle.std.specs.List.{list_all};
 ghost use Rattle.std.specs.Char.{digit_value};
 ghost use Rattle.std.specs.Str.Parse.{digits_value};
-ghost use Rattle.gh_callfile.specs.Grammar.{is_lower_digit, is_digit, is_numeral, has_leading_zero, number_of};
+ghost use Rattle.gh_model.specs.Numeral.{is_lower_digit, is_digit, is_numeral, has_leading_zero, number_of};
 
 fn is_lower_digit(byte: u8) -> bool
     ensures { result ≡ is_lower_digit byte }
@@ -24,13 +24,13 @@ fn value(digit: u8) -> u64
     }
 }
 
-pub(crate) fn is_digit(byte: u8, radix: u64) -> bool
+fn is_digit(byte: u8, radix: u64) -> bool
     ensures { result ≡ is_digit radix byte }
 {
     is_lower_digit(byte) && value(byte) < radix
 }
 
-pub(crate) fn all_digits(bytes: &[u8], radix: u64) -> bool
+pub fn all_digits(bytes: &[u8], radix: u64) -> bool
     ensures { result ≡ list_all (is_digit radix) bytes.now }
 {
     bytes.iter().all(|byte| is_digit(*byte, radix))
@@ -64,7 +64,7 @@ fn digits(word: &[u8], radix: u64) -> u64
 }
 
 /// The number that a word of at most `most` digits writes; none where it isn't a numeral.
-pub(crate) fn number(word: &[u8], radix: u64, most: usize) -> Option<u64>
+pub fn number(word: &[u8], radix: u64, most: usize) -> Option<u64>
     requires radix { radix ≤ 16 }
     requires most { most ≤ 16 }
     ensures { result ≡ number_of radix most word.now }

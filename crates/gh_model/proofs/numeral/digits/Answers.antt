@@ -1,6 +1,7 @@
+-- A value of so many digits has room for one more.
 use Rattle.std.proofs.Common.{arith}
-use Rattle.gh_callfile.proofs.NumeralLemmas.{room_for_digit}
-use Rattle.gh_callfile.proofs.numeral.digits.Goals as goal
+use Rattle.gh_model.proofs.NumeralLemmas.{room_for_digit}
+use Rattle.gh_model.proofs.numeral.digits.Goals as goal
 
 pub overflow_mul-number : goal.overflow_mul-number
 overflow_mul-number c =
