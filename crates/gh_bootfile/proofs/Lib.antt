@@ -6,3 +6,4 @@ pub mod FreeBytes
 pub mod LineLaw
 pub mod MappingLemmas
 pub mod NumberLaw
+pub mod WalkLaw

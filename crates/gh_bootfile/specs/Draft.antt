@@ -50,14 +50,17 @@ abbrev pub is_extent_line : BootLine → Bool
 is_extent_line (Extent partition parent offset count access held_offset held_count) = true
 is_extent_line _ = false
 
+-- a mapping
 abbrev pub is_mapping_line : BootLine → Bool
 is_mapping_line (Map space extent base offset count access) = true
 is_mapping_line _ = false
 
+-- a capability
 abbrev pub is_capability_line : BootLine → Bool
 is_capability_line (Cap cspace slot object rights master) = true
 is_capability_line _ = false
 
+-- a link
 abbrev pub is_link_line : BootLine → Bool
 is_link_line (Link vm extent request reply) = true
 is_link_line _ = false
@@ -83,7 +86,8 @@ mappings_at table space = slice_index_or table space []
 
 -- the table has the mappings of each address space
 abbrev pub HasMappings : List (List MappingRow) → List MappingRow → Type 0
-HasMappings table mappings = (space : ℕ) → mappings_at table space ≡ filter (is_row_of space) mappings
+HasMappings table mappings =
+    (space : ℕ) → mappings_at table space ≡ filter (is_row_of space) mappings
 
 -- the row behind the others of its address space
 abbrev pub with_row : List (List MappingRow) → MappingRow → List (List MappingRow)

@@ -42,8 +42,10 @@ line_parts (Addrspace partition) = parts_of word.Addrspace (partition.0 ∷ [])
 line_parts (Doorbell partition) = parts_of word.Doorbell (partition.0 ∷ [])
 line_parts (RootExtent partition) = parts_of word.RootExtent (partition.0 ∷ [])
 line_parts (Extent partition parent offset count access held_offset held_count) =
-    parts_of word.Extent (partition.0 ∷ parent.0 ∷ offset ∷ count ∷ access.0 ∷ held_offset ∷ held_count ∷ [])
-line_parts (Msgqueue partition depth size) = parts_of word.Msgqueue (partition.0 ∷ depth ∷ size ∷ [])
+    parts_of word.Extent
+    (partition.0 ∷ parent.0 ∷ offset ∷ count ∷ access.0 ∷ held_offset ∷ held_count ∷ [])
+line_parts (Msgqueue partition depth size) =
+    parts_of word.Msgqueue (partition.0 ∷ depth ∷ size ∷ [])
 line_parts (Map space extent base offset count access) =
     parts_of word.Map (space.0 ∷ extent.0 ∷ base ∷ offset ∷ count ∷ access.0 ∷ [])
 line_parts (Cap cspace slot object rights master) =
@@ -73,6 +75,7 @@ line_text line = parts_text (line_parts line)
 abbrev pub format_line : List ℕ
 format_line = codes "gunyah 1"
 
+-- a line with its line feed
 abbrev pub ended_line : BootLine → List ℕ
 ended_line line = line_text line ++ codes "\n"
 
@@ -106,9 +109,12 @@ bounds word.Cspace = serial_bound ∷ []
 bounds word.Addrspace = serial_bound ∷ []
 bounds word.Doorbell = serial_bound ∷ []
 bounds word.RootExtent = serial_bound ∷ []
-bounds word.Extent = serial_bound ∷ serial_bound ∷ small_bound ∷ small_bound ∷ byte_bound ∷ small_bound ∷ small_bound ∷ []
+bounds word.Extent =
+    serial_bound ∷ serial_bound ∷ small_bound ∷ small_bound ∷ byte_bound ∷ small_bound ∷ small_bound
+    ∷ []
 bounds word.Msgqueue = serial_bound ∷ small_bound ∷ small_bound ∷ []
-bounds word.Map = serial_bound ∷ serial_bound ∷ small_bound ∷ small_bound ∷ small_bound ∷ byte_bound ∷ []
+bounds word.Map =
+    serial_bound ∷ serial_bound ∷ small_bound ∷ small_bound ∷ small_bound ∷ byte_bound ∷ []
 bounds word.Cap = serial_bound ∷ byte_bound ∷ serial_bound ∷ small_bound ∷ mark_bound ∷ []
 bounds word.Vm = serial_bound ∷ serial_bound ∷ []
 bounds word.Rm = serial_bound ∷ serial_bound ∷ serial_bound ∷ []
@@ -117,12 +123,14 @@ bounds word.Link = byte_bound ∷ serial_bound ∷ serial_bound ∷ serial_bound
 -- the numbers from a place on are below these bounds
 abbrev pub are_below : List ℕ → List ℕ → ℕ → Bool
 are_below [] numbers at = true
-are_below (bound ∷ others) numbers at = nat_lt (slice_index numbers at) bound && are_below others numbers (at + 1)
+are_below (bound ∷ others) numbers at =
+    nat_lt (slice_index numbers at) bound && are_below others numbers (at + 1)
 
 -- there are as many numbers as the keyword wants, and each is below its bound
 abbrev pub parts_hold : Parts → Bool
 parts_hold parts =
-    (length parts.numbers == length (bounds parts.keyword)) && are_below (bounds parts.keyword) parts.numbers 0
+    (length parts.numbers == length (bounds parts.keyword))
+    && are_below (bounds parts.keyword) parts.numbers 0
 
 -- each number of the line is within its field
 abbrev pub fields_hold : BootLine → Bool

@@ -3,7 +3,7 @@ use Rattle.std.proofs.lemmas.Result.{err_from_is_err_and}
 use Rattle.gh_bootfile.specs.BootFile.{Answers, Fails, and_then, at_end, lines_on, with_line}
 use Rattle.gh_bootfile.specs.Reading.{line_of}
 use Rattle.gh_model.specs.Pieces.{pieces_at}
-use Rattle.gh_bootfile.proofs.FileLaw.{lines_step, lines_end, fails_on, length_with_line}
+use Rattle.gh_bootfile.proofs.WalkLaw.{lines_step, lines_end, fails_on, length_with_line}
 use Rattle.gh_bootfile.proofs.read.read_lines.Goals as goal
 
 pub returns-in_default : goal.returns-in_default
