@@ -1,52 +1,19 @@
 -- The law on the first bad line: what the reader tells is what a bad line is.
-use Rattle.std.proofs.Common.{◌≡◌, ◌≢◌, ne_eqb, ℕ, zero, suc, ◌<◌, Bool, true, false, ◌&&◌, cond, eqb, List, [], ◌∷◌, ◌++◌, length, Option, Some, None, Result, Ok, Err, refl, sym, ap, subst, ◌∙◌, inl, inr, append_assoc, length-append, arith}
-use Rattle.std.specs.List.{flat_map, list_all}
+use Rattle.std.proofs.Common.{◌≡◌, ◌≢◌, ne_eqb, ℕ, Bool, true, false, ◌&&◌, cond, eqb, List, [], ◌∷◌, ◌++◌, length, Option, Some, None, Result, Ok, Err, refl, sym, ap, subst, ◌∙◌, inl, inr, append_assoc, arith}
 use Rattle.std.specs.Str.{bytes_eq}
-use Rattle.std.proofs.lemmas.Bool.{and_from, and_parts, both_ways, eqb-true}
-use Rattle.std.proofs.lemmas.List.{append-nil}
-use Rattle.std.proofs.lemmas.List.Splits.{slice_split_at}
+use Rattle.std.proofs.lemmas.Bool.{both_ways}
 use Rattle.std.proofs.lemmas.Slice.Eq.{bytes_eq-Decides}
 use Rattle.gh_model.specs.declared.boot_line.BootLine.{BootLine}
-use Rattle.gh_bootfile.specs.BadLine.{fit_in_turn, IsBadBehind, IsBadAt, HasNoFormat, IsFirstBad, TellsFirstBad}
 use Rattle.gh_model.specs.declared.file_err.FileErr.{FileErr}
 use Rattle.gh_model.specs.declared.file_err.FileErr.TheVariants as errors
+use Rattle.gh_model.specs.Pieces.{pieces_at}
+use Rattle.gh_bootfile.specs.BadLine.{IsBadBehind, IsBadAt, HasNoFormat, IsFirstBad, TellsFirstBad}
 use Rattle.gh_bootfile.specs.BootFile.{Answers, and_then, at_end, boot_of, lines_on, next_number, told, with_line}
 use Rattle.gh_bootfile.specs.Draft.{next_fits, is_whole}
-use Rattle.gh_bootfile.specs.Grammar.{ended_line, fields_hold, format_line, line_text}
-use Rattle.gh_bootfile.specs.Reading.{is_byte_of, pieces_at, line_of}
-use Rattle.gh_bootfile.proofs.FreeBytes.{free_all}
-use Rattle.gh_bootfile.proofs.LineLaw.{line_read, line_again, line_free}
-use Rattle.gh_bootfile.proofs.FileLaw.{Pieces, pieces, lines_step, lines_end, file_step, file_end, with_line_read, when_ok}
-
--- a text is one piece, or is cut at its first line feed
-pub data Cut (text : List ℕ) : Type 0 where
-  Whole : pieces_at 10 text ≡ text ∷ [] → Cut text
-  At : (line after : List ℕ) → pieces_at 10 text ≡ line ∷ pieces_at 10 after → text ≡ line ++ (10 ∷ after) → Cut text
-
-cut_behind : (x : ℕ) (xs : List ℕ) (here : Bool) → is_byte_of 10 x ≡ here → Cut xs → Cut (x ∷ xs)
-cut_behind x xs true is cut = At [] xs (rw is refl) (ap (λ (b : ℕ). b ∷ xs) (eqb-true x 10 is))
-cut_behind x xs false is (Whole e) = Whole (rw (is, e) refl)
-cut_behind x xs false is (At line after e text) = At (x ∷ line) after (rw (is, e) refl) (ap (λ (t : List ℕ). x ∷ t) text)
-
-cut : (text : List ℕ) → Cut text
-cut [] = Whole refl
-cut (x ∷ xs) = cut_behind x xs (is_byte_of 10 x) refl (cut xs)
-
--- where a line stands at the front, it is the first piece
-first_line : (line : BootLine) (after : List ℕ) → fields_hold line ≡ true → pieces_at 10 (ended_line line ++ after) ≡ line_text line ∷ pieces_at 10 after
-first_line line after holds =
-    ap (pieces_at 10) (append_assoc (line_text line) (10 ∷ []) after)
-    ∙ slice_split_at (is_byte_of 10) (line_text line) 10 after (free_all 10 (line_text line) (line_free line holds)) refl
-
--- a test that went wrong
-refused : {A : Type 0} (b : Bool) (n m : ℕ) (x : A) → cond b (Ok x) (Err m) ≡ Err n → (b ≡ false) × (m ≡ n)
-refused true n m x e = absurd cc
-refused false n m x e = (refl, cc)
-
-with_line_err : (lines : List BootLine) (o : Option BootLine) (n : ℕ) → with_line lines o ≡ Err n → n ≡ next_number lines
-unfolding with_line
-with_line_err lines None n e = cc
-with_line_err lines (Some line) n e = sym (refused (next_fits lines line) n (next_number lines) (lines ++ line ∷ []) e).1
+use Rattle.gh_bootfile.specs.Grammar.{ended_line, format_line, line_text}
+use Rattle.gh_bootfile.specs.Reading.{line_of}
+use Rattle.gh_bootfile.proofs.LineLaw.{line_read, line_again}
+use Rattle.gh_bootfile.proofs.WalkLaw.{Cut, Whole, At, cut, Pieces, pieces, Stops, AtEnd, AtLine, file_step, file_end, first_line, format_first, lines_step, lines_end, past_lines, refused, walk, walk_read}
 
 with_line_some : (lines : List BootLine) (line : BootLine) (n : ℕ) → with_line lines (Some line) ≡ Err n → next_fits lines line ≡ false
 unfolding with_line
@@ -62,105 +29,46 @@ same_rest x y xs ys e = cc
 some_pieces : (texts : List (List ℕ)) → Pieces texts → [] ≡ texts → ⊥
 some_pieces texts p e = cc p.are
 
-fit_none : (before : List BootLine) → fit_in_turn before [] ≡ true
-unfolding fit_in_turn
-fit_none before = refl
-
--- the line at the front is bad
-bad_here : (before : List BootLine) (text line after : List ℕ) (n : ℕ) → pieces_at 10 text ≡ line ∷ pieces_at 10 after → with_line before (line_of line) ≡ Err n → IsBadAt before text n
-bad_here before text line after n cut_is failed =
-    record {
-      lines = [];
-      rest = text;
-      text_is = refl;
-      hold = refl;
-      fit = fit_none before;
-      bad = subst (λ (ls : List BootLine). IsBadBehind ls text) (sym (append-nil before)) (record {
-        no_line = λ other behind holds is.
-            let same : line ∷ pieces_at 10 after ≡ line_text other ∷ pieces_at 10 behind = sym cut_is ∙ ap (pieces_at 10) is ∙ first_line other behind holds in
-            let text_is : line ≡ line_text other = same_first line (line_text other) (pieces_at 10 after) (pieces_at 10 behind) same in
-            let read : with_line before (Some other) ≡ Err n = sym (ap (with_line before) (ap line_of text_is ∙ line_again other holds)) ∙ failed in
-            with_line_some before other n read;
-        no_end = λ is. absurd (some_pieces (pieces_at 10 after) (pieces 10 after) (same_rest [] line [] (pieces_at 10 after) (sym (ap (pieces_at 10) is) ∙ cut_is)));
-      });
-      number_is = with_line_err before (line_of line) n failed ∙ ap next_number (sym (append-nil before));
-    }
-
 at_end_err : (before : List BootLine) (left : List ℕ) (n : ℕ) → at_end before left ≡ Err n → ((eqb (length left) 0 && is_whole before) ≡ false) × (next_number before ≡ n)
 unfolding at_end
 at_end_err before left n e = refused (eqb (length left) 0 && is_whole before) n (next_number before) before e
 
--- what stands behind the last line feed is bad
-bad_at_end : (before : List BootLine) (text : List ℕ) (n : ℕ) → pieces_at 10 text ≡ text ∷ [] → at_end before text ≡ Err n → IsBadAt before text n
-bad_at_end before text n whole failed =
-    let test = at_end_err before text n failed in
-    record {
-      lines = [];
-      rest = text;
-      text_is = refl;
-      hold = refl;
-      fit = fit_none before;
-      bad = subst (λ (ls : List BootLine). IsBadBehind ls text) (sym (append-nil before)) (record {
-        no_line = λ other behind holds is.
-            let same : text ∷ [] ≡ line_text other ∷ pieces_at 10 behind = sym whole ∙ ap (pieces_at 10) is ∙ first_line other behind holds in
-            absurd (some_pieces (pieces_at 10 behind) (pieces 10 behind) (same_rest text (line_text other) [] (pieces_at 10 behind) same));
-        no_end = λ is. subst (λ (left : List ℕ). (eqb (length left) 0 && is_whole before) ≡ false) is test.0;
-      });
-      number_is = sym test.1 ∙ ap next_number (sym (append-nil before));
-    }
-
-fits_since : (before more : List BootLine) (line : BootLine) → with_line before (Some line) ≡ Ok more → next_fits before line ≡ true
-unfolding with_line
-fits_since before more line e = when_ok (next_fits before line) (next_number before) (before ++ line ∷ []) more e
-
-fit_more : (before lines : List BootLine) (line : BootLine) → next_fits before line ≡ true → fit_in_turn (before ++ line ∷ []) lines ≡ true → fit_in_turn before (line ∷ lines) ≡ true
-unfolding fit_in_turn
-fit_more before lines line first others = and_from (next_fits before line) (fit_in_turn (before ++ line ∷ []) lines) first others
-
--- a line that fits stands at the front, and the bad line is behind it
-bad_behind : (before more : List BootLine) (text line after : List ℕ) (n : ℕ) → text ≡ line ++ (10 ∷ after) → with_line before (line_of line) ≡ Ok more → IsBadAt more after n → IsBadAt before text n
-bad_behind before more text line after n text_is made rest =
-    let found = with_line_read before more (line_of line) made in
-    let first = found.0 in
-    let is = line_read line first found.1 in
-    let longer : more ++ rest.lines ≡ before ++ (first ∷ rest.lines) = ap (λ (ls : List BootLine). ls ++ rest.lines) found.2 ∙ append_assoc before (first ∷ []) rest.lines in
-    let fits : next_fits before first ≡ true = fits_since before more first (sym (ap (with_line before) found.1) ∙ made) in
-    record {
-      lines = first ∷ rest.lines;
-      rest = rest.rest;
-      text_is = text_is ∙ ap (λ (t : List ℕ). t ++ (10 ∷ after)) is.text_is ∙ ap (λ (t : List ℕ). line_text first ++ (10 ∷ t)) rest.text_is
-          ∙ sym (append_assoc (line_text first) (10 ∷ []) (flat_map ended_line rest.lines ++ rest.rest))
-          ∙ sym (append_assoc (ended_line first) (flat_map ended_line rest.lines) rest.rest);
-      hold = and_from (fields_hold first) (list_all fields_hold rest.lines) is.fields rest.hold;
-      fit = fit_more before rest.lines first fits (subst (λ (ls : List BootLine). fit_in_turn ls rest.lines ≡ true) found.2 rest.fit);
-      bad = subst (λ (ls : List BootLine). IsBadBehind ls rest.rest) longer rest.bad;
-      number_is = rest.number_is ∙ ap next_number longer;
-    }
-
-goes_bad : (before : List BootLine) (text line after : List ℕ) (n : ℕ) → pieces_at 10 text ≡ line ∷ pieces_at 10 after → text ≡ line ++ (10 ∷ after)
-    → ((more : List BootLine) → lines_on more (pieces_at 10 after) ≡ Err n → IsBadAt more after n)
-    → (read : Result (List BootLine) ℕ) → with_line before (line_of line) ≡ read → and_then read (λ more. lines_on more (pieces_at 10 after)) ≡ Err n → IsBadAt before text n
-goes_bad before text line after n e text_is again (Ok more) is failed = bad_behind before more text line after n text_is is (again more failed)
-goes_bad before text line after n e text_is again (Err m) is failed = bad_here before text line after n e (is ∙ failed)
-
-shorter : (text line after : List ℕ) → text ≡ line ++ (10 ∷ after) → length after < length text
-shorter text line after e = omega (arith, ap length e, length-append line (10 ∷ after))
-
-cut_bad : (before : List BootLine) (text : List ℕ) (n : ℕ) → ((more : List BootLine) (after : List ℕ) → length after < length text → lines_on more (pieces_at 10 after) ≡ Err n → IsBadAt more after n)
-    → Cut text → lines_on before (pieces_at 10 text) ≡ Err n → IsBadAt before text n
-cut_bad before text n again (Whole e) failed = bad_at_end before text n e (sym (lines_end before text text e) ∙ failed)
-cut_bad before text n again (At line after e text_is) failed =
-    goes_bad before text line after n e text_is (λ more. again more after (shorter text line after text_is)) (with_line before (line_of line)) refl (sym (lines_step before text line after e) ∙ failed)
-
-lines_bad : (fuel : ℕ) (before : List BootLine) (text : List ℕ) (n : ℕ) → length text < fuel → lines_on before (pieces_at 10 text) ≡ Err n → IsBadAt before text n
-lines_bad zero before text n short failed = absurd (omega arith)
-lines_bad (suc fuel) before text n short failed = cut_bad before text n (λ more after less. lines_bad fuel more after n (omega arith)) (cut text) failed
-
-format_first : (rest : List ℕ) → pieces_at 10 (format_line ++ (10 ∷ rest)) ≡ format_line ∷ pieces_at 10 rest
-format_first rest = slice_split_at (is_byte_of 10) format_line 10 rest (free_all 10 format_line refl) refl
-
 same_error : (n m : ℕ) → (read : Result (List BootLine) ℕ) → read ≡ Err m → read ≡ Err n → n ≡ m
 same_error n m read p q = cc
+
+-- ---- what is told is the first bad line
+
+-- where lines that fit stop, the rest is bad
+bad_line : (lines : List BootLine) (rest line after : List ℕ) → pieces_at 10 rest ≡ line ∷ pieces_at 10 after → with_line lines (line_of line) ≡ Err (next_number lines) → IsBadBehind lines rest
+bad_line lines rest line after e failed = record {
+  no_line = λ other behind holds is.
+      let same : line ∷ pieces_at 10 after ≡ line_text other ∷ pieces_at 10 behind = sym e ∙ ap (pieces_at 10) is ∙ first_line other behind holds in
+      let text_is : line ≡ line_text other = same_first line (line_text other) (pieces_at 10 after) (pieces_at 10 behind) same in
+      with_line_some lines other (next_number lines) (sym (ap (with_line lines) (ap line_of text_is ∙ line_again other holds)) ∙ failed);
+  no_end = λ is. absurd (some_pieces (pieces_at 10 after) (pieces 10 after) (same_rest [] line [] (pieces_at 10 after) (sym (ap (pieces_at 10) is) ∙ e)));
+}
+
+bad_end : (lines : List BootLine) (rest : List ℕ) → pieces_at 10 rest ≡ rest ∷ [] → (eqb (length rest) 0 && is_whole lines) ≡ false → IsBadBehind lines rest
+bad_end lines rest e test = record {
+  no_line = λ other behind holds is.
+      let same : rest ∷ [] ≡ line_text other ∷ pieces_at 10 behind = sym e ∙ ap (pieces_at 10) is ∙ first_line other behind holds in
+      absurd (some_pieces (pieces_at 10 behind) (pieces 10 behind) (same_rest rest (line_text other) [] (pieces_at 10 behind) same));
+  no_end = λ is. subst (λ (left : List ℕ). (eqb (length left) 0 && is_whole lines) ≡ false) is test;
+}
+
+bad_stop : (lines : List BootLine) (rest : List ℕ) (n : ℕ) → Stops lines rest → lines_on lines (pieces_at 10 rest) ≡ Err n → IsBadBehind lines rest × (n ≡ next_number lines)
+bad_stop lines rest n (AtEnd e) failed =
+    let test = at_end_err lines rest n (sym (lines_end lines rest rest e) ∙ failed) in
+    (bad_end lines rest e test.0, sym test.1)
+bad_stop lines rest n (AtLine line after e none) failed =
+    let told_is : Err (next_number lines) ≡ Err n = sym (lines_step lines rest line after e ∙ ap (λ (r : Result (List BootLine) ℕ). and_then r (λ more. lines_on more (pieces_at 10 after))) none) ∙ failed in
+    (bad_line lines rest line after e none, same_error n (next_number lines) (Err n) (sym told_is) refl)
+
+lines_bad : (text : List ℕ) (n : ℕ) → lines_on [] (pieces_at 10 text) ≡ Err n → IsBadAt [] text n
+lines_bad text n failed =
+    let w = walk [] text in
+    let stop = bad_stop w.lines w.rest n w.stops (sym (walk_read [] text w) ∙ failed) in
+    record { lines = w.lines; rest = w.rest; text_is = w.text_is; hold = w.hold; fit = w.fit; bad = stop.0; number_is = stop.1 }
 
 begun : (text line after : List ℕ) (n : ℕ) → pieces_at 10 text ≡ line ∷ pieces_at 10 after → text ≡ line ++ (10 ∷ after)
     → (format : Bool) → bytes_eq line format_line ≡ format → cond format (lines_on [] (pieces_at 10 after)) (Err 1) ≡ Err n → IsFirstBad text n
@@ -168,7 +76,7 @@ begun text line after n e text_is true is failed =
     inr (record {
       lines_text = after;
       text_is = text_is ∙ ap (λ (t : List ℕ). t ++ (10 ∷ after)) ((bytes_eq-Decides line format_line).0 is);
-      bad = lines_bad (suc (length after)) [] after n (omega arith) failed;
+      bad = lines_bad after n failed;
     })
 begun text line after n e text_is false is failed =
     inl (record {
@@ -193,24 +101,6 @@ pub first_bad : (text : List ℕ) (n : ℕ) → boot_of text ≡ Err n → IsFir
 first_bad text n failed = file_bad text n (cut text) failed
 
 -- ---- the other direction: what is the first bad line is what the reader tells
-
--- the lines that fit are read one by one
-past_lines : (lines before : List BootLine) (rest : List ℕ) → list_all fields_hold lines ≡ true → fit_in_turn before lines ≡ true
-    → lines_on before (pieces_at 10 (flat_map ended_line lines ++ rest)) ≡ lines_on (before ++ lines) (pieces_at 10 rest)
-unfolding fit_in_turn with_line
-past_lines [] before rest hold fit = ap (λ (ls : List BootLine). lines_on ls (pieces_at 10 rest)) (sym (append-nil before))
-past_lines (line ∷ lines) before rest hold fit =
-    let holds = and_parts (fields_hold line) (list_all fields_hold lines) hold in
-    let fits = and_parts (next_fits before line) (fit_in_turn (before ++ line ∷ []) lines) fit in
-    let behind = flat_map ended_line lines ++ rest in
-    let cut_is : pieces_at 10 (flat_map ended_line (line ∷ lines) ++ rest) ≡ line_text line ∷ pieces_at 10 behind =
-    ap (pieces_at 10) (append_assoc (ended_line line) (flat_map ended_line lines) rest) ∙ first_line line behind holds.0 in
-    let read : with_line before (line_of (line_text line)) ≡ Ok (before ++ line ∷ []) =
-    ap (with_line before) (line_again line holds.0) ∙ ap (λ (b : Bool). cond b (Ok (before ++ line ∷ [])) (Err (next_number before))) fits.0 in
-    lines_step before (flat_map ended_line (line ∷ lines) ++ rest) (line_text line) behind cut_is
-    ∙ ap (λ (r : Result (List BootLine) ℕ). and_then r (λ more. lines_on more (pieces_at 10 behind))) read
-    ∙ past_lines lines (before ++ line ∷ []) rest holds.1 fits.1
-    ∙ ap (λ (ls : List BootLine). lines_on ls (pieces_at 10 rest)) (append_assoc before (line ∷ []) lines)
 
 -- a line at the front that is none, or doesn't fit
 refused_line : (before : List BootLine) (text after : List ℕ) → IsBadBehind before (text ++ (10 ∷ after))

@@ -1,12 +1,14 @@
 -- Texts without a byte: what parts a text stands in none of its pieces.
-use Rattle.std.proofs.Common.{◌≡◌, ℕ, ◌≤◌, leb, Bool, true, false, not, List, [], ◌∷◌, ◌++◌, All, refl, ◌∙◌, arith}
+use Rattle.std.proofs.Common.{◌≡◌, ℕ, ◌≤◌, ltb, Bool, true, false, not, List, [], ◌∷◌, ◌++◌, All, refl, ◌∙◌, arith}
 use Rattle.std.specs.Prelude.{nat_le}
 use Rattle.std.specs.List.{list_all, AllByRecursion}
 use Rattle.std.proofs.lemmas.Bool.Decides.{nat_tests}
 use Rattle.std.proofs.lemmas.Bool.{and_parts, and_from, not-true}
 use Rattle.std.proofs.lemmas.List.Elements.{All-from_recursion}
 use Rattle.std.proofs.lemmas.List.Folds.{list_all-append}
-use Rattle.gh_bootfile.specs.Reading.{is_byte_of, is_digit}
+use Rattle.std.specs.Char.{digit_value}
+use Rattle.gh_model.specs.Numeral.{is_digit, is_lower_digit}
+use Rattle.gh_model.specs.Pieces.{is_byte_of}
 
 -- the byte stands nowhere in the text
 abbrev pub is_free : ℕ → List ℕ → Bool
@@ -38,9 +40,11 @@ letters_free byte (x ∷ xs) low letters =
     let parts = and_parts (is_letter x) (list_all is_letter xs) letters in
     and_from (not (is_byte_of byte x)) (is_free byte xs) (not_letter byte x low parts.0) (letters_free byte xs low parts.1)
 
-pub digits_free : (byte : ℕ) (text : List ℕ) → byte ≤ 47 → list_all is_digit text ≡ true → is_free byte text ≡ true
+digit_letter : (byte : ℕ) → is_digit 10 byte ≡ true → is_letter byte ≡ true
+digit_letter byte digit = let lower = (and_parts (is_lower_digit byte) (ltb (digit_value byte) 10) digit).0 in grind (arith, nat_tests)
+
+pub digits_free : (byte : ℕ) (text : List ℕ) → byte ≤ 47 → list_all (is_digit 10) text ≡ true → is_free byte text ≡ true
 digits_free byte [] low digits = refl
 digits_free byte (x ∷ xs) low digits =
-    let parts = and_parts (is_digit x) (list_all is_digit xs) digits in
-    let letter = and_parts (leb 48 x) (leb x 57) parts.0 in
-    and_from (not (is_byte_of byte x)) (is_free byte xs) (not_letter byte x low letter.0) (digits_free byte xs low parts.1)
+    let parts = and_parts (is_digit 10 x) (list_all (is_digit 10) xs) digits in
+    and_from (not (is_byte_of byte x)) (is_free byte xs) (not_letter byte x low (digit_letter x parts.0)) (digits_free byte xs low parts.1)

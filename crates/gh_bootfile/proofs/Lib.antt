@@ -4,9 +4,6 @@ pub mod FileLaw
 pub mod FitsLaw
 pub mod FreeBytes
 pub mod LineLaw
+pub mod MappingLemmas
 pub mod NumberLaw
-pub mod NumberLemmas
-pub mod PieceLemmas
-pub mod TablesFacts
-pub mod TablesLemmas
-pub mod TablesShows
+pub mod WalkLaw

@@ -1,9 +1,9 @@
 -- The two laws on lines: what is read is the line's text, and a line's text is read.
-use Rattle.std.proofs.Common.{◌≡◌, ℕ, zero, suc, ◌+◌, ◌^◌, ◌<◌, ◌≤◌, Bool, true, false, ◌&&◌, cond, eqb, List, [], ◌∷◌, ◌++◌, length, get_or, map, codes, Option, Some, None, refl, sym, ap, ◌∙◌, append_assoc, length-append, arith, lit≤}
+use Rattle.std.proofs.Common.{◌≡◌, ℕ, zero, suc, ◌+◌, ◌^◌, ◌<◌, ◌≤◌, Bool, true, false, cond, eqb, List, [], ◌∷◌, ◌++◌, length, get_or, map, Option, Some, None, refl, sym, ap, ◌∙◌, append_assoc, length-append, arith, lit≤}
 use Rattle.std.specs.Fmt.{decimal}
 use Rattle.std.specs.List.{find, flat_map, list_all, join_with_byte, AllByRecursion, range_with_len}
 use Rattle.std.specs.Option.{option_and_then}
-use Rattle.std.proofs.lemmas.Bool.{and_parts, eqb-true, leb-true, cond-true}
+use Rattle.std.proofs.lemmas.Bool.{and_parts, eqb-true, cond-true}
 use Rattle.std.proofs.lemmas.Bool.Decides.{nat_tests}
 use Rattle.std.proofs.lemmas.List.{append-nil}
 use Rattle.std.proofs.lemmas.List.FromFn.{fill_by_all}
@@ -12,8 +12,9 @@ use Rattle.std.proofs.lemmas.Option.{cond_some, same_Some, option_and_then_some}
 use Rattle.std.proofs.lemmas.Slice.Eq.{bytes_eq-Decides}
 use Rattle.gh_bootfile.specs.declared.keyword.Keyword.{Keyword}
 use Rattle.gh_bootfile.specs.declared.keyword.Keyword.TheVariants as word
-use Rattle.gh_bootfile.specs.Grammar.{spaced, spelled, mark_number, line_text, fields_hold}
-use Rattle.gh_bootfile.specs.Reading.{is_byte_of, pieces_at, has_text, keyword_text, keywords, keyword_of, number_count, number_of, with_number, numbers_on, line_made, mark_holds, line_with, line_from, line_of_words, line_of}
+use Rattle.gh_bootfile.specs.Grammar.{keyword_text, mark_number, parts_of, line_parts, spaced, spelled, parts_text, line_text, bounds, are_below, parts_hold, fields_hold}
+use Rattle.gh_bootfile.specs.Reading.{has_text, keywords, keyword_of, number_of, with_number, numbers_on, line_made, line_from, line_of_words, line_of}
+use Rattle.gh_model.specs.Pieces.{is_byte_of, pieces_at}
 use Rattle.gh_model.specs.declared.boot_line.BootLine.{BootLine}
 use Rattle.gh_model.specs.declared.boot_line.BootLine.TheVariants as boot
 use Rattle.gh_bootfile.proofs.FreeBytes.{is_free, free_append, free_all, is_letter, letters_free}
@@ -21,10 +22,6 @@ use Rattle.gh_bootfile.proofs.NumberLaw.{number_read, number_again, decimal_free
 
 abbrev pub IsSmall : ℕ → Type 0
 IsSmall n = n < 2 ^ 32
-
-chosen : {A : Type 0} (b : Bool) (o : Option A) (y : A) → cond b o None ≡ Some y → (b ≡ true) × (o ≡ Some y)
-chosen true o y e = (refl, e)
-chosen false o y e = absurd cc
 
 refused : {A : Type 0} (b : Bool) (x y : A) → cond b None (Some x) ≡ Some y → x ≡ y
 refused true x y e = absurd cc
@@ -133,43 +130,43 @@ keyword_free byte keyword low = letters_free byte (keyword_text keyword) low (le
 written_out : (ns : List ℕ) (count : ℕ) → length ns ≡ count → ns ≡ map (λ at. get_or ns at 0) (range_with_len 0 count)
 written_out ns count e = fill_by_all (λ at. get_or ns at 0) ns count 0 e (λ at within. refl)
 
--- what is read of a keyword and numbers
-pub record Row (keyword : Keyword) (ns : List ℕ) (line : BootLine) : Type 0 where
-  pub text : spelled (keyword_text keyword) ns ≡ line_text line
-  pub fields : fields_hold line ≡ true
-
-mark_again : (n : ℕ) → n ≤ 1 → n ≡ mark_number (eqb n 1)
+mark_again : (n : ℕ) → n < 2 → n ≡ mark_number (eqb n 1)
 mark_again zero small = refl
 mark_again (suc zero) small = refl
 mark_again (suc (suc n)) small = absurd (omega arith)
 
-made_text : (keyword : Keyword) (ns : List ℕ) → length ns ≡ number_count keyword → mark_holds keyword ns ≡ true → spelled (keyword_text keyword) ns ≡ line_text (line_made keyword ns)
-made_text word.Pages ns e mark = ap (spelled (codes "pages")) (written_out ns 1 e)
-made_text word.Partition ns e mark = ap (spelled (codes "partition")) (written_out ns 1 e)
-made_text word.Cspace ns e mark = ap (spelled (codes "cspace")) (written_out ns 1 e)
-made_text word.Addrspace ns e mark = ap (spelled (codes "addrspace")) (written_out ns 1 e)
-made_text word.Doorbell ns e mark = ap (spelled (codes "doorbell")) (written_out ns 1 e)
-made_text word.RootExtent ns e mark = ap (spelled (codes "rootextent")) (written_out ns 1 e)
-made_text word.Extent ns e mark = ap (spelled (codes "extent")) (written_out ns 7 e)
-made_text word.Msgqueue ns e mark = ap (spelled (codes "msgqueue")) (written_out ns 3 e)
-made_text word.Map ns e mark = ap (spelled (codes "map")) (written_out ns 6 e)
-made_text word.Cap ns e mark =
-    ap (spelled (codes "cap")) (written_out ns 5 e)
-    ∙ ap (λ n. spelled (codes "cap") (get_or ns 0 0 ∷ get_or ns 1 0 ∷ get_or ns 2 0 ∷ get_or ns 3 0 ∷ n ∷ [])) (mark_again (get_or ns 4 0) (leb-true _ _ mark))
-made_text word.Vm ns e mark = ap (spelled (codes "vm")) (written_out ns 2 e)
-made_text word.Rm ns e mark = ap (spelled (codes "rm")) (written_out ns 3 e)
-made_text word.Link ns e mark = ap (spelled (codes "link")) (written_out ns 4 e)
+-- a capability's numbers, the last of which is a mark
+cap_numbers : (ns : List ℕ) → length ns ≡ 5 → get_or ns 4 0 < 2 → ns ≡ get_or ns 0 0 ∷ get_or ns 1 0 ∷ get_or ns 2 0 ∷ get_or ns 3 0 ∷ mark_number (eqb (get_or ns 4 0) 1) ∷ []
+cap_numbers ns e small =
+    written_out ns 5 e ∙ ap (λ n. get_or ns 0 0 ∷ get_or ns 1 0 ∷ get_or ns 2 0 ∷ get_or ns 3 0 ∷ n ∷ []) (mark_again (get_or ns 4 0) small)
 
-row_read : (keyword : Keyword) (ns : List ℕ) (line : BootLine) → length ns ≡ number_count keyword → line_with keyword ns ≡ Some line → Row keyword ns line
-row_read keyword ns line e h =
-    let made = cond_some (mark_holds keyword ns && fields_hold (line_made keyword ns)) (line_made keyword ns) line h in
-    let parts = and_parts (mark_holds keyword ns) (fields_hold (line_made keyword ns)) made.0 in
-    record { text = made_text keyword ns e parts.0 ∙ ap line_text made.1; fields = rw (← made.1) parts.1 }
+-- the line that is made of parts has these parts
+made_numbers : (keyword : Keyword) (ns : List ℕ) → length ns ≡ length (bounds keyword) → are_below (bounds keyword) ns 0 ≡ true → parts_of keyword ns ≡ line_parts (line_made keyword ns)
+made_numbers word.Pages ns e below = ap (parts_of word.Pages) (written_out ns 1 e)
+made_numbers word.Partition ns e below = ap (parts_of word.Partition) (written_out ns 1 e)
+made_numbers word.Cspace ns e below = ap (parts_of word.Cspace) (written_out ns 1 e)
+made_numbers word.Addrspace ns e below = ap (parts_of word.Addrspace) (written_out ns 1 e)
+made_numbers word.Doorbell ns e below = ap (parts_of word.Doorbell) (written_out ns 1 e)
+made_numbers word.RootExtent ns e below = ap (parts_of word.RootExtent) (written_out ns 1 e)
+made_numbers word.Extent ns e below = ap (parts_of word.Extent) (written_out ns 7 e)
+made_numbers word.Msgqueue ns e below = ap (parts_of word.Msgqueue) (written_out ns 3 e)
+made_numbers word.Map ns e below = ap (parts_of word.Map) (written_out ns 6 e)
+made_numbers word.Cap ns e below = ap (parts_of word.Cap) (cap_numbers ns e (grind (arith, nat_tests)))
+made_numbers word.Vm ns e below = ap (parts_of word.Vm) (written_out ns 2 e)
+made_numbers word.Rm ns e below = ap (parts_of word.Rm) (written_out ns 3 e)
+made_numbers word.Link ns e below = ap (parts_of word.Link) (written_out ns 4 e)
 
-line_from_read : (keyword : Keyword) (ns : List ℕ) (line : BootLine) → line_from keyword ns ≡ Some line → Row keyword ns line
+-- what is read of a keyword and numbers has these parts, and they hold
+pub record IsRow (keyword : Keyword) (ns : List ℕ) (line : BootLine) : Type 0 where
+  pub parts_are : parts_of keyword ns ≡ line_parts line
+  pub fields : fields_hold line ≡ true
+
+line_from_read : (keyword : Keyword) (ns : List ℕ) (line : BootLine) → line_from keyword ns ≡ Some line → IsRow keyword ns line
 line_from_read keyword ns line e =
-    let parts = chosen (eqb (length ns) (number_count keyword)) (line_with keyword ns) line e in
-    row_read keyword ns line (eqb-true _ _ parts.0) parts.1
+    let made = cond_some (parts_hold (parts_of keyword ns)) (line_made keyword ns) line e in
+    let hold = and_parts (eqb (length ns) (length (bounds keyword))) (are_below (bounds keyword) ns 0) made.0 in
+    let same : parts_of keyword ns ≡ line_parts line = made_numbers keyword ns (eqb-true _ _ hold.0) hold.1 ∙ ap line_parts made.1 in
+    record { parts_are = same; fields = ap parts_hold (sym same) ∙ made.0 }
 
 -- ---- the two laws
 
@@ -186,7 +183,7 @@ words_read (text ∷ texts) line e =
     let row = line_from_read keyword ns line made in
     let joins : join_with_byte 32 (text ∷ texts) ≡ spelled text read.more = ap (λ (ts : List (List ℕ)). join_with_byte 32 (text ∷ ts)) read.texts_are ∙ joined text read.more in
     let same : spelled text read.more ≡ spelled (keyword_text keyword) ns = ap (λ (w : List ℕ). spelled w read.more) (sym (keyword_read text keyword is)) ∙ ap (spelled (keyword_text keyword)) (sym read.behind) in
-    record { text_is = joins ∙ same ∙ row.text; fields = row.fields }))
+    record { text_is = joins ∙ same ∙ ap parts_text row.parts_are; fields = row.fields }))
 
 -- what a line is read from is its text
 pub line_read : (text : List ℕ) (line : BootLine) → line_of text ≡ Some line → IsLine text line
@@ -196,54 +193,36 @@ line_read text line e =
     let read = words_read (pieces_at 32 text) line e in
     record { text_is = sym whole ∙ read.text_is; fields = read.fields }
 
--- the keyword and the numbers that a line is spelled with
-pub record Spelling (line : BootLine) : Type 0 where
-  pub keyword : Keyword
-  pub numbers : List ℕ
-  pub text : line_text line ≡ spelled (keyword_text keyword) numbers
-  pub small : AllByRecursion IsSmall numbers
-  pub few : length numbers ≤ 7
-  pub made : line_from keyword numbers ≡ Some line
+-- a line is made of its parts
+made_again : (line : BootLine) → line_made (line_parts line).keyword (line_parts line).numbers ≡ line
+made_again (boot.Cap cspace slot object rights true) = refl
+made_again (boot.Cap cspace slot object rights false) = refl
+made_again _ = refl
 
-spelling : (line : BootLine) → fields_hold line ≡ true → Spelling line
-spelling (boot.Pages count) h =
-    record { keyword = word.Pages; numbers = count ∷ []; text = refl; small = grind (arith, nat_tests); few = lit≤ tt; made = cond-true _ _ _ h }
-spelling (boot.Partition quota) h =
-    record { keyword = word.Partition; numbers = quota ∷ []; text = refl; small = grind (arith, nat_tests); few = lit≤ tt; made = cond-true _ _ _ h }
-spelling (boot.Cspace partition) h =
-    record { keyword = word.Cspace; numbers = partition.0 ∷ []; text = refl; small = grind (arith, nat_tests); few = lit≤ tt; made = cond-true _ _ _ h }
-spelling (boot.Addrspace partition) h =
-    record { keyword = word.Addrspace; numbers = partition.0 ∷ []; text = refl; small = grind (arith, nat_tests); few = lit≤ tt; made = cond-true _ _ _ h }
-spelling (boot.Doorbell partition) h =
-    record { keyword = word.Doorbell; numbers = partition.0 ∷ []; text = refl; small = grind (arith, nat_tests); few = lit≤ tt; made = cond-true _ _ _ h }
-spelling (boot.RootExtent partition) h =
-    record { keyword = word.RootExtent; numbers = partition.0 ∷ []; text = refl; small = grind (arith, nat_tests); few = lit≤ tt; made = cond-true _ _ _ h }
-spelling (boot.Extent partition parent offset count access held_offset held_count) h =
-    record { keyword = word.Extent; numbers = partition.0 ∷ parent.0 ∷ offset ∷ count ∷ access.0 ∷ held_offset ∷ held_count ∷ []; text = refl; small = grind (arith, nat_tests); few = lit≤ tt; made = cond-true _ _ _ h }
-spelling (boot.Msgqueue partition depth size) h =
-    record { keyword = word.Msgqueue; numbers = partition.0 ∷ depth ∷ size ∷ []; text = refl; small = grind (arith, nat_tests); few = lit≤ tt; made = cond-true _ _ _ h }
-spelling (boot.Map space extent base offset count access) h =
-    record { keyword = word.Map; numbers = space.0 ∷ extent.0 ∷ base ∷ offset ∷ count ∷ access.0 ∷ []; text = refl; small = grind (arith, nat_tests); few = lit≤ tt; made = cond-true _ _ _ h }
-spelling (boot.Cap cspace slot object rights true) h =
-    record { keyword = word.Cap; numbers = cspace.0 ∷ slot ∷ object.0 ∷ rights.0 ∷ 1 ∷ []; text = refl; small = grind (arith, nat_tests); few = lit≤ tt; made = cond-true _ _ _ h }
-spelling (boot.Cap cspace slot object rights false) h =
-    record { keyword = word.Cap; numbers = cspace.0 ∷ slot ∷ object.0 ∷ rights.0 ∷ 0 ∷ []; text = refl; small = grind (arith, nat_tests); few = lit≤ tt; made = cond-true _ _ _ h }
-spelling (boot.Vm cspace space) h =
-    record { keyword = word.Vm; numbers = cspace.0 ∷ space.0 ∷ []; text = refl; small = grind (arith, nat_tests); few = lit≤ tt; made = cond-true _ _ _ h }
-spelling (boot.Rm cspace space partition) h =
-    record { keyword = word.Rm; numbers = cspace.0 ∷ space.0 ∷ partition.0 ∷ []; text = refl; small = grind (arith, nat_tests); few = lit≤ tt; made = cond-true _ _ _ h }
-spelling (boot.Link vm extent request reply) h =
-    record { keyword = word.Link; numbers = vm.0 ∷ extent.0 ∷ request.0 ∷ reply.0 ∷ []; text = refl; small = grind (arith, nat_tests); few = lit≤ tt; made = cond-true _ _ _ h }
+line_from_again : (line : BootLine) → fields_hold line ≡ true → line_from (line_parts line).keyword (line_parts line).numbers ≡ Some line
+line_from_again line holds = cond-true _ _ _ holds ∙ ap Some (made_again line)
+
+-- a line's numbers have 32 bits, and are at most seven
+small_numbers : (line : BootLine) → fields_hold line ≡ true → AllByRecursion IsSmall (line_parts line).numbers
+small_numbers (boot.Cap cspace slot object rights true) holds = grind (arith, nat_tests)
+small_numbers (boot.Cap cspace slot object rights false) holds = grind (arith, nat_tests)
+small_numbers _ holds = grind (arith, nat_tests)
+
+few_numbers : (line : BootLine) → length (line_parts line).numbers ≤ 7
+few_numbers (boot.Pages count) = lit≤ tt
+few_numbers _ = lit≤ tt
 
 -- the text of a line is read as that line
 pub line_again : (line : BootLine) → fields_hold line ≡ true → line_of (line_text line) ≡ Some line
 unfolding line_of
 line_again line holds =
-    let s = spelling line holds in
-    let apart : pieces_at 32 (line_text line) ≡ keyword_text s.keyword ∷ map decimal s.numbers = ap (pieces_at 32) s.text ∙ words_again (keyword_text s.keyword) s.numbers (keyword_free 32 s.keyword (lit≤ tt)) s.small in
-    let numbers : numbers_on [] (map decimal s.numbers) ≡ Some s.numbers = numbers_again [] s.numbers s.small (omega (arith, s.few)) in
-    let step : line_of_words (keyword_text s.keyword ∷ map decimal s.numbers) ≡ line_from s.keyword s.numbers = rw (keyword_again s.keyword, numbers) refl in
-    ap line_of_words apart ∙ step ∙ s.made
+    let keyword = (line_parts line).keyword in
+    let ns = (line_parts line).numbers in
+    let small = small_numbers line holds in
+    let apart : pieces_at 32 (line_text line) ≡ keyword_text keyword ∷ map decimal ns = words_again (keyword_text keyword) ns (keyword_free 32 keyword (lit≤ tt)) small in
+    let numbers : numbers_on [] (map decimal ns) ≡ Some ns = numbers_again [] ns small (omega (arith, few_numbers line)) in
+    let step : line_of_words (keyword_text keyword ∷ map decimal ns) ≡ line_from keyword ns = rw (keyword_again keyword, numbers) refl in
+    ap line_of_words apart ∙ step ∙ line_from_again line holds
 
 numbers_free : (ns : List ℕ) → AllByRecursion IsSmall ns → is_free 10 (flat_map spaced ns) ≡ true
 numbers_free [] small = refl
@@ -252,5 +231,4 @@ numbers_free (n ∷ ns) small = free_append 10 (spaced n) (flat_map spaced ns) (
 -- no line feed stands in a line
 pub line_free : (line : BootLine) → fields_hold line ≡ true → is_free 10 (line_text line) ≡ true
 line_free line holds =
-    let s = spelling line holds in
-    ap (is_free 10) s.text ∙ free_append 10 (keyword_text s.keyword) (flat_map spaced s.numbers) (keyword_free 10 s.keyword (lit≤ tt)) (numbers_free s.numbers s.small)
+    free_append 10 (keyword_text (line_parts line).keyword) (flat_map spaced (line_parts line).numbers) (keyword_free 10 (line_parts line).keyword (lit≤ tt)) (numbers_free (line_parts line).numbers (small_numbers line holds))

@@ -10,7 +10,8 @@ use Rattle.gh_bootfile.specs.Grammar.{ended_line, fields_hold, format_line}
 -- each of the lines fits behind those before it
 unfoldable pub fit_in_turn : List BootLine → List BootLine → Bool
 fit_in_turn before [] = true
-fit_in_turn before (line ∷ lines) = next_fits before line && fit_in_turn (before ++ line ∷ []) lines
+fit_in_turn before (line ∷ lines) =
+    next_fits before line && fit_in_turn (before ++ line ∷ []) lines
 
 -- behind these lines the rest of the file is bad
 pub record IsBadBehind (lines : List BootLine) (rest : List ℕ) : Type 0 where
@@ -21,7 +22,8 @@ pub record IsBadBehind (lines : List BootLine) (rest : List ℕ) : Type 0 where
   -- and the file isn't whole, if it ends there
   pub no_end : rest ≡ [] → is_whole lines ≡ false
 
--- behind the lines before it the text goes on with lines that fit, and then is bad, at the line of this number
+-- behind the lines before it the text goes on with lines that fit, and then is bad, at the line of
+-- this number
 pub record IsBadAt (before : List BootLine) (text : List ℕ) (number : ℕ) : Type 0 where
   pub lines : List BootLine
   pub rest : List ℕ
@@ -46,7 +48,8 @@ pub record HasBadLine (text : List ℕ) (number : ℕ) : Type 0 where
 abbrev pub IsFirstBad : List ℕ → ℕ → Type 0
 IsFirstBad text number = HasNoFormat text number ⊎ HasBadLine text number
 
--- a reader told this number: that of the first bad line, which stands still at the largest of 32 bits
+-- a reader told this number: that of the first bad line, which stands still at the largest of 32
+-- bits
 pub record TellsFirstBad (text : List ℕ) (told : ℕ) : Type 0 where
   pub number : ℕ
   pub first : IsFirstBad text number

@@ -7,7 +7,8 @@ use Rattle.gh_model.specs.declared.file_err.FileErr.TheVariants as errors
 use Rattle.gh_model.specs.Told.{told_number}
 use Rattle.gh_bootfile.specs.Draft.{next_fits, is_whole}
 use Rattle.gh_bootfile.specs.Grammar.{format_line}
-use Rattle.gh_bootfile.specs.Reading.{pieces_at, line_of}
+use Rattle.gh_bootfile.specs.Reading.{line_of}
+use Rattle.gh_model.specs.Pieces.{pieces_at}
 
 -- the number of the line that comes behind these and the line of the format
 abbrev pub next_number : List BootLine → ℕ
@@ -16,28 +17,33 @@ next_number lines = length lines + 2
 -- the lines with one more, where it reads as a boot line that fits
 unfoldable pub with_line : List BootLine → Option BootLine → Result (List BootLine) ℕ
 with_line lines None = Err (next_number lines)
-with_line lines (Some line) = if next_fits lines line then Ok (lines ++ line ∷ []) else Err (next_number lines)
+with_line lines (Some line) =
+    if next_fits lines line then Ok (lines ++ line ∷ []) else Err (next_number lines)
 
 -- behind the last line feed nothing may stand, and the lines must be enough
 unfoldable pub at_end : List BootLine → List ℕ → Result (List BootLine) ℕ
-at_end lines left = if (length left == 0) && is_whole lines then Ok lines else Err (next_number lines)
+at_end lines left =
+    if (length left == 0) && is_whole lines then Ok lines else Err (next_number lines)
 
+-- what is read goes on, and a bad line stays
 abbrev pub and_then : {A B : Type 0} → Result A ℕ → (A → Result B ℕ) → Result B ℕ
 and_then (Ok value) next = next value
 and_then (Err line) next = Err line
 
--- the pieces between line feeds, read one by one behind the lines so far. The last piece is what stands behind the last
--- line feed
+-- the pieces between line feeds, read one by one behind the lines so far. The last piece is what
+-- stands behind the last line feed
 unfoldable pub lines_on : List BootLine → List (List ℕ) → Result (List BootLine) ℕ
 lines_on lines [] = Err (next_number lines)
 lines_on lines (left ∷ []) = at_end lines left
-lines_on lines (text ∷ next ∷ texts) = and_then (with_line lines (line_of text)) (λ more. lines_on more (next ∷ texts))
+lines_on lines (text ∷ next ∷ texts) =
+    and_then (with_line lines (line_of text)) (λ more. lines_on more (next ∷ texts))
 
 -- the first line is that of the format, and has its line feed
 unfoldable pub file_of : List (List ℕ) → Result (List BootLine) ℕ
 file_of [] = Err 1
 file_of (left ∷ []) = Err 1
-file_of (text ∷ next ∷ texts) = if bytes_eq text format_line then lines_on [] (next ∷ texts) else Err 1
+file_of (text ∷ next ∷ texts) =
+    if bytes_eq text format_line then lines_on [] (next ∷ texts) else Err 1
 
 -- the lines of a boot file behind the first, or the number of its first bad line, from 1
 unfoldable pub boot_of : List ℕ → Result (List BootLine) ℕ

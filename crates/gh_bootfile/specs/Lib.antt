@@ -3,5 +3,3 @@ pub mod BootFile
 pub mod Draft
 pub mod Grammar
 pub mod Reading
-pub mod Tables
-pub mod TablesLines

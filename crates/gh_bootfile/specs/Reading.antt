@@ -1,52 +1,24 @@
--- What a line of a boot file reads as: its first word says which line it is, and the words behind are numbers.
-use Rattle.std.specs.Prelude.{◌==◌, ◌&&◌, ◌++◌, ◌^◌, ℕ, Bool, true, not, List, [], ◌∷◌, length, slice_index, codes, nat_lt, nat_le, Option, Some, None, find, if◌then◌else◌}
-use Rattle.std.specs.List.{list_all, slice_split}
+-- What a line of a boot file reads as: its first word says which line it is, and the words behind
+-- are numbers.
+use Rattle.std.specs.Prelude.{◌==◌, ◌++◌, ◌^◌, ℕ, Bool, List, [], ◌∷◌, length, slice_index, nat_lt, Option, Some, None, find, if◌then◌else◌}
 use Rattle.std.specs.Option.{option_and_then}
 use Rattle.std.specs.Str.{bytes_eq}
-use Rattle.std.specs.Str.Parse.{digits_value}
 use Rattle.gh_base.specs.declared.ids.Serial.{Serial}
 use Rattle.gh_bootfile.specs.declared.keyword.Keyword.{Keyword}
 use Rattle.gh_bootfile.specs.declared.keyword.Keyword.TheVariants as word
-use Rattle.gh_bootfile.specs.Grammar.{fields_hold}
+use Rattle.gh_bootfile.specs.Grammar.{keyword_text, parts_hold, parts_of}
+use Rattle.gh_model.specs.Numeral.{number_of as numeral_of}
+use Rattle.gh_model.specs.Pieces.{pieces_at}
 use Rattle.gh_model.specs.declared.boot_line.BootLine.{BootLine}
 use Rattle.gh_model.specs.declared.boot_line.BootLine.TheVariants as boot
 
--- the words of a line, which single spaces part
-
-abbrev pub is_byte_of : ℕ → ℕ → Bool
-is_byte_of wanted byte = byte == wanted
-
--- the pieces of a text between the bytes of this number
-abbrev pub pieces_at : ℕ → List ℕ → List (List ℕ)
-pieces_at byte text = slice_split (is_byte_of byte) text
-
--- the pieces of what is left of a text, if anything is
-abbrev pub pieces_left : ℕ → Option (List ℕ) → List (List ℕ)
-pieces_left byte None = []
-pieces_left byte (Some text) = pieces_at byte text
-
--- the keyword
-
-abbrev pub keyword_text : Keyword → List ℕ
-keyword_text word.Pages = codes "pages"
-keyword_text word.Partition = codes "partition"
-keyword_text word.Cspace = codes "cspace"
-keyword_text word.Addrspace = codes "addrspace"
-keyword_text word.Doorbell = codes "doorbell"
-keyword_text word.RootExtent = codes "rootextent"
-keyword_text word.Extent = codes "extent"
-keyword_text word.Msgqueue = codes "msgqueue"
-keyword_text word.Map = codes "map"
-keyword_text word.Cap = codes "cap"
-keyword_text word.Vm = codes "vm"
-keyword_text word.Rm = codes "rm"
-keyword_text word.Link = codes "link"
-
+-- all keywords
 abbrev pub keywords : List Keyword
 keywords =
-    word.Pages ∷ word.Partition ∷ word.Cspace ∷ word.Addrspace ∷ word.Doorbell ∷ word.RootExtent ∷ word.Extent
-    ∷ word.Msgqueue ∷ word.Map ∷ word.Cap ∷ word.Vm ∷ word.Rm ∷ word.Link ∷ []
+    word.Pages ∷ word.Partition ∷ word.Cspace ∷ word.Addrspace ∷ word.Doorbell ∷ word.RootExtent
+    ∷ word.Extent ∷ word.Msgqueue ∷ word.Map ∷ word.Cap ∷ word.Vm ∷ word.Rm ∷ word.Link ∷ []
 
+-- the keyword has this text
 abbrev pub has_text : List ℕ → Keyword → Bool
 has_text text keyword = bytes_eq (keyword_text keyword) text
 
@@ -54,42 +26,20 @@ has_text text keyword = bytes_eq (keyword_text keyword) text
 abbrev pub keyword_of : List ℕ → Option Keyword
 keyword_of text = find (has_text text) keywords
 
--- how many numbers stand behind a keyword
-abbrev pub number_count : Keyword → ℕ
-number_count word.Pages = 1
-number_count word.Partition = 1
-number_count word.Cspace = 1
-number_count word.Addrspace = 1
-number_count word.Doorbell = 1
-number_count word.RootExtent = 1
-number_count word.Extent = 7
-number_count word.Msgqueue = 3
-number_count word.Map = 6
-number_count word.Cap = 5
-number_count word.Vm = 2
-number_count word.Rm = 3
-number_count word.Link = 4
-
--- the numbers
-
-abbrev pub is_digit : ℕ → Bool
-is_digit byte = nat_le 48 byte && nat_le byte 57
+-- the number, where it has at most 32 bits
+abbrev pub with_bits : Option ℕ → Option ℕ
+with_bits None = None
+with_bits (Some number) = if nat_lt number (2 ^ 32) then Some number else None
 
 -- a number in decimal: 1 to 10 digits, of which the first of several isn't 0
-abbrev pub is_decimal : List ℕ → Bool
-is_decimal text =
-    nat_le 1 (length text) && nat_le (length text) 10 && list_all is_digit text
-    && not (nat_le 2 (length text) && (slice_index text 0 == 48))
-
--- the number, where it has at most 32 bits
 abbrev pub number_of : List ℕ → Option ℕ
-number_of text =
-    if is_decimal text && nat_lt (digits_value 10 text) (2 ^ 32) then Some (digits_value 10 text) else None
+number_of text = with_bits (numeral_of 10 10 text)
 
 -- one number more behind those so far; no line has more than seven
 abbrev pub with_number : List ℕ → Option ℕ → Option (List ℕ)
 with_number numbers None = None
-with_number numbers (Some number) = if length numbers == 7 then None else Some (numbers ++ number ∷ [])
+with_number numbers (Some number) =
+    if length numbers == 7 then None else Some (numbers ++ number ∷ [])
 
 -- the numbers of words, behind those so far
 abbrev pub numbers_on : List ℕ → List (List ℕ) → Option (List ℕ)
@@ -97,12 +47,11 @@ numbers_on numbers [] = Some numbers
 numbers_on numbers (text ∷ texts) =
     option_and_then (λ more. numbers_on more texts) (with_number numbers (number_of text))
 
--- the line
-
+-- the serial that is the number at a place
 abbrev pub serial_at : List ℕ → ℕ → Serial
 serial_at numbers at = record { 0 = slice_index numbers at }
 
--- the line of a keyword and as many numbers as it wants
+-- the line of a keyword and its numbers
 abbrev pub line_made : Keyword → List ℕ → BootLine
 line_made word.Pages ns = boot.Pages (slice_index ns 0)
 line_made word.Partition ns = boot.Partition (slice_index ns 0)
@@ -111,36 +60,31 @@ line_made word.Addrspace ns = boot.Addrspace (serial_at ns 0)
 line_made word.Doorbell ns = boot.Doorbell (serial_at ns 0)
 line_made word.RootExtent ns = boot.RootExtent (serial_at ns 0)
 line_made word.Extent ns =
-    boot.Extent (serial_at ns 0) (serial_at ns 1) (slice_index ns 2) (slice_index ns 3) (record { 0 = slice_index ns 4 })
-    (slice_index ns 5) (slice_index ns 6)
+    boot.Extent (serial_at ns 0) (serial_at ns 1) (slice_index ns 2) (slice_index ns 3)
+    (record { 0 = slice_index ns 4 }) (slice_index ns 5) (slice_index ns 6)
 line_made word.Msgqueue ns = boot.Msgqueue (serial_at ns 0) (slice_index ns 1) (slice_index ns 2)
 line_made word.Map ns =
-    boot.Map (serial_at ns 0) (serial_at ns 1) (slice_index ns 2) (slice_index ns 3) (slice_index ns 4)
-    (record { 0 = slice_index ns 5 })
+    boot.Map (serial_at ns 0) (serial_at ns 1) (slice_index ns 2) (slice_index ns 3)
+    (slice_index ns 4) (record { 0 = slice_index ns 5 })
 line_made word.Cap ns =
-    boot.Cap (serial_at ns 0) (slice_index ns 1) (serial_at ns 2) (record { 0 = slice_index ns 3 }) (slice_index ns 4 == 1)
+    boot.Cap (serial_at ns 0) (slice_index ns 1) (serial_at ns 2) (record { 0 = slice_index ns 3 })
+    (slice_index ns 4 == 1)
 line_made word.Vm ns = boot.Vm (serial_at ns 0) (serial_at ns 1)
 line_made word.Rm ns = boot.Rm (serial_at ns 0) (serial_at ns 1) (serial_at ns 2)
-line_made word.Link ns = boot.Link (record { 0 = slice_index ns 0 }) (serial_at ns 1) (serial_at ns 2) (serial_at ns 3)
-
--- a capability's mark is 0 or 1
-abbrev pub mark_holds : Keyword → List ℕ → Bool
-mark_holds word.Cap ns = nat_le (slice_index ns 4) 1
-mark_holds keyword ns = true
+line_made word.Link ns =
+    boot.Link (record { 0 = slice_index ns 0 }) (serial_at ns 1) (serial_at ns 2) (serial_at ns 3)
 
 -- that line, where each of the numbers is within its field
-abbrev pub line_with : Keyword → List ℕ → Option BootLine
-line_with keyword ns =
-    if mark_holds keyword ns && fields_hold (line_made keyword ns) then Some (line_made keyword ns) else None
-
--- the line of a keyword and numbers
 abbrev pub line_from : Keyword → List ℕ → Option BootLine
-line_from keyword ns = if length ns == number_count keyword then line_with keyword ns else None
+line_from keyword ns =
+    if parts_hold (parts_of keyword ns) then Some (line_made keyword ns) else None
 
+-- the line of a keyword's text and of numbers' texts
 abbrev pub line_of_words : List (List ℕ) → Option BootLine
 line_of_words [] = None
 line_of_words (text ∷ texts) =
-    option_and_then (λ keyword. option_and_then (λ ns. line_from keyword ns) (numbers_on [] texts)) (keyword_of text)
+    option_and_then
+    (λ keyword. option_and_then (λ ns. line_from keyword ns) (numbers_on [] texts)) (keyword_of text)
 
 -- what a line reads as, without its line feed; none where it is no boot line
 unfoldable pub line_of : List ℕ → Option BootLine

@@ -1,99 +1,103 @@
 //! The lines of a boot file as they are read, each of which fits behind those before it.
 
-ghost use Rattle.std.specs.Prelude.{◌≡◌, ◌==◌, ◌<◌, ◌++◌, ◌∷◌, [], true, length, OnOk, OnErr};
-ghost use Rattle.gh_bootfile.specs.Draft.{next_fits, is_whole};
+ghost use Rattle.std.specs.Prelude.{◌≡◌, ◌++◌, ◌∷◌, [], true, slice_get, length, OnOk};
+ghost use Rattle.gh_model.specs.Boot.{after_line, line_fits};
+ghost use Rattle.gh_model.specs.Fitting.{IsFitting};
+ghost use Rattle.gh_bootfile.specs.Draft.{first_fits, next_fits, is_whole, may_make, IsDraft};
 
-use crate::tables::Tables;
-use gh_base::NoMemory;
-use gh_model::{Boot, BootLine};
+use crate::fits::line_fits;
+use crate::mappings::{add_mapping, mapping};
+use gh_base::{MACHINE_PAGES, NoMemory, Sequence};
+use gh_model::{Boot, BootLine, MappingRow, State, add_line, add_pages, empty_state, vm_count};
 use std::alloc::Global;
-use std::marker::Model;
 
-/// The lines so far, with tables by which the next one is tested. No test takes longer for more
-/// lines: it reads the tables at the serials that the line names, and walks at most the 64 mappings
-/// of an address space, nine CPUs, eight links and the pages of the line's extent.
+/// The lines so far and the state that they make. The mappings stand also in a table by the serial
+/// of their address space, which has at most 64, since all of them are many; a test of a next line
+/// walks no more of the state's other rows than a machine can have.
 #[derive(Drop)]
-pub(crate) struct Draft {
-    pub lines: Vec<BootLine>,
-    pub tables: Tables,
+pub struct Draft {
+    pub lines: Sequence<BootLine>,
+    pub state: State,
+    pub mappings: Sequence<Sequence<MappingRow>>,
 }
 
-impl Model for Draft {
-    ghost use Rattle.std.specs.Prelude.{List};
-    ghost use Rattle.gh_model.specs.declared.boot_line.BootLine.{BootLine};
+/// Whether it is a line of 1 to 1,024 pages.
+fn first_fits(line: &BootLine) -> bool
+    ensures { result ≡ first_fits line.now }
+{
+    match *line {
+        BootLine::Pages { count } => 1 <= count && count <= MACHINE_PAGES,
+        _ => false,
+    }
+}
 
-    ghost Value = { List BootLine };
-
-    ghost use Rattle.gh_bootfile.specs.Draft.{IsDraft};
-
-    ghost view = { λ draft. draft.lines.items };
-
-    ghost invariant = { λ draft. IsDraft draft.lines.items draft.tables };
+/// Makes what the line makes.
+fn make(alloc: Global, state: &mut State, line: BootLine) -> Result<(), NoMemory>
+    requires may { may_make state.old line ≡ true }
+    requires fitting { IsFitting state.old }
+    ensures { OnOk result (state.new ≡ after_line state.old line) }
+{
+    match line {
+        BootLine::Pages { count } => add_pages(alloc, state, count),
+        _ => add_line(alloc, state, line),
+    }
 }
 
 impl Draft {
     /// No line yet.
-    pub fn new(alloc: Global) -> Draft
-        ensures { result ≡ [] }
+    pub(crate) fn new(alloc: Global) -> Draft
+        ensures draft { IsDraft result }
+        ensures none { result.lines ≡ [] }
     {
         Draft {
-            lines: Vec::new(alloc),
-            tables: Tables::new(alloc),
+            lines: Sequence::new(alloc),
+            state: empty_state(alloc),
+            mappings: Sequence::new(alloc),
         }
     }
 
-    pub fn is_empty(&self) -> bool
-        ensures { result ≡ (length self.now == 0) }
+    /// Whether the line may be added.
+    pub(crate) fn may_add(&self, line: &BootLine) -> bool
+        requires { IsDraft self.now }
+        ensures { result ≡ next_fits self.now.lines line.now }
     {
-        self.lines.is_empty()
-    }
-
-    /// Adds a line that may be added. Without memory the draft stays as it was.
-    pub fn add(&mut self, alloc: Global, line: BootLine) -> Result<(), NoMemory>
-        requires { next_fits self.old line ≡ true }
-        ensures ok { OnOk result (self.new ≡ self.old ++ line ∷ []) }
-        ensures no_memory { OnErr result (self.new ≡ self.old) }
-    {
-        match line {
-            BootLine::Pages { count } => self.add_pages(alloc, count),
-            _ => self.add_line(line),
+        if self.lines.is_empty() {
+            first_fits(line)
+        } else {
+            line_fits(self, line)
         }
     }
 
-    /// Adds the line of pages.
-    fn add_pages(&mut self, alloc: Global, count: u16) -> Result<(), NoMemory>
-        requires { next_fits self.old (BootLine.Pages count) ≡ true }
-        ensures ok { OnOk result (self.new ≡ self.old ++ BootLine.Pages count ∷ []) }
-        ensures no_memory { OnErr result (self.new ≡ self.old) }
+    /// Adds a line that may be added.
+    #[tactic(auto, using(crate::proofs::DraftLemmas::made_first, crate::proofs::DraftLemmas::draft_more))]
+    pub(crate) fn add(&mut self, alloc: Global, line: BootLine) -> Result<(), NoMemory>
+        requires draft { IsDraft self.old }
+        requires fits { next_fits self.old.lines line ≡ true }
+        ensures draft { OnOk result (IsDraft self.new) }
+        ensures lines { OnOk result (self.new.lines ≡ self.old.lines ++ line ∷ []) }
     {
-        let tables = Tables::of_pages(alloc, count)?;
-        self.lines.push(BootLine::Pages { count })?;
-        self.tables = tables;
+        let known = self.state.mappings.len();
+        self.lines.push(line)?;
+        make(alloc, &mut self.state, line)?;
+        let made = mapping(self.state.mappings.as_slice(), known);
+        add_mapping(alloc, &mut self.mappings, made)?;
         Ok(())
     }
 
-    /// Adds a line behind the line of pages.
-    fn add_line(&mut self, line: BootLine) -> Result<(), NoMemory>
-        requires some { 0 < length self.old }
-        requires fits { next_fits self.old line ≡ true }
-        ensures ok { OnOk result (self.new ≡ self.old ++ line ∷ []) }
-        ensures no_memory { OnErr result (self.new ≡ self.old) }
+    /// Whether the lines are all that a boot file needs.
+    pub(crate) fn is_complete(&self) -> bool
+        requires { IsDraft self.now }
+        ensures { result ≡ is_whole self.now.lines }
     {
-        self.lines.push(line)?;
-        match self.tables.add(line) {
-            Ok(()) => Ok(()),
-            Err(error) => {
-                self.lines.pop();
-                Err(error)
-            }
-        }
+        !self.state.extents.is_empty() && vm_count(self.state.cpus.as_slice()) > 0
     }
 
     /// The boot file, once it is complete.
-    pub fn into_boot(self) -> Boot
-        requires { is_whole self ≡ true }
-        ensures { result ≡ self }
+    pub(crate) fn into_boot(self) -> Boot
+        requires draft { IsDraft self }
+        requires whole { is_whole self.lines ≡ true }
+        ensures { result ≡ self.lines }
     {
-        Boot::new(self.lines)
+        Boot::new(self.lines.into_vec())
     }
 }

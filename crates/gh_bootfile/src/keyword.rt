@@ -1,7 +1,8 @@
 //! The word that a line of a boot file begins with.
 
-ghost use Rattle.std.specs.Prelude.{◌≡◌, ◌≤◌};
-ghost use Rattle.gh_bootfile.specs.Reading.{keyword_text, keyword_of, keywords, number_count};
+ghost use Rattle.std.specs.Prelude.{◌≡◌, length};
+ghost use Rattle.gh_bootfile.specs.Grammar.{bounds, keyword_text};
+ghost use Rattle.gh_bootfile.specs.Reading.{keyword_of};
 
 /// Which line of a boot file it is.
 #[derive(Clone, Copy, Debug, PartialEq, Eq)]
@@ -38,29 +39,29 @@ const KEYWORDS: [Keyword; 13] = [
 ];
 
 impl Keyword {
-    fn text(self) -> &'static [u8]
+    pub(crate) fn text(self) -> &'static str
         ensures { result.now ≡ keyword_text self }
     {
         match self {
-            Keyword::Pages => b"pages",
-            Keyword::Partition => b"partition",
-            Keyword::Cspace => b"cspace",
-            Keyword::Addrspace => b"addrspace",
-            Keyword::Doorbell => b"doorbell",
-            Keyword::RootExtent => b"rootextent",
-            Keyword::Extent => b"extent",
-            Keyword::Msgqueue => b"msgqueue",
-            Keyword::Map => b"map",
-            Keyword::Cap => b"cap",
-            Keyword::Vm => b"vm",
-            Keyword::Rm => b"rm",
-            Keyword::Link => b"link",
+            Keyword::Pages => "pages",
+            Keyword::Partition => "partition",
+            Keyword::Cspace => "cspace",
+            Keyword::Addrspace => "addrspace",
+            Keyword::Doorbell => "doorbell",
+            Keyword::RootExtent => "rootextent",
+            Keyword::Extent => "extent",
+            Keyword::Msgqueue => "msgqueue",
+            Keyword::Map => "map",
+            Keyword::Cap => "cap",
+            Keyword::Vm => "vm",
+            Keyword::Rm => "rm",
+            Keyword::Link => "link",
         }
     }
 
     /// How many numbers stand behind it.
     pub(crate) fn number_count(self) -> usize
-        ensures { result ≡ number_count self }
+        ensures { result ≡ length (bounds self) }
     {
         match self {
             Keyword::Pages
@@ -86,5 +87,5 @@ pub(crate) fn read_keyword(text: &[u8]) -> Option<Keyword>
     KEYWORDS
         .iter()
         .copied()
-        .find(|keyword| keyword.text() == text)
+        .find(|keyword| keyword.text().as_bytes() == text)
 }

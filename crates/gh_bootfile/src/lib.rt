@@ -2,22 +2,16 @@
 #![tactic(auto)]
 
 mod draft;
-mod draft_cpus;
-mod draft_extents;
-mod draft_fits;
-mod draft_objects;
-mod draft_reads;
+mod fits;
+mod fits_cpus;
+mod fits_memory;
 mod keyword;
 mod laws;
 mod line;
+mod mappings;
 mod number;
-mod pieces;
+mod parts;
 mod read;
-mod tables;
-mod tables_cpus;
-mod tables_extents;
-mod tables_line;
-mod tables_objects;
 mod write;
 
 pub use gh_model::FileErr;
@@ -28,7 +22,5 @@ pub use laws::{
 pub use read::read_boot;
 pub use write::write_boot;
 
-#[cfg(test)]
-mod draft_tests;
 #[cfg(test)]
 mod tests;

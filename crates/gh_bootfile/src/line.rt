@@ -1,17 +1,16 @@
 //! A line of a boot file, read from its text.
 
-ghost use Rattle.std.specs.Prelude.{◌≡◌, length, if◌then◌else◌, Some, None};
-ghost use Rattle.gh_bootfile.specs.Grammar.{is_small, is_byte};
-ghost use Rattle.gh_bootfile.specs.Reading.{number_count, line_with, line_from, line_of};
+ghost use Rattle.std.specs.Prelude.{◌≡◌, ◌==◌, length, nat_lt, if◌then◌else◌, Some, None};
+ghost use Rattle.gh_bootfile.specs.Grammar.{bounds, byte_bound, mark_bound, small_bound};
+ghost use Rattle.gh_bootfile.specs.Reading.{line_from, line_of};
 
 use crate::keyword::{Keyword, read_keyword};
 use crate::number::numbers;
-use crate::pieces::split_first;
 use gh_base::{Access, Rights, Serial, VmId};
-use gh_model::BootLine;
+use gh_model::{BootLine, split_first};
 
 fn small(number: u32) -> Option<u16>
-    ensures { result ≡ (if is_small number then Some number else None) }
+    ensures { result ≡ (if nat_lt number small_bound then Some number else None) }
 {
     if number <= u16::MAX as u32 {
         Some(number as u16)
@@ -21,7 +20,7 @@ fn small(number: u32) -> Option<u16>
 }
 
 fn byte(number: u32) -> Option<u8>
-    ensures { result ≡ (if is_byte number then Some number else None) }
+    ensures { result ≡ (if nat_lt number byte_bound then Some number else None) }
 {
     if number <= u8::MAX as u32 {
         Some(number as u8)
@@ -30,138 +29,120 @@ fn byte(number: u32) -> Option<u8>
     }
 }
 
-fn pages(numbers: &[u32]) -> Option<BootLine>
-    requires { length numbers.now ≡ 1 }
-    ensures { result ≡ line_with Keyword.Pages numbers.now }
+fn mark(number: u32) -> Option<bool>
+    ensures { result ≡ (if nat_lt number mark_bound then Some (number == 1) else None) }
 {
-    let count = small(numbers[0])?;
+    if number <= 1 { Some(number == 1) } else { None }
+}
+
+fn extent(n: &[u32]) -> Option<BootLine>
+    requires { length n.now ≡ 7 }
+    ensures { result ≡ line_from Keyword.Extent n.now }
+{
+    Some(BootLine::Extent {
+        partition: Serial(n[0]),
+        parent: Serial(n[1]),
+        offset: small(n[2])?,
+        count: small(n[3])?,
+        access: Access(byte(n[4])?),
+        held_offset: small(n[5])?,
+        held_count: small(n[6])?,
+    })
+}
+
+fn map(n: &[u32]) -> Option<BootLine>
+    requires { length n.now ≡ 6 }
+    ensures { result ≡ line_from Keyword.Map n.now }
+{
+    Some(BootLine::Map {
+        space: Serial(n[0]),
+        extent: Serial(n[1]),
+        base: small(n[2])?,
+        offset: small(n[3])?,
+        count: small(n[4])?,
+        access: Access(byte(n[5])?),
+    })
+}
+
+fn cap(n: &[u32]) -> Option<BootLine>
+    requires { length n.now ≡ 5 }
+    ensures { result ≡ line_from Keyword.Cap n.now }
+{
+    Some(BootLine::Cap {
+        cspace: Serial(n[0]),
+        slot: byte(n[1])?,
+        object: Serial(n[2]),
+        rights: Rights(small(n[3])?),
+        master: mark(n[4])?,
+    })
+}
+
+fn link(n: &[u32]) -> Option<BootLine>
+    requires { length n.now ≡ 4 }
+    ensures { result ≡ line_from Keyword.Link n.now }
+{
+    Some(BootLine::Link {
+        vm: VmId(byte(n[0])?),
+        extent: Serial(n[1]),
+        request: Serial(n[2]),
+        reply: Serial(n[3]),
+    })
+}
+
+fn queue(n: &[u32]) -> Option<BootLine>
+    requires { length n.now ≡ 3 }
+    ensures { result ≡ line_from Keyword.Msgqueue n.now }
+{
+    Some(BootLine::Msgqueue {
+        partition: Serial(n[0]),
+        depth: small(n[1])?,
+        size: small(n[2])?,
+    })
+}
+
+fn pages(n: &[u32]) -> Option<BootLine>
+    requires { length n.now ≡ 1 }
+    ensures { result ≡ line_from Keyword.Pages n.now }
+{
+    let count = small(n[0])?;
     Some(BootLine::Pages { count })
 }
 
-fn partition(numbers: &[u32]) -> Option<BootLine>
-    requires { length numbers.now ≡ 1 }
-    ensures { result ≡ line_with Keyword.Partition numbers.now }
+fn partition(n: &[u32]) -> Option<BootLine>
+    requires { length n.now ≡ 1 }
+    ensures { result ≡ line_from Keyword.Partition n.now }
 {
-    let quota = small(numbers[0])?;
+    let quota = small(n[0])?;
     Some(BootLine::Partition { quota })
 }
 
-fn extent(numbers: &[u32]) -> Option<BootLine>
-    requires { length numbers.now ≡ 7 }
-    ensures { result ≡ line_with Keyword.Extent numbers.now }
-{
-    let offset = small(numbers[2])?;
-    let count = small(numbers[3])?;
-    let access = Access(byte(numbers[4])?);
-    let held_offset = small(numbers[5])?;
-    let held_count = small(numbers[6])?;
-    Some(BootLine::Extent {
-        partition: Serial(numbers[0]),
-        parent: Serial(numbers[1]),
-        offset,
-        count,
-        access,
-        held_offset,
-        held_count,
-    })
-}
-
-fn msgqueue(numbers: &[u32]) -> Option<BootLine>
-    requires { length numbers.now ≡ 3 }
-    ensures { result ≡ line_with Keyword.Msgqueue numbers.now }
-{
-    let depth = small(numbers[1])?;
-    let size = small(numbers[2])?;
-    Some(BootLine::Msgqueue {
-        partition: Serial(numbers[0]),
-        depth,
-        size,
-    })
-}
-
-fn map(numbers: &[u32]) -> Option<BootLine>
-    requires { length numbers.now ≡ 6 }
-    ensures { result ≡ line_with Keyword.Map numbers.now }
-{
-    let base = small(numbers[2])?;
-    let offset = small(numbers[3])?;
-    let count = small(numbers[4])?;
-    let access = Access(byte(numbers[5])?);
-    Some(BootLine::Map {
-        space: Serial(numbers[0]),
-        extent: Serial(numbers[1]),
-        base,
-        offset,
-        count,
-        access,
-    })
-}
-
-fn cap(numbers: &[u32]) -> Option<BootLine>
-    requires { length numbers.now ≡ 5 }
-    ensures { result ≡ line_with Keyword.Cap numbers.now }
-{
-    if numbers[4] > 1 {
-        return None;
-    }
-    let slot = byte(numbers[1])?;
-    let rights = Rights(small(numbers[3])?);
-    Some(BootLine::Cap {
-        cspace: Serial(numbers[0]),
-        slot,
-        object: Serial(numbers[2]),
-        rights,
-        master: numbers[4] == 1,
-    })
-}
-
-fn link(numbers: &[u32]) -> Option<BootLine>
-    requires { length numbers.now ≡ 4 }
-    ensures { result ≡ line_with Keyword.Link numbers.now }
-{
-    let vm = VmId(byte(numbers[0])?);
-    Some(BootLine::Link {
-        vm,
-        extent: Serial(numbers[1]),
-        request: Serial(numbers[2]),
-        reply: Serial(numbers[3]),
-    })
-}
-
 /// The line of a keyword and as many numbers as it wants.
-fn line_with(keyword: Keyword, numbers: &[u32]) -> Option<BootLine>
-    requires { length numbers.now ≡ number_count keyword }
-    ensures { result ≡ line_with keyword numbers.now }
+fn line_with(keyword: Keyword, n: &[u32]) -> Option<BootLine>
+    requires { length n.now ≡ length (bounds keyword) }
+    ensures { result ≡ line_from keyword n.now }
 {
+    let first = Serial(n[0]);
     match keyword {
-        Keyword::Pages => pages(numbers),
-        Keyword::Partition => partition(numbers),
-        Keyword::Cspace => Some(BootLine::Cspace {
-            partition: Serial(numbers[0]),
-        }),
-        Keyword::Addrspace => Some(BootLine::Addrspace {
-            partition: Serial(numbers[0]),
-        }),
-        Keyword::Doorbell => Some(BootLine::Doorbell {
-            partition: Serial(numbers[0]),
-        }),
-        Keyword::RootExtent => Some(BootLine::RootExtent {
-            partition: Serial(numbers[0]),
-        }),
-        Keyword::Extent => extent(numbers),
-        Keyword::Msgqueue => msgqueue(numbers),
-        Keyword::Map => map(numbers),
-        Keyword::Cap => cap(numbers),
+        Keyword::Pages => pages(n),
+        Keyword::Partition => partition(n),
+        Keyword::Cspace => Some(BootLine::Cspace { partition: first }),
+        Keyword::Addrspace => Some(BootLine::Addrspace { partition: first }),
+        Keyword::Doorbell => Some(BootLine::Doorbell { partition: first }),
+        Keyword::RootExtent => Some(BootLine::RootExtent { partition: first }),
+        Keyword::Extent => extent(n),
+        Keyword::Msgqueue => queue(n),
+        Keyword::Map => map(n),
+        Keyword::Cap => cap(n),
         Keyword::Vm => Some(BootLine::Vm {
-            cspace: Serial(numbers[0]),
-            space: Serial(numbers[1]),
+            cspace: first,
+            space: Serial(n[1]),
         }),
         Keyword::Rm => Some(BootLine::Rm {
-            cspace: Serial(numbers[0]),
-            space: Serial(numbers[1]),
-            partition: Serial(numbers[2]),
+            cspace: first,
+            space: Serial(n[1]),
+            partition: Serial(n[2]),
         }),
-        Keyword::Link => link(numbers),
+        Keyword::Link => link(n),
     }
 }
 

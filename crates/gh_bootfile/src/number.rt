@@ -1,72 +1,25 @@
 //! The numbers of a line.
 
-ghost use Rattle.std.specs.Prelude.{◌≡◌, ◌≤◌, ◌<◌, ◌^◌, [], true, length, Some, None, if◌then◌else◌};
-ghost use Rattle.std.specs.Char.{digit_value};
-ghost use Rattle.std.specs.List.{list_all};
+ghost use Rattle.std.specs.Prelude.{◌≡◌, [], Some, None, if◌then◌else◌};
 ghost use Rattle.std.specs.Option.{option_map};
-ghost use Rattle.std.specs.Str.Parse.{digits_value};
-ghost use Rattle.gh_bootfile.specs.Reading.{is_digit, is_decimal, number_of, numbers_on, with_number, pieces_left};
+ghost use Rattle.gh_model.specs.Pieces.{pieces_left};
+ghost use Rattle.gh_bootfile.specs.Reading.{number_of, numbers_on, with_number};
 
-use crate::pieces::split_first;
 use gh_base::BoundedSequence;
+use gh_model::{number as decimal, split_first};
 
 /// No line has more numbers.
 const NUMBERS: usize = 7;
 
 pub(crate) type Numbers = BoundedSequence<u32, NUMBERS>;
 
-fn is_digit(byte: u8) -> bool
-    ensures { result ≡ is_digit byte }
-{
-    b'0' <= byte && byte <= b'9'
-}
-
-fn all_digits(text: &[u8]) -> bool
-    ensures { result ≡ list_all is_digit text.now }
-{
-    text.iter().all(|byte| is_digit(*byte))
-}
-
-/// Whether the text is a number in decimal, of at most 10 digits.
-fn is_decimal(text: &[u8]) -> bool
-    ensures { result ≡ is_decimal text.now }
-{
-    1 <= text.len() && text.len() <= 10 && all_digits(text) && !(2 <= text.len() && text[0] == b'0')
-}
-
-fn digit(byte: u8) -> u8
-    requires { is_digit byte ≡ true }
-    ensures value { result ≡ digit_value byte }
-    ensures range { result < 10 }
-{
-    byte - b'0'
-}
-
-#[tactic(auto, using(crate::proofs::NumberLemmas::below_with_decimal))]
-fn value(digits: &[u8]) -> u64
-    requires count { length digits.now ≤ 10 }
-    requires digits { list_all is_digit digits.now ≡ true }
-    ensures { result ≡ digits_value 10 digits.now }
-{
-    let mut value = 0;
-    for byte in digits {
-        value = value * 10 + digit(*byte) as u64;
-    }
-    value
-}
-
 /// The number that a text is; none where it has over 32 bits.
 fn number(text: &[u8]) -> Option<u32>
     ensures { result ≡ number_of text.now }
 {
-    if !is_decimal(text) {
-        return None;
-    }
-    let value = value(text);
-    if value <= u32::MAX as u64 {
-        Some(value as u32)
-    } else {
-        None
+    match decimal(text, 10, 10) {
+        Some(value) if value <= u32::MAX as u64 => Some(value as u32),
+        _ => None,
     }
 }
 

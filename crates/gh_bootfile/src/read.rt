@@ -1,17 +1,18 @@
 //! A whole boot file, read line by line.
 
-ghost use Rattle.std.specs.Prelude.{◌≡◌, ◌+◌, ◌<◌, ◌^◌, ℕ, [], length, Ok, Err, IfOk};
+ghost use Rattle.std.specs.Prelude.{◌≡◌, ◌+◌, ◌<◌, ◌^◌, ℕ, [], length, Ok, Err, IfOk, OnOk};
 ghost use Rattle.std.specs.Str.{bytes_eq};
 ghost use Rattle.gh_bootfile.specs.BadLine.{TellsFirstBad};
 ghost use Rattle.gh_bootfile.specs.BootFile.{Answers, at_end, boot_of, lines_on, told, with_line};
+ghost use Rattle.gh_bootfile.specs.Draft.{IsDraft};
 ghost use Rattle.gh_bootfile.specs.Grammar.{boot_text, format_line};
-ghost use Rattle.gh_bootfile.specs.Reading.{line_of, pieces_at};
+ghost use Rattle.gh_bootfile.specs.Reading.{line_of};
+ghost use Rattle.gh_model.specs.Pieces.{pieces_at};
 ghost use Rattle.gh_model.specs.Told.{told_number};
 
 use crate::draft::Draft;
 use crate::line::read_line;
-use crate::pieces::split_first;
-use gh_model::{Boot, FileErr};
+use gh_model::{Boot, FileErr, split_first};
 use std::alloc::Global;
 
 const FORMAT: &[u8] = b"gunyah 1";
@@ -29,8 +30,11 @@ fn bad_line(lines: usize) -> FileErr
 #[tactic(auto, unfolding(crate::specs::BootFile::with_line))]
 fn add_line(alloc: Global, draft: &mut Draft, lines: usize, text: &[u8]) -> Result<(), FileErr>
     requires few { lines < 2 ^ 63 }
-    requires count { lines ≡ length draft.old }
-    ensures { Answers (λ _. draft.new) result (with_line draft.old (line_of text.now)) }
+    requires draft { IsDraft draft.old }
+    requires count { lines ≡ length draft.old.lines }
+    ensures lines { Answers (λ _. draft.new.lines) result
+        (with_line draft.old.lines (line_of text.now)) }
+    ensures draft { OnOk result (IsDraft draft.new) }
 {
     match read_line(text) {
         Some(line) if draft.may_add(&line) => {
@@ -45,8 +49,9 @@ fn add_line(alloc: Global, draft: &mut Draft, lines: usize, text: &[u8]) -> Resu
 #[tactic(auto, unfolding(crate::specs::BootFile::at_end))]
 fn end(draft: Draft, lines: usize, left: &[u8]) -> Result<Boot, FileErr>
     requires few { lines < 2 ^ 63 }
-    requires count { lines ≡ length draft }
-    ensures { Answers (λ boot. boot) result (at_end draft left.now) }
+    requires draft { IsDraft draft }
+    requires count { lines ≡ length draft.lines }
+    ensures { Answers (λ boot. boot) result (at_end draft.lines left.now) }
 {
     if left.is_empty() && draft.is_complete() {
         Ok(draft.into_boot())

@@ -3,9 +3,10 @@
 ghost use Rattle.std.specs.Prelude.{◌≡◌, ◌++◌, ◌+◌, ℕ, List, Ok, OnOk, IfOk, string_bytes, codes, true};
 ghost use Rattle.std.specs.List.{flat_map, list_all};
 ghost use Rattle.gh_bootfile.specs.BootFile.{boot_of};
-ghost use Rattle.gh_bootfile.specs.Grammar.{boot_text, ended_line, fields_hold, is_byte, is_serial, is_small, line_text, mark_number, spaced, spelled};
+ghost use Rattle.gh_bootfile.specs.Grammar.{boot_text, ended_line, fields_hold, line_text, parts_text, spaced};
 
-use gh_base::{Access, NoMemory, Rights, Serial, VmId};
+use crate::parts::{Parts, line_parts};
+use gh_base::NoMemory;
 use gh_model::{Boot, BootLine};
 use std::alloc::Global;
 
@@ -26,153 +27,19 @@ fn put_numbers(out: &mut String, numbers: &[u32]) -> Result<(), NoMemory>
     Ok(())
 }
 
-/// A word, and behind it numbers.
-fn put(out: &mut String, word: &str, numbers: &[u32]) -> Result<(), NoMemory>
-    ensures { OnOk result (string_bytes out.new
-        ≡ string_bytes out.old ++ spelled word.now numbers.now) }
+/// A keyword, and behind it numbers.
+fn put_parts(out: &mut String, parts: &Parts) -> Result<(), NoMemory>
+    ensures { OnOk result (string_bytes out.new ≡ string_bytes out.old ++ parts_text parts.now) }
 {
-    out.push_str(word)?;
-    put_numbers(out, numbers)
-}
-
-fn serial(serial: Serial) -> u32
-    ensures number { result ≡ serial.0 }
-    ensures holds { is_serial serial.0 ≡ true }
-{
-    serial.0
-}
-
-fn access_number(access: Access) -> u32
-    ensures number { result ≡ access.0 }
-    ensures holds { is_byte access.0 ≡ true }
-{
-    access.0 as u32
-}
-
-fn rights_number(rights: Rights) -> u32
-    ensures number { result ≡ rights.0 }
-    ensures holds { is_small rights.0 ≡ true }
-{
-    rights.0 as u32
-}
-
-fn vm_number(vm: VmId) -> u32
-    ensures number { result ≡ vm.0 }
-    ensures holds { is_byte vm.0 ≡ true }
-{
-    vm.0 as u32
+    out.push_str(parts.keyword.text())?;
+    put_numbers(out, parts.numbers.as_slice())
 }
 
 fn put_line(out: &mut String, line: &BootLine) -> Result<(), NoMemory>
     ensures text { OnOk result (string_bytes out.new ≡ string_bytes out.old ++ line_text line.now) }
     ensures fields { fields_hold line.now ≡ true }
 {
-    match *line {
-        BootLine::Pages { count } => put(out, "pages", &[count as u32]),
-        BootLine::Partition { quota } => put(out, "partition", &[quota as u32]),
-        BootLine::Cspace { partition } => put(out, "cspace", &[serial(partition)]),
-        BootLine::Addrspace { partition } => put(out, "addrspace", &[serial(partition)]),
-        BootLine::Doorbell { partition } => put(out, "doorbell", &[serial(partition)]),
-        BootLine::RootExtent { partition } => put(out, "rootextent", &[serial(partition)]),
-        BootLine::Extent {
-            partition,
-            parent,
-            offset,
-            count,
-            access,
-            held_offset,
-            held_count,
-        } => put(
-            out,
-            "extent",
-            &[
-                serial(partition),
-                serial(parent),
-                offset as u32,
-                count as u32,
-                access_number(access),
-                held_offset as u32,
-                held_count as u32,
-            ],
-        ),
-        BootLine::Msgqueue {
-            partition,
-            depth,
-            size,
-        } => put(
-            out,
-            "msgqueue",
-            &[serial(partition), depth as u32, size as u32],
-        ),
-        BootLine::Map {
-            space,
-            extent,
-            base,
-            offset,
-            count,
-            access,
-        } => put(
-            out,
-            "map",
-            &[
-                serial(space),
-                serial(extent),
-                base as u32,
-                offset as u32,
-                count as u32,
-                access_number(access),
-            ],
-        ),
-        BootLine::Cap {
-            cspace,
-            slot,
-            object,
-            rights,
-            master,
-        } => put(
-            out,
-            "cap",
-            &[
-                serial(cspace),
-                slot as u32,
-                serial(object),
-                rights_number(rights),
-                mark_number(master),
-            ],
-        ),
-        BootLine::Vm { cspace, space } => put(out, "vm", &[serial(cspace), serial(space)]),
-        BootLine::Rm {
-            cspace,
-            space,
-            partition,
-        } => put(
-            out,
-            "rm",
-            &[serial(cspace), serial(space), serial(partition)],
-        ),
-        BootLine::Link {
-            vm,
-            extent,
-            request,
-            reply,
-        } => put(
-            out,
-            "link",
-            &[
-                vm_number(vm),
-                serial(extent),
-                serial(request),
-                serial(reply),
-            ],
-        ),
-    }
-}
-
-/// 1 for a master capability, else 0.
-fn mark_number(master: bool) -> u32
-    ensures { result ≡ mark_number master }
-{
-    if master { 1 } else { 0 }
+    put_parts(out, &line_parts(line))
 }
 
 fn put_ended_line(out: &mut String, line: &BootLine) -> Result<(), NoMemory>

@@ -1,43 +1,13 @@
 -- How a text is read line by line.
-use Rattle.std.proofs.Common.{◌≡◌, ℕ, ◌+◌, ◌-◌, ◌<◌, ◌≤◌, ◌==◌, Bool, true, false, not, nat_le, nat_lt, List, [], ◌∷◌, ◌++◌, Option, Some, None, length, take, drop, ap, append-nil, arith, refl, if◌then◌else◌}
-use Rattle.std.specs.List.{position, position_or_len, slice_split}
-use Rattle.std.proofs.lemmas.List.Splits.{length-slice_split, slice_split_first, slice_split_none}
-use Rattle.std.proofs.lemmas.List.Sums.{prefix_len_passes, sum_by-cons}
+use Rattle.std.proofs.Common.{◌≡◌, ℕ, ◌+◌, ◌-◌, ◌<◌, ◌≤◌, ◌==◌, Bool, true, false, nat_le, List, [], ◌∷◌, ◌++◌, Option, Some, None, length, ap, append-nil, arith, refl, if◌then◌else◌}
+use Rattle.std.specs.List.{slice_split}
+use Rattle.std.proofs.lemmas.List.Splits.{length-slice_split}
+use Rattle.std.proofs.lemmas.List.Sums.{sum_by-cons}
 use Rattle.std.proofs.lemmas.Bool.{leb-true}
-use borrow.Author.Tests.{ltb-true, ltb-false}
 use Rattle.std.proofs.lemmas.Grind.{common_steps}
 use Rattle.gh_model.specs.declared.program.Line.{Line}
 use Rattle.gh_callfile.specs.Grammar.{line_of}
 use Rattle.gh_callfile.specs.CallFile.{Reading, Good, BadAt, calls_of_lines, is_line_feed, calls_of, line_then, with_lines, read_from}
-
--- a place that is found is the first, and lies within the list
-found_at : (first count at : ℕ) → (if nat_lt first count then Some first else None) ≡ Some at → (at ≡ first) × (first < count)
-found_at first count at found = go (nat_lt first count) refl found where
-  go : (b : Bool) → nat_lt first count ≡ b → (if b then Some first else None) ≡ Some at → (at ≡ first) × (first < count)
-  go true is_less found = (cc, ltb-true first count is_less)
-  go false is_less found = cc
-
-found_nowhere : (first count : ℕ) → (if nat_lt first count then Some first else None) ≡ None → count ≤ first
-found_nowhere first count none = go (nat_lt first count) refl none where
-  go : (b : Bool) → nat_lt first count ≡ b → (if b then Some first else None) ≡ None → count ≤ first
-  go true is_less none = cc
-  go false is_less none = ltb-false first count is_less
-
-not_true : (b : Bool) → not b ≡ true → b ≡ false
-not_true true e = cc
-not_true false e = refl
-
--- a text without a line feed is one piece
-pub split_nowhere : (text : List ℕ) → position is_line_feed text ≡ None → slice_split is_line_feed text ≡ text ∷ []
-split_nowhere text none =
-    let past : length text ≤ position_or_len is_line_feed text = found_nowhere _ _ none in
-    slice_split_none is_line_feed text (λ k d within. not_true _ (prefix_len_passes (λ x. not (is_line_feed x)) text k d (omega arith)))
-
--- the first piece ends at the first line feed
-pub split_there : (text : List ℕ) (at : ℕ) → position is_line_feed text ≡ Some at → slice_split is_line_feed text ≡ take at text ∷ slice_split is_line_feed (drop (at + 1) text)
-split_there text at there =
-    let found : (at ≡ position_or_len is_line_feed text) × (position_or_len is_line_feed text < length text) = found_at _ _ at there in
-    rw found.0 (slice_split_first is_line_feed text 0 found.1)
 
 step_of : (number room : ℕ) (text : List ℕ) (pieces : List (List ℕ)) → 0 < length pieces → read_from number room (text ∷ pieces) ≡ line_then number room (line_of text) (read_from (number + 1) (room - calls_of (line_of text)) pieces)
 unfolding read_from

@@ -1,7 +1,6 @@
 mod CallFileLemmas
 mod CallLineLemmas
 mod CpuLemmas
-mod NumeralLemmas
 mod RegisterLemmas
 pub mod ProgramLemmas
 mod SpellingLemmas

@@ -1,12 +1,12 @@
 -- The program of a call file makes the frames of its lines, reply by reply.
-use Rattle.std.proofs.Common.{◌≡◌, ◌==◌, ◌+◌, ◌∙◌, ℕ, Bool, true, false, List, [], ◌∷◌, Option, Some, None, refl, subst, sym, ap, if◌then◌else◌}
+use Rattle.std.proofs.Common.{◌≡◌, ◌==◌, ◌+◌, ◌∙◌, ℕ, Bool, true, false, List, [], ◌∷◌, Option, Some, None, refl, sym, ap, if◌then◌else◌}
 use Rattle.std.specs.Prelude.{nat_lt, ◌&&◌}
 use Rattle.gh_base.specs.declared.frame.Frame.{Frame}
 use Rattle.gh_base.specs.declared.frame.Reply.{Reply}
 use Rattle.gh_model.specs.declared.program.Line.{Line}
 use Rattle.gh_model.specs.declared.program.Standing.{Standing}
-use Rattle.gh_model.specs.Program.{Position, after_line_reply, after_reply, asks_again, exit_frame, frames_from, is_exit, last_number, line_frame, next_frame, program_frames, start}
-use Rattle.gh_model.specs.Programs.{asked, frames_made, frames_on, next_state}
+use Rattle.gh_model.specs.Program.{Position, after_line_reply, after_reply, asks_again, exit_frame, frames_from, is_exit, last_number, line_frame, next_frame, program_frames}
+use Rattle.gh_model.specs.Programs.{asked, frames_made, frames_on}
 use Rattle.gh_callfile.specs.VmProgress.{Progress, fresh, position_now, vm_after, vm_answer}
 
 -- no frame follows the end of a program

@@ -8,7 +8,8 @@ use Rattle.std.proofs.lemmas.Bool.{and_from, cases_lt, cases_eq, lt-ltb, le-leb,
 use Rattle.std.proofs.lemmas.Bool.Decides.{nat_tests}
 use Rattle.std.proofs.Math.Nat.{pow-suc}
 use Rattle.std.proofs.lemmas.Int.Digits.{digits_value_push}
-use Rattle.gh_callfile.specs.Grammar.{is_lower_digit, is_digit, has_leading_zero, is_numeral, is_register, register_of}
+use Rattle.gh_model.specs.Numeral.{is_lower_digit, is_digit, has_leading_zero, is_numeral}
+use Rattle.gh_callfile.specs.Grammar.{is_register, register_of}
 use Rattle.gh_callfile.specs.Writing.{register_text}
 
 glyph_is : (d : ℕ) → d < 16 → (digit_value (digit_glyph false d) ≡ d) × (is_lower_digit (digit_glyph false d) ≡ true) × (digit_glyph false d ≡ 48 → d ≡ 0)

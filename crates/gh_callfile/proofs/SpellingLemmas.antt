@@ -8,7 +8,8 @@ use Rattle.std.proofs.lemmas.List.Folds.{length-prefix_len}
 use Rattle.std.proofs.lemmas.List.Sums.{AllPass-from_list_all}
 use Rattle.std.proofs.Math.Seq.{take-append_seam, drop-append_seam}
 use Rattle.gh_model.specs.declared.program.Line.{Line}
-use Rattle.gh_callfile.specs.Grammar.{is_space, is_digit, is_numeral, is_register, is_bytes, bytes_of, repeat_of, is_mark, bytes_written, times_written, registers_of, line_of, line_of_words, line_behind, line_with, one_part, two_parts, tail_of}
+use Rattle.gh_model.specs.Numeral.{is_digit, is_numeral}
+use Rattle.gh_callfile.specs.Grammar.{is_space, is_register, is_bytes, bytes_of, repeat_of, is_mark, bytes_written, times_written, registers_of, line_of, line_of_words, line_behind, line_with, one_part, two_parts, tail_of}
 use Rattle.gh_callfile.specs.Spelling.{Written, marked, words_of, spelled, IsWellWritten, meant, Spells}
 
 -- both sides of an && hold

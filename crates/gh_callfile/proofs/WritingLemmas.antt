@@ -3,14 +3,13 @@ use Rattle.std.proofs.Common.{◌≡◌, ℕ, zero, suc, ◌+◌, ◌-◌, ◌*�
 use Rattle.std.specs.Char.{digit_value}
 use Rattle.std.specs.Fmt.{decimal}
 use Rattle.std.specs.List.{AllByRecursion, flat_map, join_with_byte, list_all, slice_split}
-use Rattle.std.specs.Str.Parse.{digits_value}
-use Rattle.std.proofs.lemmas.Bool.{and_from, and_parts, not-true, cases_lt, lt-ltb, le-leb}
+use Rattle.std.proofs.lemmas.Bool.{and_from, and_parts, not-true, cases_lt, le-leb}
 use Rattle.std.proofs.lemmas.Bool.Decides.{nat_tests}
-use Rattle.std.proofs.lemmas.Fmt.{decimal_nonempty, digits_decimal, digits_value-decimal, first_decimal, length-decimal-le}
-use Rattle.std.proofs.lemmas.Str.Parse.{IsDigitsTest, IsNumeralModel, numerals_by_value}
 use Rattle.hex.specs.Hex.{encode_lower, encode_with, lower_digits, IsBytes}
 use Rattle.hex.proofs.HexLemmas.{length-encode_with, decode_of-encode_lower}
-use Rattle.gh_callfile.specs.Grammar.{is_lower_digit, is_digit, has_leading_zero, is_numeral, is_bytes, bytes_of, repeat_of, bytes_written, registers_of, is_register, line_of}
+use Rattle.gh_model.proofs.DecimalLaw.{decimal_again, decimal_digits}
+use Rattle.gh_model.specs.Numeral.{is_lower_digit, is_digit, has_leading_zero, is_numeral}
+use Rattle.gh_callfile.specs.Grammar.{is_bytes, bytes_of, repeat_of, bytes_written, registers_of, is_register, line_of}
 use Rattle.gh_callfile.specs.CallFile.{Reading, Good, BadAt, calls_of, calls_of_lines, is_line_feed, line_then, read_from, reading, told_reading, with_lines}
 use Rattle.gh_callfile.specs.Spelling.{IsWellWritten, marked, spelled, words_of}
 use Rattle.gh_callfile.specs.Writing.{register_text, bytes_text, ended_line, file_text, written_of, IsWritable, NoLines, OneMore, SpellLines, SpellsFile}
@@ -27,37 +26,9 @@ use Rattle.std.proofs.lemmas.List.{length-map, nil_from_length}
 
 -- ---- repeats
 
-tells_digits : IsDigitsTest (λ ds. list_all (is_digit 10) ds ≡ true)
-tells_digits = record {
-  empty = refl;
-  parts = λ c cs all. let both = and_parts (is_digit 10 c) (list_all (is_digit 10) cs) all in (in_range c both.0, both.1);
-  more = λ c cs range all. and_from (is_digit 10 c) (list_all (is_digit 10) cs) (of_range c range) all;
-}
-  where
-    in_range : (c : ℕ) → is_digit 10 c ≡ true → (48 ≤ c) × (c ≤ 57)
-    in_range c digit = grind (arith, nat_tests)
-
-    of_range : (c : ℕ) → (48 ≤ c) × (c ≤ 57) → is_digit 10 c ≡ true
-    of_range c range = grind (arith, nat_tests)
-
-own : IsNumeralModel (λ ds. list_all (is_digit 10) ds ≡ true) (digits_value 10)
-own = numerals_by_value (λ ds. list_all (is_digit 10) ds ≡ true) tells_digits
-
-not_zero_first : (n : ℕ) → 0 < n → n < 2 ^ 64 → not (has_leading_zero (decimal n)) ≡ true
-not_zero_first n more small = let first = first_decimal n more small in grind (arith, nat_tests)
-
 -- every repeat is read from the decimal that it is written with
 pub repeat_again : (n : ℕ) → 1 ≤ n → n ≤ 65536 → repeat_of (decimal n) ≡ Some n
-repeat_again n some few =
-    let small : n < 2 ^ 64 = omega arith in
-    let value : digits_value 10 (decimal n) ≡ n = digits_value-decimal own n small in
-    let short : length (decimal n) ≤ 5 = length-decimal-le 5 n (lit< tt) (omega arith) (omega arith) in
-    let long = decimal_nonempty n small in
-    let form : is_numeral 10 (decimal n) ≡ true =
-    and_from (ltb 0 (length (decimal n)) && not (has_leading_zero (decimal n))) (list_all (is_digit 10) (decimal n))
-    (and_from (ltb 0 (length (decimal n))) (not (has_leading_zero (decimal n))) (lt-ltb 0 (length (decimal n)) (omega (arith, long))) (not_zero_first n (omega arith) small))
-    (digits_decimal own n small) in
-    rw (le-leb (length (decimal n)) 5 short, form, value, le-leb 1 n some, le-leb n 65536 few) refl
+repeat_again n some few = rw (decimal_again 5 n (lit< tt) (omega arith) (omega arith), le-leb 1 n some, le-leb n 65536 few) refl
 
 -- ---- bytes
 
@@ -208,7 +179,7 @@ bytes_line (byte ∷ bytes) are = rw (digits_line 16 (encode_lower (byte ∷ byt
 written_line : (line : Line) → IsWritable line → is_one_line (spelled (written_of line)) ≡ true
 written_line line fits =
     let registers = registers_line (map register_text line.frame.x) (registers_again line.frame.x fits.nine fits.registers).1 in
-    let times : is_one_line (decimal line.times) ≡ true = digits_line 10 (decimal line.times) (digits_decimal own line.times (omega (arith, fits.few_times))) in
+    let times : is_one_line (decimal line.times) ≡ true = digits_line 10 (decimal line.times) (decimal_digits line.times (omega (arith, fits.few_times))) in
     let repeat : list_all is_one_line (marked 42 (Some (decimal line.times))) ≡ true = rw times refl in
     joined_line (words_of (written_of line))
     (all_append (map register_text line.frame.x) (marked 58 (bytes_text line.frame.bytes) ++ marked 42 (Some (decimal line.times))) registers

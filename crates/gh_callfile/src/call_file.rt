@@ -1,7 +1,7 @@
 //! Call files, line by line.
 
 ghost use Rattle.std.specs.Prelude.{◌≡◌, ◌+◌, ◌<◌, ◌≤◌, ◌^◌, ◌∷◌, [], ℕ, List, None, Some, length, IfOk, IfErr, IfSome};
-ghost use Rattle.std.specs.List.{position, slice_split};
+ghost use Rattle.std.specs.List.{slice_split};
 ghost use Rattle.gh_model.specs.declared.program.Line.{Line};
 ghost use Rattle.gh_model.specs.Told.{told_number};
 ghost use Rattle.gh_callfile.specs.Grammar.{line_of};
@@ -9,7 +9,7 @@ ghost use Rattle.gh_callfile.specs.CallFile.{Reading, Good, IsErrorOf, calls_of_
 
 use crate::call_line::call_line;
 use gh_base::Sequence;
-use gh_model::{FileErr, Line};
+use gh_model::{FileErr, Line, split_first};
 use std::alloc::Global;
 
 /// What the next line may be.
@@ -21,27 +21,17 @@ struct Next {
     room: u32,
 }
 
-fn line_feed(text: &[u8]) -> Option<usize>
-    ensures { result ≡ position is_line_feed text.now }
-{
-    text.iter().position(|byte| *byte == b'\n')
-}
-
 /// The first line, without its line feed, and what stands behind it; none where no line feed comes.
-#[tactic(auto, using(crate::proofs::CallFileLemmas::split_nowhere, crate::proofs::CallFileLemmas::split_there))]
 fn first_line(text: &[u8]) -> Option<(&[u8], &[u8])>
     ensures none { result ≡ None → slice_split is_line_feed text.now ≡ text.now ∷ [] }
     ensures some { IfSome result (λ parts.
         slice_split is_line_feed text.now ≡ parts.0.now ∷ slice_split is_line_feed parts.1.now) }
     ensures shorter { IfSome result (λ parts. length parts.1.now < length text.now) }
 {
-    match line_feed(text) {
+    let (line, behind) = split_first(text, b'\n');
+    match behind {
         None => None,
-        Some(at) => {
-            let (line, _) = text.split_at(at);
-            let (_, behind) = text.split_at(at + 1);
-            Some((line, behind))
-        }
+        Some(behind) => Some((line, behind)),
     }
 }
 

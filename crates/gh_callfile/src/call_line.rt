@@ -4,9 +4,8 @@ ghost use Rattle.std.specs.Prelude.{◌≡◌, ◌≤◌, [], Some, length, slic
 ghost use Rattle.std.specs.List.{prefix_len, slice_split};
 ghost use Rattle.gh_callfile.specs.Grammar.{is_space, is_register, register_written, repeat_of, is_bytes, bytes_of, is_mark, one_part, two_parts, tail_of, registers_of, line_with, line_behind, line_of_words, line_of, texts_of};
 
-use crate::numeral::{all_digits, number};
 use gh_base::{Frame, NoMemory, Sequence};
-use gh_model::Line;
+use gh_model::{Line, all_digits, number};
 use hex::FromHexError;
 use std::alloc::{AllocError, Global};
 

@@ -4,7 +4,6 @@
 mod call_file;
 mod call_line;
 mod law;
-mod numeral;
 mod schedule;
 mod vm_program;
 mod writing_law;

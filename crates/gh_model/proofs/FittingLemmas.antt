@@ -260,7 +260,7 @@ cpu_small s cpu h there =
 -- a link's VM is one of the eight
 pub link_small : (s : State) (vm extent request reply : ℕ) → IsFitting s → IsTrue (link_fits s vm extent request reply) → vm ≤ VMS
 link_small s vm extent request reply h fits =
-    cpu_small s vm h (and-second _ _ (and-first _ _ (and-first _ _ (and-first _ _ (and-first _ _ (and-first _ _ (and-first _ _ (and-first _ _ (and-first _ _ (and-first _ _ (and-first _ _ fits)))))))))))
+    cpu_small s vm h (and-second _ _ (and-first _ _ (and-first _ _ (and-first _ _ (and-first _ _ (and-first _ _ fits))))))
 
 pub link_vm : (s : State) (line : BootLine) (vm : VmId) (extent request reply : Serial) → line ≡ Link vm extent request reply → IsTrue (line_fits s line) → IsFitting s → vm.0 ≤ VMS
 link_vm s line vm extent request reply is fits h =

@@ -3,11 +3,14 @@ pub mod BootLemmas
 pub mod CallsLemmas
 pub mod CpuRows
 pub mod DecideLemmas
+pub mod DecimalLaw
 pub mod Ends
 pub mod EntryLemmas
 pub mod FittingLemmas
 pub mod KeptLemmas
 pub mod Looks
+pub mod NumeralLemmas
+pub mod PieceLemmas
 pub mod RoomLemmas
 pub mod RowLemmas
 pub mod RunLaw

@@ -284,13 +284,23 @@ is_linked_queue queue row = (row.request.0 == queue) || (row.reply.0 == queue)
 abbrev pub is_small_queue : ℕ → QueueRow → Bool
 is_small_queue queue row = (row.serial.0 == queue) && nat_le row.size FRAGMENT_BYTES
 
-abbrev pub link_fits : State → ℕ → ℕ → ℕ → ℕ → Bool
-link_fits s vm extent request reply =
+-- the VM is there beside the resource manager, and in no link yet
+abbrev pub vm_may_link : State → ℕ → Bool
+vm_may_link s vm =
     is_some (cpu_row s 0) && nat_lt 0 vm && is_some (cpu_row s vm)
-    && not (list_any (λ (row : LinkRow). row.vm.0 == vm) s.links) && is_kind s extent kind.Extent
-    && is_kind s request kind.Queue && is_kind s reply kind.Queue && not (request == reply)
+    && not (list_any (λ (row : LinkRow). row.vm.0 == vm) s.links)
+
+-- the queues are two, neither is in a link yet, and a request's fragment fits the one for requests
+abbrev pub queues_may_link : State → ℕ → ℕ → Bool
+queues_may_link s request reply =
+    is_kind s request kind.Queue && is_kind s reply kind.Queue && not (request == reply)
     && not (list_any (is_linked_queue request) s.links) && not (list_any (is_linked_queue reply) s.links)
     && list_any (is_small_queue request) s.queues
+
+-- and the resource manager has two free slots for them
+abbrev pub link_fits : State → ℕ → ℕ → ℕ → ℕ → Bool
+link_fits s vm extent request reply =
+    vm_may_link s vm && is_kind s extent kind.Extent && queues_may_link s request reply
     && is_free_slot s (manager_cspace s) (2 * vm) && is_free_slot s (manager_cspace s) (2 * vm + 1)
 
 -- the line may come in this state, behind the line of pages

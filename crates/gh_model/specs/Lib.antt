@@ -15,7 +15,9 @@ pub mod ManagerCalls
 pub mod Marks
 pub mod Memory
 pub mod MemoryCalls
+pub mod Numeral
 pub mod ObjectCalls
+pub mod Pieces
 pub mod Program
 pub mod Programs
 pub mod QueueCalls

@@ -54,8 +54,8 @@ impl Boot {
     }
 }
 
-/// The state before the first line.
-fn nothing(alloc: Global) -> State
+/// The state before the first line. It takes no memory.
+pub fn empty_state(alloc: Global) -> State
     ensures { result ≡ empty_state }
 {
     State {
@@ -200,7 +200,7 @@ fn add_extent(state: &mut State, partition: Serial, new: NewExtent) -> Result<()
 }
 
 /// Units of a queue: one, and its messages' room in pages, rounded up.
-pub(crate) fn cost_of_queue(depth: u16, size: u16) -> u16
+pub fn cost_of_queue(depth: u16, size: u16) -> u16
     requires depth { depth ≤ QUEUE_DEPTH }
     requires size { size ≤ MESSAGE_BYTES }
     ensures { result ≡ queue_cost depth size }
@@ -275,14 +275,14 @@ fn add_cpu(state: &mut State, cpu: CpuNo, cspace: Serial, space: Serial) -> Resu
 }
 
 /// VMs so far.
-fn vms(cpus: &[CpuRow]) -> usize
+pub fn vm_count(cpus: &[CpuRow]) -> usize
     ensures { result ≡ cpu_vms cpus.now }
 {
     cpus.iter().filter(|row| row.cpu.0 > 0).count()
 }
 
 /// The capability space of the resource manager; serial 0 where there is none.
-fn manager(cpus: &[CpuRow]) -> Serial
+pub fn manager_cspace(cpus: &[CpuRow]) -> Serial
     ensures { result.0 ≡ cpu_cspace cpus.now 0 }
 {
     match cpu_row(cpus, CpuNo(0)) {
@@ -313,7 +313,7 @@ fn add_link(
     requires { vm.0 ≤ VMS }
     ensures { OnOk result (state.new ≡ with_link state.old vm.0 extent.0 request.0 reply.0) }
 {
-    let cspace = manager(state.cpus.as_slice());
+    let cspace = manager_cspace(state.cpus.as_slice());
     add_capability(state, cspace, 2 * vm.0, request, Rights::RECEIVE, false)?;
     add_capability(state, cspace, 2 * vm.0 + 1, reply, Rights::SEND, false)?;
     state.links.push(LinkRow {
@@ -324,8 +324,9 @@ fn add_link(
     })
 }
 
+/// Makes what a line that fits makes, behind the line of pages.
 #[tactic(auto, using(crate::proofs::FittingLemmas::few_serials))]
-fn add_line(alloc: Global, state: &mut State, line: BootLine) -> Result<(), NoMemory>
+pub fn add_line(alloc: Global, state: &mut State, line: BootLine) -> Result<(), NoMemory>
     requires fits { IsTrue (line_fits state.old line) }
     requires fitting { IsFitting state.old }
     ensures { OnOk result (state.new ≡ after_line state.old line) }
@@ -414,7 +415,7 @@ fn add_vm(state: &mut State, cspace: Serial, space: Serial) -> Result<(), NoMemo
     requires { cpu_vms state.old.cpus < VMS }
     ensures { OnOk result (state.new ≡ with_cpu state.old (cpu_vms state.old.cpus + 1) cspace.0 space.0) }
 {
-    let vm = vms(state.cpus.as_slice()) as u8 + 1;
+    let vm = vm_count(state.cpus.as_slice()) as u8 + 1;
     add_cpu(state, CpuNo(vm), cspace, space)
 }
 
@@ -431,7 +432,7 @@ fn add_lines(alloc: Global, state: &mut State, lines: &[BootLine]) -> Result<(),
 }
 
 /// So many pages, which no extent holds yet.
-fn add_pages(alloc: Global, state: &mut State, count: u16) -> Result<(), NoMemory>
+pub fn add_pages(alloc: Global, state: &mut State, count: u16) -> Result<(), NoMemory>
     ensures { OnOk result (state.new ≡ after_line state.old (BootLine.Pages count)) }
 {
     state.holders = Sequence::from_vec(vec![in alloc; Serial(0); count as usize]?);
@@ -442,7 +443,7 @@ fn add_pages(alloc: Global, state: &mut State, count: u16) -> Result<(), NoMemor
 pub(crate) fn booted(alloc: Global, boot: &Boot) -> Result<State, NoMemory>
     ensures { IfOk result (λ state. state ≡ boot_state boot.now) }
 {
-    let mut state = nothing(alloc);
+    let mut state = empty_state(alloc);
     match boot.lines().split_first() {
         Some((BootLine::Pages { count }, lines)) => {
             add_pages(alloc, &mut state, *count)?;

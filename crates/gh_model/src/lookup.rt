@@ -6,7 +6,7 @@ ghost use Rattle.gh_model.specs.Rows.{is_object, is_partition, is_extent, is_bel
 use crate::rows::{BellRow, CapabilityRow, CpuRow, ExtentRow, ObjectRow, PartitionRow, SetAtRow};
 use gh_base::{CpuNo, Serial};
 
-pub(crate) fn object_row(rows: &[ObjectRow], serial: Serial) -> Option<ObjectRow>
+pub fn object_row(rows: &[ObjectRow], serial: Serial) -> Option<ObjectRow>
     ensures { result ≡ find (is_object serial.0) rows.now }
 {
     rows.iter().copied().find(|row| row.serial == serial)
@@ -18,7 +18,7 @@ pub(crate) fn partition_row(rows: &[PartitionRow], serial: Serial) -> Option<Par
     rows.iter().copied().find(|row| row.serial == serial)
 }
 
-pub(crate) fn extent_row(rows: &[ExtentRow], serial: Serial) -> Option<ExtentRow>
+pub fn extent_row(rows: &[ExtentRow], serial: Serial) -> Option<ExtentRow>
     ensures { result ≡ find (is_extent serial.0) rows.now }
 {
     rows.iter().copied().find(|row| row.serial == serial)
@@ -30,7 +30,7 @@ pub(crate) fn bell_row(rows: &[BellRow], serial: Serial) -> Option<BellRow>
     rows.iter().copied().find(|row| row.serial == serial)
 }
 
-pub(crate) fn cpu_row(rows: &[CpuRow], cpu: CpuNo) -> Option<CpuRow>
+pub fn cpu_row(rows: &[CpuRow], cpu: CpuNo) -> Option<CpuRow>
     ensures { result ≡ find (is_cpu cpu.0) rows.now }
 {
     rows.iter().copied().find(|row| row.cpu == cpu)

@@ -1,6 +1,7 @@
 use Rattle.std.proofs.Common.{◌≡◌, [], length}
 use Rattle.std.specs.Option.{option_map}
-use Rattle.gh_bootfile.specs.Reading.{numbers_on, pieces_left}
+use Rattle.gh_bootfile.specs.Reading.{numbers_on}
+use Rattle.gh_model.specs.Pieces.{pieces_left}
 use Rattle.gh_bootfile.proofs.number.numbers.Given as goal
 
 abbrev pub invariant-loop-left : goal.invariant-loop-left

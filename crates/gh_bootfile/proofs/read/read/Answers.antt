@@ -3,7 +3,7 @@ use Rattle.std.specs.Str.{bytes_eq}
 use Rattle.std.proofs.lemmas.Bool.{cond-true, cond-false}
 use Rattle.gh_bootfile.specs.BootFile.{Answers, told}
 use Rattle.gh_bootfile.specs.Grammar.{format_line}
-use Rattle.gh_bootfile.proofs.FileLaw.{file_step, file_end}
+use Rattle.gh_bootfile.proofs.WalkLaw.{file_step, file_end}
 use Rattle.gh_bootfile.proofs.read.read.Goals as goal
 
 pub returns-in_default : goal.returns-in_default
