@@ -1,0 +1,4 @@
+pub mod Effects
+pub mod Lives
+pub mod Premises
+pub mod Valid

@@ -1,0 +1,127 @@
+-- Which objects live, and what a row needs of those that live. An object lives from its creation to
+-- its reclaim, doomed or not.
+use Rattle.std.specs.Prelude.{◌==◌, ◌&&◌, ◌||◌, ◌+◌, not, ℕ, Bool, true, false, List, [], ◌∷◌, length, Option, Some, None, find, is_some, count_by, nat_le, nat_lt, if◌then◌else◌}
+use Rattle.std.specs.List.{list_any}
+use Rattle.gh_base.specs.Kind.{kind_number}
+use Rattle.gh_base.specs.declared.kind.Kind.{Kind}
+use Rattle.gh_base.specs.declared.kind.Kind.TheVariants as kind
+use Rattle.gh_base.specs.declared.limits.TheConstants.{PARTITION_UNITS}
+use Rattle.gh_model.specs.Boot.{is_of_kind, overlaps}
+use Rattle.gh_model.specs.Decisions.{is_init_stage}
+use Rattle.gh_model.specs.MemoryCalls.{is_within_span}
+use Rattle.gh_model.specs.Rows.{is_object, is_partition, is_extent, is_cpu}
+use Rattle.gh_model.specs.Units.{row_quota}
+use Rattle.gh_model.specs.Word.{is_slot}
+use Rattle.gh_model.specs.declared.rows.ObjectRow.{ObjectRow}
+use Rattle.gh_model.specs.declared.rows.PartitionRow.{PartitionRow}
+use Rattle.gh_model.specs.declared.rows.ExtentRow.{ExtentRow}
+use Rattle.gh_model.specs.declared.rows.CapabilityRow.{CapabilityRow}
+use Rattle.gh_model.specs.declared.rows.SetAtRow.{SetAtRow}
+use Rattle.gh_model.specs.declared.rows.MappingRow.{MappingRow}
+use Rattle.gh_model.specs.declared.rows.CpuRow.{CpuRow}
+use Rattle.gh_model.specs.declared.rows.LinkRow.{LinkRow}
+
+-- an object of this serial lives
+abbrev pub lives : List ObjectRow → ℕ → Bool
+lives objects serial = is_some (find (is_object serial) objects)
+
+-- an object of this serial and kind lives
+abbrev pub lives_as : List ObjectRow → ℕ → Kind → Bool
+lives_as objects serial k = is_of_kind k (find (is_object serial) objects)
+
+-- how many objects of a kind live
+abbrev pub kind_total : List ObjectRow → Kind → ℕ
+kind_total objects k = count_by (λ (row : ObjectRow). kind_number row.kind == kind_number k) objects
+
+-- the object lives in a partition that lives
+abbrev pub is_housed : List ObjectRow → ObjectRow → Bool
+is_housed objects row = lives_as objects row.partition.0 kind.Partition
+
+-- the slot is one of a capability space that lives, and its object was made; where the capability is
+-- valid, the object lives and is of its kind
+abbrev pub slot_fits : ℕ → List ObjectRow → CapabilityRow → Bool
+slot_fits next_serial objects row =
+    lives_as objects row.cspace.0 kind.Cspace && is_slot row.slot
+    && nat_lt 0 row.serial.0 && nat_lt row.serial.0 next_serial
+    && (not row.valid || lives_as objects row.serial.0 row.kind)
+
+-- the setting is of a slot of a capability space that lives, by one of the entries
+abbrev pub setting_fits : ℕ → List ObjectRow → SetAtRow → Bool
+setting_fits entries objects row =
+    lives_as objects row.cspace.0 kind.Cspace && nat_lt 0 row.number && nat_le row.number entries
+
+-- a span lies within another
+abbrev pub is_part_of : ExtentRow → Option ExtentRow → Bool
+is_part_of row None = false
+is_part_of row (Some outer) = is_within_span outer row.first.0 row.count
+
+-- the span has a page, and is the whole machine or a part of its parent's span
+abbrev pub span_fits : ℕ → List ExtentRow → ExtentRow → Bool
+span_fits pages extents row =
+    nat_lt 0 row.count
+    && (((row.parent.0 == 0) && (row.first.0 == 0) && (row.count == pages))
+    || is_part_of row (find (is_extent row.parent.0) extents))
+
+-- the page lies in the span
+abbrev pub spans_page : ℕ → Option ExtentRow → Bool
+spans_page page None = false
+spans_page page (Some row) = is_within_span row page 1
+
+-- the pages of the row lie in the span
+abbrev pub spans_row : MappingRow → Option ExtentRow → Bool
+spans_row row None = false
+spans_row row (Some extent) = nat_le (row.offset + row.count) extent.count
+
+-- the mapping row has a page, an address space that lives, and pages of its extent's span
+abbrev pub mapping_stands : List ObjectRow → List ExtentRow → MappingRow → Bool
+mapping_stands objects extents row =
+    lives_as objects row.space.0 kind.Space && lives_as objects row.extent.0 kind.Extent
+    && nat_lt 0 row.count && nat_le (row.base + row.count) 4096
+    && spans_row row (find (is_extent row.extent.0) extents)
+
+-- no two rows of one address space have a page in common
+abbrev pub meets : MappingRow → List MappingRow → Bool
+meets row rows = list_any (overlaps row.space.0 row.base row.count) rows
+
+abbrev pub are_apart : List MappingRow → Bool
+are_apart [] = true
+are_apart (row ∷ rows) = not (meets row rows) && are_apart rows
+
+-- the partition's quota is the boot's, or its partition gave it, and it is at most 128 units
+abbrev pub lives_under : ℕ → Option ObjectRow → Bool
+lives_under parent None = false
+lives_under parent (Some row) = row.partition.0 == parent
+
+abbrev pub quota_fits : List ObjectRow → PartitionRow → Bool
+quota_fits objects row =
+    nat_le row.quota PARTITION_UNITS
+    && lives_under (if row.parent.0 == 0 then row.serial.0 else row.parent.0) (find (is_object row.serial.0) objects)
+
+-- an object took a unit at least. One that isn't configured yet took just one and has nothing: a
+-- partition no quota, an extent no span
+abbrev pub is_new : Kind → ℕ → Option PartitionRow → Option ExtentRow → Bool
+is_new kind.Partition cost partition extent = row_quota partition == 0
+is_new kind.Extent cost partition extent = not (is_some extent)
+is_new kind.Queue cost partition extent = cost == 1
+is_new _ cost partition extent = true
+
+abbrev pub cost_fits : List PartitionRow → List ExtentRow → ObjectRow → Bool
+cost_fits partitions extents row =
+    nat_lt 0 row.cost
+    && (not (is_init_stage row.stage)
+    || is_new row.kind row.cost (find (is_partition row.serial.0) partitions) (find (is_extent row.serial.0) extents))
+
+-- a CPU that hasn't exited has a capability space and an address space that live
+abbrev pub cpu_fits : List ObjectRow → CpuRow → Bool
+cpu_fits objects row =
+    row.exited || (lives_as objects row.cspace.0 kind.Cspace && lives_as objects row.space.0 kind.Space)
+
+-- a linked VM has its CPU, whose address space lives, and an extent and two queues that live
+abbrev pub space_lives : List ObjectRow → Option CpuRow → Bool
+space_lives objects None = false
+space_lives objects (Some row) = lives_as objects row.space.0 kind.Space
+
+abbrev pub link_stands : List ObjectRow → List CpuRow → LinkRow → Bool
+link_stands objects cpus row =
+    space_lives objects (find (is_cpu row.vm.0) cpus) && lives_as objects row.extent.0 kind.Extent
+    && lives_as objects row.request.0 kind.Queue && lives_as objects row.reply.0 kind.Queue

@@ -1,0 +1,6 @@
+//! What every state of the machine keeps, and what each change of the state does to references.
+#![tactic(auto)]
+
+mod law;
+
+pub use law::{change_keeps_valid, change_moves_references, change_moves_units};
