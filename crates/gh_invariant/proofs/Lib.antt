@@ -1,0 +1,3 @@
+pub mod ChangedRow
+pub mod Counting
+pub mod RowsLeft
