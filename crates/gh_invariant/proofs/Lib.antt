@@ -1,5 +1,7 @@
 pub mod ChangedRow
 pub mod Counting
-pub mod RowsLeft
 pub mod MappingsFit
+pub mod ObjectsFit
 pub mod PagesFit
+pub mod RowsLeft
+pub mod RowsTested
