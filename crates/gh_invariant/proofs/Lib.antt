@@ -1,5 +1,11 @@
-pub mod Counting
-pub mod MayMake
 pub mod CapabilityMade
+pub mod ChangedRow
+pub mod Counting
+pub mod MappingsFit
+pub mod MayMake
 pub mod MemoryMade
+pub mod ObjectsFit
 pub mod ObjectsMade
+pub mod PagesFit
+pub mod RowsLeft
+pub mod RowsTested
