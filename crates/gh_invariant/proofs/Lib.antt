@@ -1,5 +1,6 @@
 pub mod CapabilityMade
 pub mod ChangedRow
+pub mod ConfigureMade
 pub mod Counting
 pub mod MappingsFit
 pub mod MayMake
@@ -9,3 +10,6 @@ pub mod ObjectsMade
 pub mod PagesFit
 pub mod RowsLeft
 pub mod RowsTested
+pub mod DeriveMade
+pub mod PlainMade
+pub mod DecisionMade

@@ -55,6 +55,10 @@ pub granted_kind : (objects : List ObjectRow) (grant : Serial) (k : Kind)
     → IsTrue (grant_fits objects grant (Some k)) → IsTrue (lives objects grant.0) → IsTrue (lives_as objects grant.0 k)
 granted_kind objects grant k fits is = fits_by (lives objects grant.0) (lives_as objects grant.0 k) is fits
 
+pub not_false : (b : Bool) → not b ≡ false → IsTrue b
+not_false true is = refl
+not_false false is = absurd (let never : ⊥ = cc in never)
+
 -- tests of numbers that fail
 
 pub at_most_by : (a b : ℕ) → nat_lt a b ≡ false → IsTrue (nat_le b a)

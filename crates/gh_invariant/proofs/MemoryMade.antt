@@ -23,7 +23,7 @@ use Rattle.gh_invariant.specs.Lives.{lives_as, span_fits, spans_row}
 use Rattle.gh_invariant.specs.Premises.{MayMap, MayMove, MayUnmap}
 use Rattle.gh_invariant.specs.Valid.{IsValid}
 use Rattle.gh_invariant.proofs.Counting.{found_all, found_passes}
-use Rattle.gh_invariant.proofs.MayMake.{at_most_by, below_by, one, provided, some_pages, unless}
+use Rattle.gh_invariant.proofs.MayMake.{at_most_by, below_by, not_false, one, unless}
 
 -- the pages that map means are some: the extent's, or with PARTIAL those of a size that isn't 0
 meant_some_by : (partial : Bool) (pages size : ℕ) → IsTrue (nat_lt 0 pages)
@@ -35,7 +35,10 @@ module _ (s : State) (valid : IsValid s) where
   -- a span has a page
   pub span_some : (extent : ℕ) (row : ExtentRow) → find (is_extent extent) s.extents ≡ Some row → IsTrue (nat_lt 0 row.count)
   span_some extent row found =
-      (and_parts (nat_lt 0 row.count) _ (found_all (is_extent extent) (span_fits (length s.holders) s.extents) s.extents row valid.pages.spans found)).0
+      let fits : IsTrue (span_fits (length s.holders) s.extents row) =
+      found_all (is_extent extent) (span_fits (length s.holders) s.extents) s.extents row valid.pages.spans found in
+      let front = and_parts (nat_lt 0 row.count && nat_le (row.first.0 + row.count) (length s.holders)) _ fits in
+      (and_parts (nat_lt 0 row.count) (nat_le (row.first.0 + row.count) (length s.holders)) front.0).0
 
   mapped_at_made : (space extent : Serial) (row : ExtentRow) (base offset count access : ℕ)
       → find (is_extent extent.0) s.extents ≡ Some row → IsTrue (nat_lt 0 count)
@@ -49,7 +52,8 @@ module _ (s : State) (valid : IsValid s) where
       unless s (nat_le 64 (count_by (is_row_of space.0) s.mappings)) Nomem _ (λ few.
       let new : MappingRow = mapped_row space extent base offset count access in
       let covered : IsTrue (spans_row new (find (is_extent extent.0) s.extents)) =
-      subst (λ (o : Option ExtentRow). IsTrue (spans_row new o)) (sym found) (at_most_by row.count (offset + count) spans) in
+      subst (λ (o : Option ExtentRow). IsTrue (spans_row new o)) (sym found)
+      (and_from _ _ (at_most_by row.count (offset + count) spans) (not_false _ allowed)) in
       let may : MayMap s new = record {
         stands = and_from _ _ (and_from _ _ (and_from _ _ (and_from _ _ home pages) some) (at_most_by 4096 (base + count) within)) covered;
         apart = apart;
@@ -57,7 +61,7 @@ module _ (s : State) (valid : IsValid s) where
       } in
       one s (PutMapping new) done may)))))
 
-  mapped_made : (space extent : Serial) (base access flags offset size : ℕ) (row : Option ExtentRow)
+  pub mapped_made : (space extent : Serial) (base access flags offset size : ℕ) (row : Option ExtentRow)
       → find (is_extent extent.0) s.extents ≡ row → (has_partial flags ≡ true → IsTrue (nat_lt 0 (page_of size)))
       → IsTrue (lives_as s.objects space.0 kind.Space) → IsTrue (lives_as s.objects extent.0 kind.Extent)
       → MayMake s (mapped s space extent base access flags offset size row)
@@ -110,11 +114,7 @@ donated_at_made s relation to giver receiver first count found =
     let same : receiver.serial.0 ≡ to = eqb-true receiver.serial.0 to (found_passes (is_extent to) s.extents receiver found) in
     let own : find (is_extent receiver.serial.0) s.extents ≡ Some receiver =
     subst (λ (n : ℕ). find (is_extent n) s.extents ≡ Some receiver) (sym same) found in
-    one s (MovePages first count receiver.serial) done (record { row = receiver; found = own; within = is_true _ within }))))
-  where
-    is_true : (b : Bool) → not b ≡ false → IsTrue b
-    is_true true is = refl
-    is_true false is = absurd (let never : ⊥ = cc in never)
+    one s (MovePages first count receiver.serial) done (record { row = receiver; found = own; within = not_false _ within }))))
 
 donated_to_made : (s : State) (relation offset count to : ℕ) (giver : ExtentRow) (receiver : Option ExtentRow)
     → find (is_extent to) s.extents ≡ receiver → MayMake s (donated_to s relation offset count giver receiver)

@@ -45,7 +45,7 @@ pub lives_push : (k : Kind) (objects : List ObjectRow) (row : ObjectRow) (serial
 lives_push k objects row serial is = lives_push_by k objects row serial (find (is_object serial) objects) refl is
 
 -- none of two
-or_none : (a b : Bool) → (a || b) ≡ false → (a ≡ false) × (b ≡ false)
+pub or_none : (a b : Bool) → (a || b) ≡ false → (a ≡ false) × (b ≡ false)
 or_none true b none = absurd (let never : ⊥ = cc in never)
 or_none false b none = (refl, none)
 
