@@ -6,7 +6,7 @@ use Rattle.gh_base.specs.Kind.{kind_number}
 use Rattle.gh_base.specs.declared.kind.Kind.{Kind}
 use Rattle.gh_base.specs.declared.kind.Kind.TheVariants as kind
 use Rattle.gh_base.specs.declared.limits.TheConstants.{PARTITION_UNITS}
-use Rattle.gh_model.specs.Boot.{is_of_kind, overlaps}
+use Rattle.gh_model.specs.Boot.{access_fits, is_of_kind, overlaps}
 use Rattle.gh_model.specs.Decisions.{is_init_stage}
 use Rattle.gh_model.specs.MemoryCalls.{is_within_span}
 use Rattle.gh_model.specs.Rows.{is_object, is_partition, is_extent, is_cpu}
@@ -50,27 +50,33 @@ abbrev pub setting_fits : ℕ → List ObjectRow → SetAtRow → Bool
 setting_fits entries objects row =
     lives_as objects row.cspace.0 kind.Cspace && nat_lt 0 row.number && nat_le row.number entries
 
--- a span lies within another
+-- the span lies within another, and its access within that one's
 abbrev pub is_part_of : ExtentRow → Option ExtentRow → Bool
 is_part_of row None = false
-is_part_of row (Some outer) = is_within_span outer row.first.0 row.count
+is_part_of row (Some outer) =
+    is_within_span outer row.first.0 row.count && access_fits row.access.0 outer.access.0
 
--- the span has a page, and is the whole machine or a part of its parent's span
+-- an extent without a parent has all pages of the machine, with access 7
+abbrev pub is_root : ℕ → ExtentRow → Bool
+is_root pages row =
+    (row.parent.0 == 0) && (row.first.0 == 0) && (row.count == pages) && (row.access.0 == 7)
+
+-- the span has a page, ends within the machine, and is the root's or a part of its parent's
 abbrev pub span_fits : ℕ → List ExtentRow → ExtentRow → Bool
 span_fits pages extents row =
-    nat_lt 0 row.count
-    && (((row.parent.0 == 0) && (row.first.0 == 0) && (row.count == pages))
-    || is_part_of row (find (is_extent row.parent.0) extents))
+    nat_lt 0 row.count && nat_le (row.first.0 + row.count) pages
+    && (is_root pages row || is_part_of row (find (is_extent row.parent.0) extents))
 
 -- the page lies in the span
 abbrev pub spans_page : ℕ → Option ExtentRow → Bool
 spans_page page None = false
 spans_page page (Some row) = is_within_span row page 1
 
--- the pages of the row lie in the span
+-- the pages of the row lie in the span, and its access within the extent's
 abbrev pub spans_row : MappingRow → Option ExtentRow → Bool
 spans_row row None = false
-spans_row row (Some extent) = nat_le (row.offset + row.count) extent.count
+spans_row row (Some extent) =
+    nat_le (row.offset + row.count) extent.count && access_fits row.access.0 extent.access.0
 
 -- the mapping row has a page, an address space that lives, and pages of its extent's span
 abbrev pub mapping_stands : List ObjectRow → List ExtentRow → MappingRow → Bool

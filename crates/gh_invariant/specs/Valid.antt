@@ -53,7 +53,7 @@ pub record UnitsFit (objects : List ObjectRow) (partitions : List PartitionRow) 
   pub quotas : IsTrue (list_all (quota_fits objects) partitions)
   pub costs : IsTrue (list_all (cost_fits partitions extents) objects)
 
--- spans: each is the whole machine or a part of its parent's
+-- spans: each is the whole machine or a part of its parent's, with no more access
 -- pages: each is held by one extent, in whose span it lies. Before the root extent is there, nobody
 -- holds a page
 pub record PagesFit (holders : List Serial) (extents : List ExtentRow) : Type 0 where
