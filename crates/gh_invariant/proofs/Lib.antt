@@ -1,7 +1,9 @@
 pub mod ChangedRow
 pub mod Counting
 pub mod LivesKept
+pub mod MappingsFit
+pub mod ObjectsFit
+pub mod PagesFit
 pub mod ReferencesMoved
 pub mod RowsLeft
-pub mod MappingsFit
-pub mod PagesFit
+pub mod RowsTested
