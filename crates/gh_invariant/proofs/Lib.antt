@@ -1,9 +1,14 @@
 pub mod ChangedRow
+pub mod CpusFit
 pub mod Counting
-pub mod LivesKept
+pub mod Living
+pub mod MappingOnce
 pub mod MappingsFit
 pub mod ObjectsFit
 pub mod PagesFit
 pub mod ReferencesMoved
+pub mod ReferencesLaw
 pub mod RowsLeft
 pub mod RowsTested
+pub mod Settings
+pub mod SlotsFit
