@@ -1,5 +1,6 @@
 pub mod ChangedRow
 pub mod Counting
+pub mod KindRowsFit
 pub mod MappingsFit
 pub mod ObjectsFit
 pub mod PagesFit
