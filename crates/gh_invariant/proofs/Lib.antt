@@ -6,3 +6,6 @@ pub mod ObjectsFit
 pub mod PagesFit
 pub mod RowsLeft
 pub mod RowsTested
+pub mod Summing
+pub mod UnitsMoved
+pub mod UnitsOfChange
