@@ -1,9 +1,11 @@
 pub mod ChangedRow
 pub mod Counting
 pub mod KindRowsFit
+pub mod LivesKept
 pub mod MappingsFit
 pub mod ObjectsFit
 pub mod PagesFit
+pub mod ReferencesMoved
 pub mod RowsLeft
 pub mod RowsTested
 pub mod Summing

@@ -14,7 +14,7 @@ use Rattle.gh_model.specs.declared.rows.ObjectRow.{ObjectRow}
 use Rattle.gh_model.specs.declared.state.State.{State}
 use Rattle.gh_invariant.specs.Effects.{cost_of, quota_of, returns, share_for, takes, units_of}
 use Rattle.gh_invariant.specs.Lives.{lives_as}
-use Rattle.gh_invariant.specs.Valid.{IsValid}
+use Rattle.gh_invariant.specs.Valid.{IsValidTo}
 use Rattle.gh_invariant.proofs.UnitsMoved.{cost_instead_share, cost_share, given_change, given_push, given_without, quota_instead_share, quota_share, used_change, used_kept, used_push, used_without}
 
 one_at_most : (b : Bool) → one_if b ≤ 1
@@ -22,8 +22,8 @@ one_at_most true = (let one : one_if true ≡ 1 = refl in omega arith)
 one_at_most false = (let none : one_if false ≡ 0 = refl in omega arith)
 
 -- a serial has one partition's row at most
-pub partition_once : (s : State) → IsValid s → (serial : ℕ) → count_by (is_partition serial) s.partitions ≤ 1
-partition_once s valid serial =
+pub partition_once : (last : ℕ) (s : State) → IsValidTo last s → (serial : ℕ) → count_by (is_partition serial) s.partitions ≤ 1
+partition_once last s valid serial =
     omega (arith, valid.rows.partitions serial, one_at_most (lives_as s.objects serial kind.Partition))
 
 -- the units before and after a change, with those that it returns and takes
@@ -45,33 +45,33 @@ configured : (s : State) (queue : Serial) (depth size cost partition : ℕ) → 
 configured s queue depth size cost partition =
     omega (arith, used_change (is_object queue.0) (with_cost cost) s.objects partition, cost_share partition (object_row s queue.0), cost_instead_share partition cost (object_row s queue.0))
 
-reclaimed : (s : State) (object : Serial) (partition : ℕ) → IsValid s → Moves s (Reclaim object) partition
-reclaimed s object partition valid =
+reclaimed : (last : ℕ) (s : State) (object : Serial) (partition : ℕ) → IsValidTo last s → Moves s (Reclaim object) partition
+reclaimed last s object partition valid =
     let none : units_of partition [] ≡ 0 = refl in
     let both : units_of partition (returns s (Reclaim object)) ≡ units_of partition (cost_of (object_row s object.0)) + units_of partition (quota_of (find (is_partition object.0) s.partitions)) = sum_by-append (share_for partition) (cost_of (object_row s object.0)) (quota_of (find (is_partition object.0) s.partitions)) in
-    omega (arith, used_without (is_object object.0) s.objects partition (valid.objects.once object.0), given_without (is_partition object.0) s.partitions partition (partition_once s valid object.0), cost_share partition (object_row s object.0), quota_share partition (find (is_partition object.0) s.partitions))
+    omega (arith, used_without (is_object object.0) s.objects partition (valid.objects.once object.0), given_without (is_partition object.0) s.partitions partition (partition_once last s valid object.0), cost_share partition (object_row s object.0), quota_share partition (find (is_partition object.0) s.partitions))
 
 -- what a partition uses and gives changes by what a change takes and returns
-pub units_moved : (s : State) (change : Change) (partition : ℕ) → IsValid s → Moves s change partition
-units_moved s (PutCapability row) partition valid = refl
-units_moved s (DropCapability cspace slot) partition valid = refl
-units_moved s (RevokeCapability cspace slot) partition valid = refl
-units_moved s (AddObject row) partition valid = added s row partition
-units_moved s (SetStage object stage) partition valid =
+pub units_moved : (last : ℕ) (s : State) (change : Change) (partition : ℕ) → IsValidTo last s → Moves s change partition
+units_moved last s (PutCapability row) partition valid = refl
+units_moved last s (DropCapability cspace slot) partition valid = refl
+units_moved last s (RevokeCapability cspace slot) partition valid = refl
+units_moved last s (AddObject row) partition valid = added s row partition
+units_moved last s (SetStage object stage) partition valid =
     omega (arith, used_kept (is_object object.0) (with_stage stage) s.objects partition (λ row. refl))
-units_moved s (Retire object seen) partition valid =
+units_moved last s (Retire object seen) partition valid =
     omega (arith, used_kept (is_object object.0) (with_counters seen) s.objects partition (λ row. refl))
-units_moved s (Reclaim object) partition valid = reclaimed s object partition valid
-units_moved s (GiveQuota one quota) partition valid = given s one quota partition
-units_moved s (AddExtent row) partition valid = refl
-units_moved s (MovePages first count holder) partition valid = refl
-units_moved s (PutMapping row) partition valid = refl
-units_moved s (DropMapping row) partition valid = refl
-units_moved s (SetBell row) partition valid = refl
-units_moved s (ConfigureQueue queue depth size cost) partition valid =
+units_moved last s (Reclaim object) partition valid = reclaimed last s object partition valid
+units_moved last s (GiveQuota one quota) partition valid = given s one quota partition
+units_moved last s (AddExtent row) partition valid = refl
+units_moved last s (MovePages first count holder) partition valid = refl
+units_moved last s (PutMapping row) partition valid = refl
+units_moved last s (DropMapping row) partition valid = refl
+units_moved last s (SetBell row) partition valid = refl
+units_moved last s (ConfigureQueue queue depth size cost) partition valid =
     configured s queue depth size cost partition
-units_moved s (PutMessage queue message) partition valid = refl
-units_moved s (DropMessage queue) partition valid = refl
-units_moved s (EmptyQueue queue) partition valid = refl
-units_moved s (Exit cpu) partition valid = refl
-units_moved s Ring partition valid = refl
+units_moved last s (PutMessage queue message) partition valid = refl
+units_moved last s (DropMessage queue) partition valid = refl
+units_moved last s (EmptyQueue queue) partition valid = refl
+units_moved last s (Exit cpu) partition valid = refl
+units_moved last s Ring partition valid = refl

@@ -33,12 +33,12 @@ pub record ObjectsFit (next_serial : ℕ) (objects : List ObjectRow) : Type 0 wh
   pub partitions : kind_total objects kind.Partition ≤ PARTITIONS
   pub cspaces : kind_total objects kind.Cspace ≤ CSPACES
 
--- slots: a slot has at most one capability and one setting
-pub record SlotsFit (next_serial entries : ℕ) (objects : List ObjectRow) (caps : List CapabilityRow) (set_at : List SetAtRow) : Type 0 where
+-- slots: a slot has at most one capability and one setting, by an entry up to the last
+pub record SlotsFit (next_serial last : ℕ) (objects : List ObjectRow) (caps : List CapabilityRow) (set_at : List SetAtRow) : Type 0 where
   pub once : (cspace slot : ℕ) → count_by (fills cspace slot) caps ≤ 1
   pub filled : IsTrue (list_all (slot_fits next_serial objects) caps)
   pub set_once : (cspace slot : ℕ) → count_by (tells_setting cspace slot) set_at ≤ 1
-  pub set : IsTrue (list_all (setting_fits entries objects) set_at)
+  pub set : IsTrue (list_all (setting_fits last objects) set_at)
 
 -- an object of a kind has the one row of its kind, and no other serial has one
 pub record KindRowsFit (objects : List ObjectRow) (partition_rows : List PartitionRow) (bell_rows : List BellRow) (queue_rows : List QueueRow) (extent_rows : List ExtentRow) : Type 0 where
@@ -76,9 +76,10 @@ pub record CpusFit (objects : List ObjectRow) (cpus : List CpuRow) (links : List
   pub attached : IsTrue (list_all (cpu_fits objects) cpus)
   pub linked : IsTrue (list_all (link_stands objects cpus) links)
 
-pub record IsValid (s : State) : Type 0 where
+-- all of it, where no slot was set by an entry above the last
+pub record IsValidTo (last : ℕ) (s : State) : Type 0 where
   pub objects : ObjectsFit s.next_serial s.objects
-  pub slots : SlotsFit s.next_serial s.entries s.objects s.caps s.set_at
+  pub slots : SlotsFit s.next_serial last s.objects s.caps s.set_at
   pub rows : KindRowsFit s.objects s.partitions s.bells s.queues s.extents
   pub units : UnitsFit s.objects s.partitions s.extents
   pub pages : PagesFit s.holders s.extents
@@ -86,3 +87,11 @@ pub record IsValid (s : State) : Type 0 where
   pub cpus : CpusFit s.objects s.cpus s.links
   -- no parcels are made yet
   pub parcels : s.parcels ≡ []
+
+-- between two entries: each slot was set by one of the entries
+abbrev pub IsValid : State → Type 0
+IsValid s = IsValidTo s.entries s
+
+-- in the midst of an entry, which may have set slots before it is counted
+abbrev pub IsValidWithin : State → Type 0
+IsValidWithin s = IsValidTo (s.entries + 1) s
