@@ -9,5 +9,6 @@ pub mod ReferencesMoved
 pub mod RowsLeft
 pub mod RowsTested
 pub mod Summing
+pub mod UnitsFit
 pub mod UnitsMoved
 pub mod UnitsOfChange
