@@ -5,7 +5,7 @@ use Rattle.std.specs.Option.{option_or}
 use Rattle.std.specs.Prelude.{count_by, slice_get}
 use Rattle.std.specs.List.{list_all, position_or_len}
 use Rattle.std.proofs.lemmas.Bool.{and_parts, and_from}
-use Rattle.std.proofs.lemmas.List.Sums.{sum_by-cons}
+use Rattle.std.proofs.lemmas.List.Sums.{sum_by-cons, sum_by-append}
 use Rattle.gh_model.specs.QueueCalls.{one_if}
 use Rattle.gh_model.specs.Rows.{put_row, change_row}
 use Rattle.gh_model.specs.Changes.{without}
@@ -47,6 +47,13 @@ module _ {R : Type 0} (p : R → Bool) (row : R) (rows : List R) where
   pub without_later : p row ≡ false → without p (row ∷ rows) ≡ row ∷ without p rows
   without_later fails = rw fails refl
 
+-- a row alone counts if it passes
+pub count_one : {R : Type 0} (p : R → Bool) (row : R) → count_by p (row ∷ []) ≡ one_if (p row)
+count_one p row =
+    let all : count_by p (row ∷ []) ≡ one_if (p row) + count_by p [] = count_cons p row [] in
+    let none : count_by p [] ≡ 0 = refl in
+    omega arith
+
 pub put_later : {R : Type 0} (change : R → R) (row : R) (rows : List R) (at : ℕ) (found : Option R) → put_row change (row ∷ rows) (suc at) found ≡ row ∷ put_row change rows at found
 put_later change row rows at None = refl
 put_later change row rows at (Some old) = refl
@@ -60,6 +67,10 @@ module _ {R : Type 0} (p : R → Bool) (change : R → R) (row : R) (rows : List
       let at : position_or_len p (row ∷ rows) ≡ suc (position_or_len p rows) = rw fails (omega arith) in
       subst (λ (n : ℕ). put_row change (row ∷ rows) n (slice_get (row ∷ rows) n) ≡ row ∷ change_row p change rows) (sym at)
       (put_later change row rows (position_or_len p rows) (slice_get rows (position_or_len p rows)))
+
+-- rows of two lists count together
+pub count_append : {R : Type 0} (p : R → Bool) (rows others : List R) → count_by p (rows ++ others) ≡ count_by p rows + count_by p others
+count_append p rows others = sum_by-append _ rows others
 
 -- a row at the end
 

@@ -132,3 +132,12 @@ sets (PutCapability row) = Some (row.cspace.0, row.slot)
 sets (DropCapability cspace slot) = Some (cspace.0, slot)
 sets (RevokeCapability cspace slot) = Some (cspace.0, slot)
 sets _ = None
+
+-- the change leaves the slot as it is: it sets another or none, and the slot's capability space stays
+abbrev pub is_other_slot : ℕ → ℕ → Option (ℕ × ℕ) → Bool
+is_other_slot cspace slot None = true
+is_other_slot cspace slot (Some place) = not ((place.0 == cspace) && (place.1 == slot))
+
+abbrev pub leaves : ℕ → ℕ → Change → Bool
+leaves cspace slot (Reclaim object) = not (object.0 == cspace)
+leaves cspace slot change = is_other_slot cspace slot (sets change)

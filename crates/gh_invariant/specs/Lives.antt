@@ -45,10 +45,10 @@ slot_fits next_serial objects row =
     && nat_lt 0 row.serial.0 && nat_lt row.serial.0 next_serial
     && (not row.valid || lives_as objects row.serial.0 row.kind)
 
--- the setting is of a slot of a capability space that lives, by one of the entries
+-- the setting is of a slot of a capability space that lives, by an entry up to the last
 abbrev pub setting_fits : ℕ → List ObjectRow → SetAtRow → Bool
-setting_fits entries objects row =
-    lives_as objects row.cspace.0 kind.Cspace && nat_lt 0 row.number && nat_le row.number entries
+setting_fits last objects row =
+    lives_as objects row.cspace.0 kind.Cspace && is_slot row.slot && nat_lt 0 row.number && nat_le row.number last
 
 -- the span lies within another, and its access within that one's
 abbrev pub is_part_of : ExtentRow → Option ExtentRow → Bool

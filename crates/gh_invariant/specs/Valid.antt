@@ -8,12 +8,14 @@ use Rattle.gh_model.specs.Boot.{is_row_of}
 use Rattle.gh_model.specs.QueueCalls.{one_if}
 use Rattle.gh_model.specs.Rows.{is_object, is_partition, is_extent, is_bell, is_queue, is_cpu, fills, tells_setting}
 use Rattle.gh_model.specs.Units.{used_by, given_by, row_quota}
+use Rattle.gh_model.specs.declared.rows.BellRow.{BellRow}
 use Rattle.gh_model.specs.declared.rows.ObjectRow.{ObjectRow}
 use Rattle.gh_model.specs.declared.rows.PartitionRow.{PartitionRow}
 use Rattle.gh_model.specs.declared.rows.ExtentRow.{ExtentRow}
 use Rattle.gh_model.specs.declared.rows.CapabilityRow.{CapabilityRow}
 use Rattle.gh_model.specs.declared.rows.SetAtRow.{SetAtRow}
 use Rattle.gh_model.specs.declared.rows.MappingRow.{MappingRow}
+use Rattle.gh_model.specs.declared.rows.QueueRow.{QueueRow}
 use Rattle.gh_model.specs.declared.rows.CpuRow.{CpuRow}
 use Rattle.gh_model.specs.declared.rows.LinkRow.{LinkRow}
 use Rattle.gh_model.specs.declared.state.State.{State}
@@ -31,20 +33,20 @@ pub record ObjectsFit (next_serial : ℕ) (objects : List ObjectRow) : Type 0 wh
   pub partitions : kind_total objects kind.Partition ≤ PARTITIONS
   pub cspaces : kind_total objects kind.Cspace ≤ CSPACES
 
--- slots: a slot has at most one capability and one setting
-pub record SlotsFit (next_serial entries : ℕ) (objects : List ObjectRow) (caps : List CapabilityRow) (set_at : List SetAtRow) : Type 0 where
+-- slots: a slot has at most one capability and one setting, by an entry up to the last
+pub record SlotsFit (next_serial last : ℕ) (objects : List ObjectRow) (caps : List CapabilityRow) (set_at : List SetAtRow) : Type 0 where
   pub once : (cspace slot : ℕ) → count_by (fills cspace slot) caps ≤ 1
   pub filled : IsTrue (list_all (slot_fits next_serial objects) caps)
   pub set_once : (cspace slot : ℕ) → count_by (tells_setting cspace slot) set_at ≤ 1
-  pub set : IsTrue (list_all (setting_fits entries objects) set_at)
+  pub set : IsTrue (list_all (setting_fits last objects) set_at)
 
 -- an object of a kind has the one row of its kind, and no other serial has one
-pub record KindRowsFit (s : State) : Type 0 where
-  pub partitions : (serial : ℕ) → count_by (is_partition serial) s.partitions ≡ one_if (lives_as s.objects serial kind.Partition)
-  pub bells : (serial : ℕ) → count_by (is_bell serial) s.bells ≡ one_if (lives_as s.objects serial kind.Bell)
-  pub queues : (serial : ℕ) → count_by (is_queue serial) s.queues ≡ one_if (lives_as s.objects serial kind.Queue)
+pub record KindRowsFit (objects : List ObjectRow) (partition_rows : List PartitionRow) (bell_rows : List BellRow) (queue_rows : List QueueRow) (extent_rows : List ExtentRow) : Type 0 where
+  pub partitions : (serial : ℕ) → count_by (is_partition serial) partition_rows ≡ one_if (lives_as objects serial kind.Partition)
+  pub bells : (serial : ℕ) → count_by (is_bell serial) bell_rows ≡ one_if (lives_as objects serial kind.Bell)
+  pub queues : (serial : ℕ) → count_by (is_queue serial) queue_rows ≡ one_if (lives_as objects serial kind.Queue)
   -- an extent gets its span later
-  pub extents : (serial : ℕ) → count_by (is_extent serial) s.extents ≤ one_if (lives_as s.objects serial kind.Extent)
+  pub extents : (serial : ℕ) → count_by (is_extent serial) extent_rows ≤ one_if (lives_as objects serial kind.Extent)
 
 -- units: what a partition uses and gives is within its quota
 pub record UnitsFit (objects : List ObjectRow) (partitions : List PartitionRow) (extents : List ExtentRow) : Type 0 where
@@ -74,13 +76,22 @@ pub record CpusFit (objects : List ObjectRow) (cpus : List CpuRow) (links : List
   pub attached : IsTrue (list_all (cpu_fits objects) cpus)
   pub linked : IsTrue (list_all (link_stands objects cpus) links)
 
-pub record IsValid (s : State) : Type 0 where
+-- all of it, where no slot was set by an entry above the last
+pub record IsValidTo (last : ℕ) (s : State) : Type 0 where
   pub objects : ObjectsFit s.next_serial s.objects
-  pub slots : SlotsFit s.next_serial s.entries s.objects s.caps s.set_at
-  pub rows : KindRowsFit s
+  pub slots : SlotsFit s.next_serial last s.objects s.caps s.set_at
+  pub rows : KindRowsFit s.objects s.partitions s.bells s.queues s.extents
   pub units : UnitsFit s.objects s.partitions s.extents
   pub pages : PagesFit s.holders s.extents
   pub mappings : MappingsFit s.objects s.extents s.mappings
   pub cpus : CpusFit s.objects s.cpus s.links
   -- no parcels are made yet
   pub parcels : s.parcels ≡ []
+
+-- between two entries: each slot was set by one of the entries
+abbrev pub IsValid : State → Type 0
+IsValid s = IsValidTo s.entries s
+
+-- in the midst of an entry, which may have set slots before it is counted
+abbrev pub IsValidWithin : State → Type 0
+IsValidWithin s = IsValidTo (s.entries + 1) s
