@@ -113,7 +113,7 @@ own_space : (s : State) (valid : IsValid s) (cpu : ℕ) → IsTrue (is_running (
 own_space s valid cpu running = own_space_by s valid cpu (cpu_row s cpu) refl running
 
 -- the address space and the extent that a call names live
-abbrev named_needs : ℕ → ℕ → Rights → Bool → List (ℕ × Need)
+abbrev pub named_needs : ℕ → ℕ → Rights → Bool → List (ℕ × Need)
 named_needs space extent rights own =
     if own then (extent, of_kind kind.Extent rights) ∷ []
     else (space, of_kind kind.Space rights) ∷ (extent, of_kind kind.Extent rights) ∷ []

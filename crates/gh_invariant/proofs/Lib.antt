@@ -3,8 +3,10 @@ pub mod ChangedRow
 pub mod ConfigureMade
 pub mod Counting
 pub mod CpusFit
+pub mod DecisionGives
 pub mod DecisionMade
 pub mod DeriveMade
+pub mod GivesMade
 pub mod KindRowsFit
 pub mod Living
 pub mod MappingOnce
@@ -17,6 +19,7 @@ pub mod PagesFit
 pub mod PlainMade
 pub mod ReferencesLaw
 pub mod ReferencesMoved
+pub mod Referred
 pub mod RowsLeft
 pub mod RowsTested
 pub mod Settings

@@ -1,11 +1,13 @@
 -- What an act is given: a CPU that runs, a call of its shape, and its grants. And when the changes of
 -- what it comes to may be made.
-use Rattle.std.specs.Prelude.{◌≡◌, ◌==◌, ◌&&◌, ◌||◌, not, ⊤, ℕ, Bool, true, false, List, [], ◌∷◌, length, Option, Some, None, IsTrue}
+use Rattle.std.specs.Prelude.{◌≡◌, ◌==◌, ◌&&◌, ◌||◌, not, ⊤, ℕ, Bool, true, false, List, [], ◌∷◌, length, Option, Some, None, IsTrue, nat_le}
+use Rattle.std.specs.List.{list_all}
 use Rattle.gh_base.specs.declared.call.Call.{Call}
 use Rattle.gh_base.specs.declared.cap_word.Need.{Need}
 use Rattle.gh_base.specs.declared.errno.Errno.{Errno}
 use Rattle.gh_base.specs.declared.ids.Serial.{Serial}
 use Rattle.gh_base.specs.declared.kind.Kind.{Kind}
+use Rattle.gh_model.specs.References.{is_doomed}
 use Rattle.gh_model.specs.Registers.{first_of, needs_of, shape_refusals}
 use Rattle.gh_model.specs.Rows.{cpu_row}
 use Rattle.gh_model.specs.declared.change.Decision.{Decision}
@@ -13,6 +15,7 @@ use Rattle.gh_model.specs.declared.change.Decision.TheVariants.{Refuse, Unfinish
 use Rattle.gh_model.specs.declared.rows.CpuRow.{CpuRow}
 use Rattle.gh_model.specs.declared.rows.ObjectRow.{ObjectRow}
 use Rattle.gh_model.specs.declared.state.State.{State}
+use Rattle.gh_invariant.specs.Effects.{gained}
 use Rattle.gh_invariant.specs.Lives.{lives, lives_as}
 use Rattle.gh_invariant.specs.Premises.{MayChangeAll}
 
@@ -45,3 +48,14 @@ abbrev pub MayMake : State → Decision → Type 0
 MayMake s (Refuse errno) = ⊤
 MayMake s Unfinished = ⊤
 MayMake s (Make changes reply) = MayChangeAll s changes
+
+-- the object has a reference, or isn't made yet
+abbrev pub is_referred : State → Serial → Bool
+is_referred s object = not (is_doomed s object.0) || nat_le s.next_serial object.0
+
+-- what the changes of a decision give a reference has one already, or is new: nothing that lives
+-- without references comes back
+abbrev pub GivesToReferred : State → Decision → Type 0
+GivesToReferred s (Refuse errno) = ⊤
+GivesToReferred s Unfinished = ⊤
+GivesToReferred s (Make changes reply) = IsTrue (list_all (is_referred s) (gained s changes))

@@ -4,5 +4,5 @@
 mod decision;
 mod law;
 
-pub use decision::decisions_may_be_made;
+pub use decision::{decisions_give_to_referred, decisions_may_be_made};
 pub use law::{change_keeps_valid, change_moves_references, change_moves_units};
