@@ -9,6 +9,8 @@ pub mod ReferencesMoved
 pub mod RowsLeft
 pub mod RowsTested
 pub mod Summing
+pub mod UnitsBeside
 pub mod UnitsFit
+pub mod UnitsLeft
 pub mod UnitsMoved
 pub mod UnitsOfChange
