@@ -6,6 +6,7 @@ pub mod MappingsFit
 pub mod ObjectsFit
 pub mod PagesFit
 pub mod ReferencesMoved
+pub mod PartsKept
 pub mod RowsLeft
 pub mod RowsTested
 pub mod Summing
