@@ -17,3 +17,4 @@ pub mod Summing
 pub mod UnitsFit
 pub mod UnitsMoved
 pub mod UnitsOfChange
+pub mod WordsLeft
