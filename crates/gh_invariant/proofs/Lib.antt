@@ -9,12 +9,15 @@ pub mod ObjectsFit
 pub mod PagesFit
 pub mod ReferencesLaw
 pub mod ReferencesMoved
+pub mod PartsKept
 pub mod RowsLeft
 pub mod RowsTested
 pub mod Settings
 pub mod SlotsFit
 pub mod Summing
+pub mod UnitsBeside
 pub mod UnitsFit
+pub mod UnitsLeft
 pub mod UnitsMoved
 pub mod UnitsOfChange
 pub mod WordsLeft
