@@ -7,9 +7,9 @@ pub mod MappingOnce
 pub mod MappingsFit
 pub mod ObjectsFit
 pub mod PagesFit
+pub mod PartsKept
 pub mod ReferencesLaw
 pub mod ReferencesMoved
-pub mod PartsKept
 pub mod RowsLeft
 pub mod RowsTested
 pub mod Settings
