@@ -20,3 +20,4 @@ pub mod UnitsFit
 pub mod UnitsLeft
 pub mod UnitsMoved
 pub mod UnitsOfChange
+pub mod WordsLeft

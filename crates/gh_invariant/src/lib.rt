@@ -2,5 +2,9 @@
 #![tactic(auto)]
 
 mod law;
+mod references;
+mod words;
 
-pub use law::{change_keeps_valid, change_moves_references, change_moves_units};
+pub use law::{change_keeps_valid, change_moves_units};
+pub use references::change_moves_references;
+pub use words::{change_sets_word, words_stay};
