@@ -1,6 +1,7 @@
 pub mod ChangedRow
 pub mod Counting
 pub mod CpusFit
+pub mod CpusKept
 pub mod KindRowsFit
 pub mod Living
 pub mod MappingOnce
@@ -14,6 +15,7 @@ pub mod RowsLeft
 pub mod RowsTested
 pub mod Settings
 pub mod SlotsFit
+pub mod SlotsKept
 pub mod Summing
 pub mod UnitsBeside
 pub mod UnitsFit
