@@ -3,6 +3,7 @@ pub mod ChangedRow
 pub mod ConfigureMade
 pub mod Counting
 pub mod CpusFit
+pub mod CpusKept
 pub mod DecisionGives
 pub mod DecisionMade
 pub mod DeriveMade
@@ -16,6 +17,7 @@ pub mod MemoryMade
 pub mod ObjectsFit
 pub mod ObjectsMade
 pub mod PagesFit
+pub mod PartsKept
 pub mod PlainMade
 pub mod ReferencesLaw
 pub mod ReferencesMoved
@@ -24,7 +26,12 @@ pub mod RowsLeft
 pub mod RowsTested
 pub mod Settings
 pub mod SlotsFit
+pub mod SlotsKept
 pub mod Summing
+pub mod UnitsBeside
 pub mod UnitsFit
+pub mod UnitsLeft
 pub mod UnitsMoved
 pub mod UnitsOfChange
+pub mod ValidKept
+pub mod WordsLeft

@@ -1,20 +1,27 @@
 -- Each change leaves the mapping rows of an address space few and apart, and what they name there.
-use Rattle.std.proofs.Common.{◌≡◌, ◌+◌, ◌<◌, ◌≤◌, ◌∙◌, ◌&&◌, ◌||◌, ◌++◌, ◌⊎◌, inl, inr, ℕ, Bool, true, false, not, List, [], ◌∷◌, refl, subst, sym, ap, arith, IsTrue}
+use Rattle.std.proofs.Common.{◌≡◌, ◌+◌, ◌<◌, ◌≤◌, ◌∙◌, ◌&&◌, ◌++◌, ◌⊎◌, inl, inr, ℕ, Bool, true, false, not, List, [], ◌∷◌, refl, subst, ap, arith, IsTrue, Option, Some, None, find, nat_le, nat_lt, ◌==◌}
 use Rattle.std.specs.Prelude.{count_by}
-use Rattle.std.specs.List.{list_all, list_any}
+use Rattle.std.specs.List.{list_any}
+use Rattle.std.specs.Option.{option_or}
 use Rattle.std.proofs.lemmas.Bool.{and_parts, and_from, cases_Bool, eqb-true, not-true, or_from, or_parts}
 use Rattle.std.proofs.lemmas.Bool.Decides.{nat_tests}
 use Rattle.std.proofs.lemmas.List.Folds.{list_any-append}
 use Rattle.gh_model.specs.declared.rows.ExtentRow.{ExtentRow}
 use Rattle.gh_model.specs.declared.rows.MappingRow.{MappingRow}
 use Rattle.gh_model.specs.declared.rows.ObjectRow.{ObjectRow}
+use Rattle.gh_base.specs.declared.kind.Kind.{Kind}
+use Rattle.gh_base.specs.declared.kind.Kind.TheVariants as kind
 use Rattle.gh_model.specs.Boot.{is_row_of, overlaps}
 use Rattle.gh_model.specs.Changes.{without}
 use Rattle.gh_model.specs.QueueCalls.{one_if}
-use Rattle.gh_invariant.specs.Lives.{are_apart, mapping_stands, meets}
+use Rattle.gh_model.specs.References.{is_mapping_of}
+use Rattle.gh_model.specs.Rows.{is_extent, is_object}
+use Rattle.gh_invariant.specs.Lives.{are_apart, lives_as, mapping_stands, meets, spans_row}
 use Rattle.gh_invariant.specs.Valid.{MappingsFit}
-use Rattle.gh_invariant.proofs.Counting.{all_by, all_push, count_push, without_here, without_later}
-use Rattle.gh_invariant.proofs.RowsLeft.{all_without, count_fewer}
+use Rattle.gh_invariant.proofs.Counting.{all_by, all_push, count_push, find_push, without_here, without_later}
+use Rattle.gh_invariant.proofs.RowsLeft.{all_left, all_without, count_fewer, find_left}
+use Rattle.gh_invariant.proofs.ObjectsFit.{lives_left}
+use Rattle.gh_invariant.proofs.RowsTested.{other_number}
 
 -- rows that have no page in common, in either order
 apart_turned : (row other : MappingRow) → overlaps row.space.0 row.base row.count other ≡ false → overlaps other.space.0 other.base other.count row ≡ false
@@ -83,3 +90,55 @@ names_stay old new before after mappings stays fit = record {
   few = fit.few;
   apart = fit.apart;
 }
+
+-- an extent more, or an object more, changes nothing of what a row names
+
+spans_or : (row : MappingRow) (old new : Option ExtentRow) → IsTrue (spans_row row old) → IsTrue (spans_row row (option_or old new))
+spans_or row None new spans = absurd (let never : ⊥ = cc in never)
+spans_or row (Some extent) new spans = spans
+
+same_named : (space space_now extent extent_now some within spans spans_now : Bool) → (space ≡ true → space_now ≡ true) → (extent ≡ true → extent_now ≡ true) → (spans ≡ true → spans_now ≡ true) → IsTrue (space && extent && some && within && spans) → IsTrue (space_now && extent_now && some && within && spans_now)
+same_named false space_now extent extent_now some within spans spans_now a b c stands = absurd (let never : ⊥ = cc in never)
+same_named true space_now false extent_now some within spans spans_now a b c stands = absurd (let never : ⊥ = cc in never)
+same_named true space_now true extent_now false within spans spans_now a b c stands = absurd (let never : ⊥ = cc in never)
+same_named true space_now true extent_now true false spans spans_now a b c stands = absurd (let never : ⊥ = cc in never)
+same_named true space_now true extent_now true true false spans_now a b c stands = absurd (let never : ⊥ = cc in never)
+same_named true space_now true extent_now true true true spans_now a b c stands = rw (a refl, b refl, c refl) refl
+
+module _ (old new : List ObjectRow) (before after : List ExtentRow) (lives : (serial : ℕ) (k : Kind) → IsTrue (lives_as old serial k) → IsTrue (lives_as new serial k)) (spans : (row : MappingRow) → IsTrue (spans_row row (find (is_extent row.extent.0) before)) → IsTrue (spans_row row (find (is_extent row.extent.0) after))) where
+  stands_on : (row : MappingRow) → IsTrue (mapping_stands old before row) → IsTrue (mapping_stands new after row)
+  stands_on row stands =
+      same_named (lives_as old row.space.0 kind.Space) (lives_as new row.space.0 kind.Space) (lives_as old row.extent.0 kind.Extent) (lives_as new row.extent.0 kind.Extent)
+      (nat_lt 0 row.count) (nat_le (row.base + row.count) 4096)
+      (spans_row row (find (is_extent row.extent.0) before)) (spans_row row (find (is_extent row.extent.0) after))
+      (lives row.space.0 kind.Space) (lives row.extent.0 kind.Extent) (spans row) stands
+
+-- where what lives lives on
+pub lives_keep_mappings : (old new : List ObjectRow) (extents : List ExtentRow) (mappings : List MappingRow) → ((serial : ℕ) (k : Kind) → IsTrue (lives_as old serial k) → IsTrue (lives_as new serial k)) → MappingsFit old extents mappings → MappingsFit new extents mappings
+lives_keep_mappings old new extents mappings lives fit =
+    names_stay old new extents extents mappings (stands_on old new extents extents lives (λ row spans. spans)) fit
+
+-- an extent more
+pub span_keeps_mappings : (objects : List ObjectRow) (extents : List ExtentRow) (mappings : List MappingRow) (row : ExtentRow) → MappingsFit objects extents mappings → MappingsFit objects (extents ++ row ∷ []) mappings
+span_keeps_mappings objects extents mappings row fit =
+    names_stay objects objects extents (extents ++ row ∷ []) mappings
+    (stands_on objects objects extents (extents ++ row ∷ []) (λ serial k lives. lives) (λ one spans. ap (spans_row one) (find_push (is_extent one.extent.0) extents row) ∙ spans_or one (find (is_extent one.extent.0) extents) (find (is_extent one.extent.0) (row ∷ [])) spans)) fit
+
+-- an object is reclaimed, and the rows that name it go
+
+module _ (objects : List ObjectRow) (extents : List ExtentRow) (mappings : List MappingRow) (object : ℕ) where
+  named_left : (row : MappingRow) → is_mapping_of object row ≡ false → mapping_stands (without (is_object object) objects) (without (is_extent object) extents) row ≡ mapping_stands objects extents row
+  named_left row apart =
+      let parts : ((row.space.0 == object) ≡ false) × ((row.extent.0 == object) ≡ false) = or_parts _ _ apart in
+      rw (lives_left objects object row.space.0 kind.Space parts.0)
+      (rw (lives_left objects object row.extent.0 kind.Extent parts.1)
+      (rw (find_left (is_extent row.extent.0) (is_extent object) extents (λ one is. other_number one.serial.0 row.extent.0 object parts.1 is)) refl))
+
+  pub reclaim_keeps_mappings : MappingsFit objects extents mappings → MappingsFit (without (is_object object) objects) (without (is_extent object) extents) (without (is_mapping_of object) mappings)
+  reclaim_keeps_mappings fit =
+      let fewer : MappingsFit objects extents (without (is_mapping_of object) mappings) = drop_keeps_mappings objects extents mappings fit (is_mapping_of object) in
+      record {
+        stand = all_left (mapping_stands objects extents) (mapping_stands (without (is_object object) objects) (without (is_extent object) extents)) (is_mapping_of object) mappings (λ row apart stands. named_left row apart ∙ stands) fit.stand;
+        few = fewer.few;
+        apart = fewer.apart;
+      }

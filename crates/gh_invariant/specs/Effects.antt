@@ -1,9 +1,9 @@
 -- What each change does to references: the objects that it gives a reference, and those that it takes
 -- one from, each named once for each reference. And the units that it takes
 -- from partitions or returns to them, and the slot that it sets.
-use Rattle.std.specs.Prelude.{◌==◌, ◌&&◌, ◌+◌, not, ℕ, Bool, true, false, List, [], ◌∷◌, ◌++◌, Option, Some, None, find, count_by, sum_by, if◌then◌else◌}
+use Rattle.std.specs.Prelude.{◌==◌, ◌&&◌, not, ℕ, Bool, false, List, [], ◌∷◌, ◌++◌, Option, Some, None, find, count_by, sum_by, if◌then◌else◌, option_map}
 use Rattle.gh_base.specs.declared.ids.Serial.{Serial}
-use Rattle.gh_model.specs.Changes.{changed}
+use Rattle.gh_model.specs.Changes.{changed, as_revoked}
 use Rattle.gh_model.specs.Rows.{object_row, cpu_row, is_partition, is_extent, fills}
 use Rattle.gh_model.specs.declared.change.Change.{Change}
 use Rattle.gh_model.specs.declared.change.Change.TheVariants.{PutCapability, DropCapability, RevokeCapability, AddObject, Reclaim, GiveQuota, ConfigureQueue, AddExtent, PutMapping, DropMapping, Exit}
@@ -133,11 +133,21 @@ sets (DropCapability cspace slot) = Some (cspace.0, slot)
 sets (RevokeCapability cspace slot) = Some (cspace.0, slot)
 sets _ = None
 
--- the change leaves the slot as it is: it sets another or none, and the slot's capability space stays
-abbrev pub is_other_slot : ℕ → ℕ → Option (ℕ × ℕ) → Bool
-is_other_slot cspace slot None = true
-is_other_slot cspace slot (Some place) = not ((place.0 == cspace) && (place.1 == slot))
+-- the capability in the slot that a change sets, once it is made
+abbrev pub leaves_in : State → Change → Option CapabilityRow
+leaves_in s (PutCapability row) = Some row
+leaves_in s (RevokeCapability cspace slot) = option_map as_revoked (find (fills cspace.0 slot) s.caps)
+leaves_in s _ = None
 
+-- the change sets this slot
+abbrev pub is_place : ℕ → ℕ → Option (ℕ × ℕ) → Bool
+is_place cspace slot None = false
+is_place cspace slot (Some place) = (place.0 == cspace) && (place.1 == slot)
+
+abbrev pub sets_slot : ℕ → ℕ → Change → Bool
+sets_slot cspace slot change = is_place cspace slot (sets change)
+
+-- the change leaves the slot as it is: it sets another or none, and the slot's capability space stays
 abbrev pub leaves : ℕ → ℕ → Change → Bool
 leaves cspace slot (Reclaim object) = not (object.0 == cspace)
-leaves cspace slot change = is_other_slot cspace slot (sets change)
+leaves cspace slot change = not (sets_slot cspace slot change)

@@ -3,6 +3,12 @@
 
 mod decision;
 mod law;
+mod references;
+mod units;
+mod words;
 
 pub use decision::{decisions_give_to_referred, decisions_may_be_made};
-pub use law::{change_keeps_valid, change_moves_references, change_moves_units};
+pub use law::change_keeps_valid;
+pub use references::change_moves_references;
+pub use units::change_moves_units;
+pub use words::{change_sets_word, words_stay};
