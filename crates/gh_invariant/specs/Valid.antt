@@ -50,8 +50,8 @@ pub record KindRowsFit (objects : List ObjectRow) (partition_rows : List Partiti
 
 -- units: what a partition uses and gives is within its quota
 pub record UnitsFit (objects : List ObjectRow) (partitions : List PartitionRow) (extents : List ExtentRow) : Type 0 where
-  pub within : (partition : ℕ) → used_by objects partition + given_by partitions partition
-      ≤ row_quota (find (is_partition partition) partitions)
+  pub within : (partition : ℕ) → 0 < partition
+      → used_by objects partition + given_by partitions partition ≤ row_quota (find (is_partition partition) partitions)
   pub quotas : IsTrue (list_all (quota_fits objects) partitions)
   pub costs : IsTrue (list_all (cost_fits partitions extents) objects)
 
