@@ -1,5 +1,5 @@
 -- Each change leaves an object of a kind with the one row of its kind, and other serials without one.
-use Rattle.std.proofs.Common.{◌≡◌, ◌+◌, ◌≤◌, ◌<◌, ◌∙◌, ◌&&◌, ◌==◌, ◌^◌, ◌-◌, ◌⊎◌, inl, inr, ℕ, Bool, true, false, List, [], ◌∷◌, ◌++◌, refl, subst, sym, ap, arith, IsTrue, Option, Some, None, find}
+use Rattle.std.proofs.Common.{◌≡◌, ◌+◌, ◌≤◌, ◌∙◌, ◌&&◌, ◌==◌, ◌^◌, ◌-◌, ℕ, Bool, true, false, List, [], ◌∷◌, ◌++◌, refl, subst, sym, ap, arith, IsTrue, None, find}
 use Rattle.std.specs.Prelude.{count_by}
 use Rattle.std.proofs.lemmas.Bool.{eqb-true}
 use Rattle.std.proofs.lemmas.List.Sums.{sum_by-append}
@@ -17,7 +17,7 @@ use Rattle.gh_model.specs.declared.rows.PartitionRow.{PartitionRow}
 use Rattle.gh_model.specs.declared.rows.QueueRow.{QueueRow}
 use Rattle.gh_invariant.specs.Lives.{lives_as}
 use Rattle.gh_invariant.specs.Valid.{KindRowsFit, ObjectsFit}
-use Rattle.gh_invariant.proofs.Counting.{count_cons, count_push, count_unfound, one_false, one_true}
+use Rattle.gh_invariant.proofs.Counting.{count_cons, count_push, count_unfound, one_true}
 use Rattle.gh_invariant.proofs.ObjectsFit.{lives_gone, lives_left, lives_more}
 use Rattle.gh_invariant.proofs.RowsLeft.{count_gone, count_left}
 use Rattle.gh_invariant.proofs.RowsTested.{other_number}

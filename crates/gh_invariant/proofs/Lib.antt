@@ -22,4 +22,5 @@ pub mod UnitsFit
 pub mod UnitsLeft
 pub mod UnitsMoved
 pub mod UnitsOfChange
+pub mod ValidKept
 pub mod WordsLeft

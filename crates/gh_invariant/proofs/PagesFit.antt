@@ -1,5 +1,5 @@
 -- Each change leaves every page with a holder in whose span it lies, and every span in its parent's.
-use Rattle.std.proofs.Common.{◌≡◌, ◌+◌, ◌<◌, ◌≤◌, ◌∙◌, ◌&&◌, ◌||◌, ◌==◌, ◌++◌, ◌⊎◌, inl, inr, ℕ, zero, suc, Bool, true, false, not, List, [], ◌∷◌, length, take, drop, map, find, refl, subst, sym, ap, arith, IsTrue, Option, Some, None, slice_get, if◌then◌else◌, nat_le, nat_lt, option_map}
+use Rattle.std.proofs.Common.{◌≡◌, ◌+◌, ◌<◌, ◌≤◌, ◌∙◌, ◌&&◌, ◌||◌, ◌==◌, ◌++◌, ◌⊎◌, inl, inr, ℕ, zero, suc, Bool, true, false, not, List, [], ◌∷◌, length, take, drop, map, find, refl, subst, sym, arith, IsTrue, Option, Some, None, slice_get, if◌then◌else◌, nat_le, nat_lt, option_map}
 use Rattle.std.specs.Prelude.{count_by, replicate}
 use Rattle.std.specs.List.{list_all}
 use Rattle.std.specs.Option.{option_map_or, option_or}

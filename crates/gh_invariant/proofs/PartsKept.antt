@@ -1,6 +1,6 @@
 -- A change that may be made keeps what is said of objects, of rows of their kinds, of units, of pages
 -- and of mapping rows.
-use Rattle.std.proofs.Common.{◌≡◌, ◌+◌, ◌≤◌, ◌<◌, ◌∙◌, ◌==◌, ◌++◌, ℕ, zero, suc, Bool, true, false, List, [], ◌∷◌, refl, subst, sym, ap, arith, IsTrue, Option, Some, None, find, nat_le}
+use Rattle.std.proofs.Common.{◌≡◌, ◌+◌, ◌≤◌, ◌<◌, ◌∙◌, ◌==◌, ◌++◌, ℕ, zero, suc, Bool, true, false, List, [], ◌∷◌, refl, sym, ap, arith, IsTrue, Option, Some, None, find, nat_le}
 use Rattle.std.specs.Prelude.{count_by}
 use Rattle.std.proofs.lemmas.Bool.{eqb-true, leb-false, ne_eqb}
 use Rattle.gh_base.specs.Kind.{kind_number}
@@ -10,14 +10,13 @@ use Rattle.gh_base.specs.declared.kind.Kind.TheVariants as kind
 use Rattle.gh_base.specs.declared.kind.Stage.{Stage}
 use Rattle.gh_base.specs.declared.limits.TheConstants.{CSPACES, PARTITIONS}
 use Rattle.gh_model.specs.Boot.{is_of_kind}
-use Rattle.gh_model.specs.Changes.{changed, is_mapping, replaced, with_cost, with_counters, with_message, with_quota, with_room, with_stage, without, without_first, without_messages}
+use Rattle.gh_model.specs.Changes.{changed, is_mapping, replaced, with_cost, with_counters, with_message, with_quota, with_room, with_stage, without_first, without_messages}
 use Rattle.gh_model.specs.History.{is_retired}
 use Rattle.gh_model.specs.ObjectCalls.{is_full}
 use Rattle.gh_model.specs.QueueCalls.{one_if}
 use Rattle.gh_model.specs.Rows.{change_row, is_bell, is_extent, is_object, is_partition, is_queue, object_row}
 use Rattle.gh_model.specs.declared.change.Change.{Change}
 use Rattle.gh_model.specs.declared.change.Change.TheVariants.{PutCapability, DropCapability, RevokeCapability, AddObject, SetStage, Retire, Reclaim, GiveQuota, AddExtent, MovePages, PutMapping, DropMapping, SetBell, ConfigureQueue, PutMessage, DropMessage, EmptyQueue, Exit, Ring}
-use Rattle.gh_model.specs.declared.rows.BellRow.{BellRow}
 use Rattle.gh_model.specs.declared.rows.ObjectRow.{ObjectRow}
 use Rattle.gh_model.specs.declared.rows.QueueRow.{QueueRow}
 use Rattle.gh_model.specs.declared.state.State.{State}

@@ -1,6 +1,6 @@
 -- An object more leaves what a partition uses and gives within its quota, and quotas and costs in order.
-use Rattle.std.proofs.Common.{◌≡◌, ◌+◌, ◌-◌, ◌≤◌, ◌<◌, ◌∙◌, ◌&&◌, ◌||◌, ◌==◌, ◌⊎◌, inl, inr, ℕ, Bool, true, false, not, List, [], ◌∷◌, ◌++◌, refl, subst, sym, ap, arith, IsTrue, Option, Some, None, find, nat_le, nat_lt, if◌then◌else◌}
-use Rattle.std.specs.Prelude.{count_by, is_some}
+use Rattle.std.proofs.Common.{◌≡◌, ◌+◌, ◌≤◌, ◌<◌, ◌∙◌, ◌&&◌, ◌||◌, ◌==◌, ℕ, Bool, true, false, not, List, [], ◌∷◌, ◌++◌, refl, subst, sym, ap, arith, IsTrue, Option, Some, None, find, nat_le, nat_lt, if◌then◌else◌}
+use Rattle.std.specs.Prelude.{is_some}
 use Rattle.std.specs.List.{list_all}
 use Rattle.std.specs.Option.{option_or}
 use Rattle.std.proofs.lemmas.Bool.{and_from, and_parts, eq-eqb, eqb-true, lt-ltb}
@@ -19,7 +19,7 @@ use Rattle.gh_model.specs.declared.rows.PartitionRow.{PartitionRow}
 use Rattle.gh_invariant.specs.Lives.{cost_fits, is_new, lives_under, quota_fits}
 use Rattle.gh_invariant.specs.Valid.{UnitsFit}
 use Rattle.gh_invariant.proofs.Counting.{all_by, all_push, find_push, find_push_new}
-use Rattle.gh_invariant.proofs.UnitsMoved.{cost_in, given_push, used_push}
+use Rattle.gh_invariant.proofs.UnitsMoved.{given_push, used_push}
 
 -- quotas
 

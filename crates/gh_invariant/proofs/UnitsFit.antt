@@ -1,34 +1,27 @@
 -- Each change leaves what a partition uses and gives within its quota, and quotas and costs in order.
-use Rattle.std.proofs.Common.{◌≡◌, ◌+◌, ◌-◌, ◌≤◌, ◌<◌, ◌∙◌, ◌&&◌, ◌||◌, ◌==◌, ◌⊎◌, inl, inr, ℕ, Bool, true, false, not, List, [], ◌∷◌, ◌++◌, refl, subst, sym, ap, arith, IsTrue, Option, Some, None, find, option_map, nat_le, nat_lt, if◌then◌else◌}
-use Rattle.std.specs.Prelude.{count_by, is_some}
+use Rattle.std.proofs.Common.{◌≡◌, ◌+◌, ◌≤◌, ◌<◌, ◌∙◌, ◌==◌, ℕ, Bool, true, false, List, [], ◌∷◌, ◌++◌, refl, subst, sym, ap, arith, IsTrue, Option, Some, find, option_map, nat_le, nat_lt, if◌then◌else◌}
+use Rattle.std.specs.Prelude.{count_by}
 use Rattle.std.specs.List.{list_all}
-use Rattle.std.specs.Option.{option_or}
-use Rattle.std.proofs.lemmas.Bool.{and_from, and_parts, cases_Bool, eq-eqb, eqb-true, le-leb, leb-true, lt-ltb, ne_eqb}
+use Rattle.std.proofs.lemmas.Bool.{and_from, and_parts, eqb-true, le-leb, lt-ltb}
 use Rattle.std.proofs.lemmas.Bool.Decides.{nat_tests}
-use Rattle.std.proofs.lemmas.List.Folds.{find-append, list_all-append}
-use Rattle.gh_base.specs.Kind.{kind_number}
 use Rattle.gh_base.specs.declared.ids.Serial.{Serial}
-use Rattle.gh_base.specs.declared.kind.Kind.{Kind}
-use Rattle.gh_base.specs.declared.kind.Kind.TheVariants as kind
 use Rattle.gh_base.specs.declared.kind.Stage.{Stage}
 use Rattle.gh_base.specs.declared.limits.TheConstants.{PARTITION_UNITS}
-use Rattle.gh_model.specs.Boot.{is_of_kind}
-use Rattle.gh_model.specs.Changes.{new_partitions, with_cost, with_counters, with_quota, with_stage, without}
+use Rattle.gh_model.specs.Changes.{with_cost, with_counters, with_quota, with_stage}
 use Rattle.gh_model.specs.Decisions.{is_init_stage}
-use Rattle.gh_model.specs.References.{is_inhabitant_of}
 use Rattle.gh_model.specs.Rows.{change_row, is_extent, is_object, is_partition}
 use Rattle.gh_model.specs.Units.{given_by, is_given_by, lives_in, rest_units, row_quota, used_by}
 use Rattle.gh_model.specs.declared.rows.ExtentRow.{ExtentRow}
 use Rattle.gh_model.specs.declared.rows.ObjectRow.{ObjectRow}
 use Rattle.gh_model.specs.declared.rows.PartitionRow.{PartitionRow}
-use Rattle.gh_invariant.specs.Lives.{cost_fits, is_new, lives_under, quota_fits}
+use Rattle.gh_invariant.specs.Lives.{cost_fits, lives_under, quota_fits}
 use Rattle.gh_invariant.specs.Valid.{UnitsFit}
-use Rattle.gh_invariant.proofs.Counting.{all_by, all_push, find_push_other}
-use Rattle.gh_invariant.proofs.ChangedRow.{all_change, find_change, find_change_seen, find_past_change}
+use Rattle.gh_invariant.proofs.Counting.{all_by, find_push_other}
+use Rattle.gh_invariant.proofs.ChangedRow.{all_change, find_change_seen, find_past_change}
 use Rattle.gh_invariant.proofs.ObjectsFit.{KeepsPlace}
 use Rattle.gh_invariant.proofs.RowsTested.{all_change_found, all_pinned, other_number}
-use Rattle.gh_invariant.proofs.Summing.{number_found, number_if}
-use Rattle.gh_invariant.proofs.UnitsMoved.{cost_in, given_change, given_push, quota_in, used_change, used_kept, used_push}
+use Rattle.gh_invariant.proofs.Summing.{number_found}
+use Rattle.gh_invariant.proofs.UnitsMoved.{cost_in, given_change, quota_in, used_change, used_kept}
 
 -- the objects' rows change, but for what quotas are said of
 

@@ -5,8 +5,8 @@ use Rattle.std.proofs.lemmas.List.Sums.{sum_by-append, sum_by-cons, sum_by_push}
 use Rattle.gh_base.specs.declared.ids.Serial.{Serial}
 use Rattle.gh_base.specs.declared.kind.Kind.{Kind}
 use Rattle.gh_base.specs.declared.kind.Kind.TheVariants as kind
-use Rattle.gh_model.specs.Changes.{new_partitions, with_cost, with_counters, with_quota, with_stage, without}
-use Rattle.gh_model.specs.Rows.{change_row, is_object, is_partition}
+use Rattle.gh_model.specs.Changes.{new_partitions, with_cost, with_quota, without}
+use Rattle.gh_model.specs.Rows.{change_row}
 use Rattle.gh_model.specs.Units.{given_by, is_given_by, lives_in, object_cost, partition_quota, used_by}
 use Rattle.gh_model.specs.declared.rows.ObjectRow.{ObjectRow}
 use Rattle.gh_model.specs.declared.rows.PartitionRow.{PartitionRow}

@@ -1,6 +1,6 @@
 -- When a change may be made: what the state before it must have, so that the state after it is valid
 -- and references change as the change tells.
-use Rattle.std.specs.Prelude.{◌≡◌, ◌+◌, ◌≤◌, ◌<◌, ℕ, true, false, List, [], ◌∷◌, length, Option, Some, None, IsTrue, ⊤, find, is_some, count_by}
+use Rattle.std.specs.Prelude.{◌≡◌, ◌+◌, ◌≤◌, ◌<◌, ℕ, true, false, List, [], ◌∷◌, length, Some, None, IsTrue, ⊤, find, is_some, count_by}
 use Rattle.gh_base.specs.declared.ids.Serial.{Serial}
 use Rattle.gh_base.specs.declared.kind.Kind.TheVariants as kind
 use Rattle.gh_base.specs.declared.limits.TheConstants.{PARTITION_UNITS}
@@ -11,7 +11,7 @@ use Rattle.gh_model.specs.History.{is_unretired, is_retired}
 use Rattle.gh_model.specs.MemoryCalls.{is_within_span}
 use Rattle.gh_model.specs.ObjectCalls.{is_full}
 use Rattle.gh_model.specs.References.{references}
-use Rattle.gh_model.specs.Rows.{object_row, cpu_row, is_partition, is_extent, fills}
+use Rattle.gh_model.specs.Rows.{object_row, is_partition, is_extent, fills}
 use Rattle.gh_model.specs.Units.{free_units}
 use Rattle.gh_model.specs.Word.{is_slot}
 use Rattle.gh_model.specs.declared.change.Change.{Change}
@@ -21,7 +21,6 @@ use Rattle.gh_model.specs.declared.rows.PartitionRow.{PartitionRow}
 use Rattle.gh_model.specs.declared.rows.ExtentRow.{ExtentRow}
 use Rattle.gh_model.specs.declared.rows.CapabilityRow.{CapabilityRow}
 use Rattle.gh_model.specs.declared.rows.MappingRow.{MappingRow}
-use Rattle.gh_model.specs.declared.rows.CpuRow.{CpuRow}
 use Rattle.gh_model.specs.declared.state.State.{State}
 use Rattle.gh_invariant.specs.Lives.{span_fits, mapping_stands, meets}
 

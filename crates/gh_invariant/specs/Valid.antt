@@ -1,5 +1,5 @@
 -- What every state of the machine keeps, from the boot on and through every entry of the history.
-use Rattle.std.specs.Prelude.{◌≡◌, ◌+◌, ◌≤◌, ◌<◌, ℕ, List, [], length, Option, Some, None, IsTrue, find, count_by, slice_get}
+use Rattle.std.specs.Prelude.{◌≡◌, ◌+◌, ◌≤◌, ◌<◌, ℕ, List, [], length, Some, IsTrue, find, count_by, slice_get}
 use Rattle.std.specs.List.{list_all}
 use Rattle.gh_base.specs.declared.ids.Serial.{Serial}
 use Rattle.gh_base.specs.declared.kind.Kind.TheVariants as kind

@@ -1,23 +1,14 @@
-//! What each change of the state keeps and moves. The functions do nothing; their clauses are laws.
+//! What each change of the state keeps. The functions do nothing; their clauses are laws.
 
-ghost use Rattle.std.specs.Prelude.{◌≡◌, ◌+◌, ℕ};
-ghost use Rattle.gh_invariant.specs.Effects.{takes, returns, units_of};
+ghost use Rattle.std.specs.Prelude.{◌+◌, ◌≤◌, ℕ};
 ghost use Rattle.gh_invariant.specs.Premises.{MayChange};
-ghost use Rattle.gh_invariant.specs.Valid.{IsValid};
+ghost use Rattle.gh_invariant.specs.Valid.{IsValidTo};
 ghost use Rattle.gh_model.specs.Changes.{changed};
-ghost use Rattle.gh_model.specs.Units.{used_units, given_units};
 ghost use Rattle.gh_model.specs.declared.change.Change.{Change};
 ghost use Rattle.gh_model.specs.declared.state.State.{State};
 
-/// A change that may be made leaves a valid state.
+/// A change that may be made leaves a valid state, in the midst of an entry.
 pub fn change_keeps_valid()
-    ensures { (s : State) (change : Change) → IsValid s → MayChange s change → IsValid (changed s change) }
-{}
-
-/// What a partition uses and gives changes by just what the change takes and returns.
-pub fn change_moves_units()
-    ensures { (s : State) (change : Change) (partition : ℕ) → IsValid s → MayChange s change
-        → used_units (changed s change) partition + given_units (changed s change) partition
-        + units_of partition (returns s change)
-        ≡ used_units s partition + given_units s partition + units_of partition (takes s change) }
+    ensures { (last : ℕ) (s : State) (change : Change) → s.entries + 1 ≤ last → IsValidTo last s → MayChange s change
+        → IsValidTo last (changed s change) }
 {}
