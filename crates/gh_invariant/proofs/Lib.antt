@@ -1,7 +1,9 @@
 pub mod ChangedRow
+pub mod ChangesInOrder
 pub mod Counting
 pub mod CpusFit
 pub mod CpusKept
+pub mod EntriesKept
 pub mod KindRowsFit
 pub mod Living
 pub mod MappingOnce
