@@ -1,15 +1,14 @@
 -- Changes in order keep and move what each of them keeps and moves.
-use Rattle.std.proofs.Common.{◌≡◌, ◌+◌, ◌<◌, ◌≤◌, ◌∙◌, ◌++◌, ℕ, List, [], ◌∷◌, refl, subst, sym, arith}
+use Rattle.std.proofs.Common.{◌≡◌, ◌+◌, ◌<◌, ◌≤◌, ◌∙◌, ℕ, List, [], ◌∷◌, refl, subst, sym, arith}
 use Rattle.std.proofs.lemmas.List.Sums.{sum_by-append}
-use Rattle.gh_base.specs.declared.ids.Serial.{Serial}
 use Rattle.gh_model.specs.Changes.{changed, changed_all}
 use Rattle.gh_model.specs.References.{references}
 use Rattle.gh_model.specs.Units.{used_units, given_units}
 use Rattle.gh_model.specs.declared.change.Change.{Change}
 use Rattle.gh_model.specs.declared.change.Change.TheVariants.{PutCapability, DropCapability, RevokeCapability, AddObject, SetStage, Retire, Reclaim, GiveQuota, AddExtent, MovePages, PutMapping, DropMapping, SetBell, ConfigureQueue, PutMessage, DropMessage, EmptyQueue, Exit, Ring}
 use Rattle.gh_model.specs.declared.state.State.{State}
-use Rattle.gh_invariant.specs.Effects.{is_that, times, gains, losses, gained, lost, Share, share_for, units_of, takes, returns, takes_all, returns_all}
-use Rattle.gh_invariant.specs.Premises.{MayChange, MayChangeAll}
+use Rattle.gh_invariant.specs.Effects.{is_that, times, gains, losses, gained, lost, share_for, units_of, takes, returns, takes_all, returns_all}
+use Rattle.gh_invariant.specs.Premises.{MayChangeAll}
 use Rattle.gh_invariant.specs.Valid.{IsValidTo}
 use Rattle.gh_invariant.proofs.Counting.{count_append}
 use Rattle.gh_invariant.proofs.ReferencesLaw.{moves}

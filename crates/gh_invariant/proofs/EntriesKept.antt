@@ -1,6 +1,5 @@
 -- A state that is valid between two entries is so behind the next one, once that is counted.
-use Rattle.std.proofs.Common.{◌≡◌, ◌+◌, ◌≤◌, ◌∙◌, ◌&&◌, ℕ, Bool, true, false, not, List, refl, subst, sym, arith, IsTrue, Option, Some, None, find, is_some, if◌then◌else◌}
-use Rattle.std.specs.List.{list_all}
+use Rattle.std.proofs.Common.{◌≡◌, ◌+◌, ◌≤◌, ◌&&◌, ℕ, Bool, true, false, List, refl, arith, IsTrue, Option, Some, None, find, is_some, if◌then◌else◌}
 use Rattle.std.proofs.lemmas.Bool.{and_parts, leb-true, le-leb, eqb-true}
 use Rattle.gh_base.specs.declared.ids.Serial.{Serial}
 use Rattle.gh_model.specs.Act.{counted}

@@ -8,6 +8,7 @@ pub mod KindRowsFit
 pub mod Living
 pub mod MappingOnce
 pub mod MappingsFit
+pub mod NotLiving
 pub mod ObjectsFit
 pub mod PagesFit
 pub mod PartsKept
