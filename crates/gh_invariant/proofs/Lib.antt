@@ -9,6 +9,7 @@ pub mod MappingsFit
 pub mod ObjectsFit
 pub mod PagesFit
 pub mod PartsKept
+pub mod QueuesKept
 pub mod ReferencesLaw
 pub mod ReferencesMoved
 pub mod RowsLeft
