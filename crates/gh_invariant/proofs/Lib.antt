@@ -12,6 +12,7 @@ pub mod NotLiving
 pub mod ObjectsFit
 pub mod PagesFit
 pub mod PartsKept
+pub mod QueuesKept
 pub mod ReferencesLaw
 pub mod ReferencesMoved
 pub mod RowsLeft

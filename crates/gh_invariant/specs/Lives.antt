@@ -1,11 +1,11 @@
 -- Which objects live, and what a row needs of those that live. An object lives from its creation to
 -- its reclaim, doomed or not.
-use Rattle.std.specs.Prelude.{◌==◌, ◌&&◌, ◌||◌, ◌+◌, not, ℕ, Bool, true, false, List, [], ◌∷◌, Option, Some, None, find, is_some, count_by, nat_le, nat_lt, if◌then◌else◌}
-use Rattle.std.specs.List.{list_any}
+use Rattle.std.specs.Prelude.{◌==◌, ◌&&◌, ◌||◌, ◌+◌, not, ℕ, length, Bool, true, false, List, [], ◌∷◌, Option, Some, None, find, is_some, count_by, nat_le, nat_lt, if◌then◌else◌}
+use Rattle.std.specs.List.{list_all, list_any}
 use Rattle.gh_base.specs.Kind.{kind_number}
 use Rattle.gh_base.specs.declared.kind.Kind.{Kind}
 use Rattle.gh_base.specs.declared.kind.Kind.TheVariants as kind
-use Rattle.gh_base.specs.declared.limits.TheConstants.{PARTITION_UNITS}
+use Rattle.gh_base.specs.declared.limits.TheConstants.{MESSAGE_BYTES, PARTITION_UNITS, QUEUE_DEPTH}
 use Rattle.gh_model.specs.Boot.{access_fits, is_of_kind, overlaps}
 use Rattle.gh_model.specs.Decisions.{is_init_stage}
 use Rattle.gh_model.specs.MemoryCalls.{is_within_span}
@@ -20,6 +20,7 @@ use Rattle.gh_model.specs.declared.rows.SetAtRow.{SetAtRow}
 use Rattle.gh_model.specs.declared.rows.MappingRow.{MappingRow}
 use Rattle.gh_model.specs.declared.rows.CpuRow.{CpuRow}
 use Rattle.gh_model.specs.declared.rows.LinkRow.{LinkRow}
+use Rattle.gh_model.specs.declared.rows.QueueRow.{QueueRow}
 
 -- an object of this serial lives
 abbrev pub lives : List ObjectRow → ℕ → Bool
@@ -66,6 +67,10 @@ abbrev pub span_fits : ℕ → List ExtentRow → ExtentRow → Bool
 span_fits pages extents row =
     nat_lt 0 row.count && nat_le (row.first.0 + row.count) pages
     && (is_root pages row || is_part_of row (find (is_extent row.parent.0) extents))
+
+-- the extent has no parent
+abbrev pub is_parentless : ExtentRow → Bool
+is_parentless row = row.parent.0 == 0
 
 -- the page lies in the span
 abbrev pub spans_page : ℕ → Option ExtentRow → Bool
@@ -131,3 +136,13 @@ abbrev pub link_stands : List ObjectRow → List CpuRow → LinkRow → Bool
 link_stands objects cpus row =
     space_lives objects (find (is_cpu row.vm.0) cpus) && lives_as objects row.extent.0 kind.Extent
     && lives_as objects row.request.0 kind.Queue && lives_as objects row.reply.0 kind.Queue
+
+-- a queue has at most 64 messages of at most 1,024 bytes, no more than its depth and none longer than
+-- its size
+abbrev pub is_short : ℕ → List ℕ → Bool
+is_short size message = nat_le (length message) size
+
+abbrev pub queue_fits : QueueRow → Bool
+queue_fits row =
+    nat_le row.depth QUEUE_DEPTH && nat_le row.size MESSAGE_BYTES
+    && nat_le (length row.messages) row.depth && list_all (is_short row.size) row.messages

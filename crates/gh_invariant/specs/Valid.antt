@@ -19,7 +19,7 @@ use Rattle.gh_model.specs.declared.rows.QueueRow.{QueueRow}
 use Rattle.gh_model.specs.declared.rows.CpuRow.{CpuRow}
 use Rattle.gh_model.specs.declared.rows.LinkRow.{LinkRow}
 use Rattle.gh_model.specs.declared.state.State.{State}
-use Rattle.gh_invariant.specs.Lives.{lives_as, is_housed, slot_fits, setting_fits, span_fits, spans_page, mapping_stands, are_apart, quota_fits, cost_fits, cpu_fits, link_stands, kind_total}
+use Rattle.gh_invariant.specs.Lives.{is_parentless, queue_fits, lives_as, is_housed, slot_fits, setting_fits, span_fits, spans_page, mapping_stands, are_apart, quota_fits, cost_fits, cpu_fits, link_stands, kind_total}
 
 -- objects: a serial is that of one object at most, and each object lives in a partition that lives
 pub record ObjectsFit (next_serial : ℕ) (objects : List ObjectRow) : Type 0 where
@@ -61,6 +61,8 @@ pub record UnitsFit (objects : List ObjectRow) (partitions : List PartitionRow) 
 pub record PagesFit (holders : List Serial) (extents : List ExtentRow) : Type 0 where
   pub few : length holders ≤ MACHINE_PAGES
   pub spans : IsTrue (list_all (span_fits (length holders) extents) extents)
+  -- one extent at most is the root
+  pub root : count_by is_parentless extents ≤ 1
   pub held : 0 < length extents → (page : ℕ) (holder : Serial) → slice_get holders page ≡ Some holder
       → IsTrue (spans_page page (find (is_extent holder.0) extents))
 
@@ -85,6 +87,7 @@ pub record IsValidTo (last : ℕ) (s : State) : Type 0 where
   pub pages : PagesFit s.holders s.extents
   pub mappings : MappingsFit s.objects s.extents s.mappings
   pub cpus : CpusFit s.objects s.cpus s.links
+  pub queues : IsTrue (list_all queue_fits s.queues)
   -- no parcels are made yet
   pub parcels : s.parcels ≡ []
 
