@@ -1,11 +1,14 @@
 pub mod ChangedRow
+pub mod ChangesInOrder
 pub mod Counting
 pub mod CpusFit
 pub mod CpusKept
+pub mod EntriesKept
 pub mod KindRowsFit
 pub mod Living
 pub mod MappingOnce
 pub mod MappingsFit
+pub mod NotLiving
 pub mod ObjectsFit
 pub mod PagesFit
 pub mod PartsKept
