@@ -43,6 +43,7 @@ valid_more last later s more valid = record {
   pages = valid.pages;
   mappings = valid.mappings;
   cpus = valid.cpus;
+  queues = valid.queues;
   parcels = valid.parcels;
 }
 
@@ -59,6 +60,7 @@ counted_valid s valid = record {
   pages = valid.pages;
   mappings = valid.mappings;
   cpus = valid.cpus;
+  queues = valid.queues;
   parcels = valid.parcels;
 }
 
@@ -72,6 +74,7 @@ numbered_valid s valid = record {
   pages = valid.pages;
   mappings = valid.mappings;
   cpus = valid.cpus;
+  queues = valid.queues;
   parcels = valid.parcels;
 }
 
@@ -84,6 +87,7 @@ took_valid s space slot valid = record {
   pages = valid.pages;
   mappings = valid.mappings;
   cpus = valid.cpus;
+  queues = valid.queues;
   parcels = valid.parcels;
 }
 
