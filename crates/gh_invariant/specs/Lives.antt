@@ -98,15 +98,20 @@ abbrev pub are_apart : List MappingRow → Bool
 are_apart [] = true
 are_apart (row ∷ rows) = not (meets row rows) && are_apart rows
 
--- the partition's quota is the boot's, or its partition gave it, and it is at most 128 units
+-- the object lives in the partition
 abbrev pub lives_under : ℕ → Option ObjectRow → Bool
-lives_under parent None = false
-lives_under parent (Some row) = row.partition.0 == parent
+lives_under partition None = false
+lives_under partition (Some row) = row.partition.0 == partition
 
+-- the one that gave a partition its quota, or for a quota of the boot the partition itself
+abbrev pub giver : PartitionRow → ℕ
+giver row = if row.parent.0 == 0 then row.serial.0 else row.parent.0
+
+-- a quota is at most 128 units, and a partition lives in the one that gave it its quota
 abbrev pub quota_fits : List ObjectRow → PartitionRow → Bool
 quota_fits objects row =
     nat_le row.quota PARTITION_UNITS
-    && lives_under (if row.parent.0 == 0 then row.serial.0 else row.parent.0) (find (is_object row.serial.0) objects)
+    && lives_under (giver row) (find (is_object row.serial.0) objects)
 
 -- an object took a unit at least. One that isn't configured yet took just one and has nothing: a
 -- partition no quota, an extent no span
@@ -120,7 +125,8 @@ abbrev pub cost_fits : List PartitionRow → List ExtentRow → ObjectRow → Bo
 cost_fits partitions extents row =
     nat_lt 0 row.cost
     && (not (is_init_stage row.stage)
-    || is_new row.kind row.cost (find (is_partition row.serial.0) partitions) (find (is_extent row.serial.0) extents))
+    || is_new row.kind row.cost (find (is_partition row.serial.0) partitions)
+    (find (is_extent row.serial.0) extents))
 
 -- a CPU that hasn't exited has a capability space and an address space that live
 abbrev pub cpu_fits : List ObjectRow → CpuRow → Bool
@@ -137,11 +143,12 @@ link_stands objects cpus row =
     space_lives objects (find (is_cpu row.vm.0) cpus) && lives_as objects row.extent.0 kind.Extent
     && lives_as objects row.request.0 kind.Queue && lives_as objects row.reply.0 kind.Queue
 
--- a queue has at most 64 messages of at most 1,024 bytes, no more than its depth and none longer than
--- its size
+-- the message is no longer than a queue's size
 abbrev pub is_short : ℕ → List ℕ → Bool
 is_short size message = nat_le (length message) size
 
+-- a queue has a depth of at most 64 and a size of at most 1,024 bytes, and no more messages than its
+-- depth, each short enough
 abbrev pub queue_fits : QueueRow → Bool
 queue_fits row =
     nat_le row.depth QUEUE_DEPTH && nat_le row.size MESSAGE_BYTES

@@ -1,4 +1,4 @@
-//! What a partition uses and gives, behind each change. The functions do nothing; their clauses are laws.
+//! What a partition uses and gives, behind each change. The function does nothing; its clause is a law.
 
 ghost use Rattle.std.specs.Prelude.{◌≡◌, ◌+◌, ◌≤◌, ℕ, List};
 ghost use Rattle.gh_invariant.specs.Effects.{takes, returns, takes_all, returns_all, units_of};

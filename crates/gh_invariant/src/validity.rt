@@ -9,8 +9,8 @@ ghost use Rattle.gh_model.specs.declared.state.State.{State};
 
 /// A change that may be made leaves a valid state, in the midst of an entry.
 pub fn change_keeps_valid()
-    ensures { (last : ℕ) (s : State) (change : Change) → s.entries + 1 ≤ last → IsValidTo last s → MayChange s change
-        → IsValidTo last (changed s change) }
+    ensures { (last : ℕ) (s : State) (change : Change) → s.entries + 1 ≤ last → IsValidTo last s
+        → MayChange s change → IsValidTo last (changed s change) }
 {}
 
 /// And so do changes in order.
