@@ -1,5 +1,6 @@
 pub mod CapabilityMade
 pub mod ChangedRow
+pub mod ChangesInOrder
 pub mod ConfigureMade
 pub mod Counting
 pub mod CpusFit
@@ -7,6 +8,7 @@ pub mod CpusKept
 pub mod DecisionGives
 pub mod DecisionMade
 pub mod DeriveMade
+pub mod EntriesKept
 pub mod GivesMade
 pub mod KindRowsFit
 pub mod Living
@@ -14,11 +16,13 @@ pub mod MappingOnce
 pub mod MappingsFit
 pub mod MayMake
 pub mod MemoryMade
+pub mod NotLiving
 pub mod ObjectsFit
 pub mod ObjectsMade
 pub mod PagesFit
 pub mod PartsKept
 pub mod PlainMade
+pub mod QueuesKept
 pub mod ReferencesLaw
 pub mod ReferencesMoved
 pub mod Referred

@@ -3,7 +3,7 @@ use Rattle.std.proofs.Common.{◌≡◌, ◌+◌, ◌<◌, ◌≤◌, ◌∙◌,
 use Rattle.std.specs.Prelude.{count_by, replicate}
 use Rattle.std.specs.List.{list_all}
 use Rattle.std.specs.Option.{option_map_or, option_or}
-use Rattle.std.proofs.lemmas.Bool.{and_parts, and_from, eqb-true}
+use Rattle.std.proofs.lemmas.Bool.{and_parts, and_from, eqb-true, ne_eqb}
 use Rattle.std.proofs.lemmas.Bool.Decides.{nat_tests}
 use Rattle.std.proofs.lemmas.Option.{slice_get-map}
 use Rattle.std.proofs.lemmas.List.Sums.{length-filter, count_by-le-length}
@@ -14,12 +14,13 @@ use Rattle.gh_model.specs.declared.rows.ExtentRow.{ExtentRow}
 use Rattle.gh_model.specs.Boot.{move_pages}
 use Rattle.gh_model.specs.Changes.{extent_parent, given_back, moved_run, without}
 use Rattle.gh_model.specs.MemoryCalls.{is_within_span}
+use Rattle.gh_model.specs.QueueCalls.{one_if}
 use Rattle.gh_model.specs.Rows.{is_extent}
 use Rattle.gh_model.specs.References.{is_child_of, is_root_extent}
-use Rattle.gh_invariant.specs.Lives.{is_part_of, is_root, span_fits, spans_page}
+use Rattle.gh_invariant.specs.Lives.{is_parentless, is_part_of, is_root, span_fits, spans_page}
 use Rattle.gh_invariant.specs.Valid.{PagesFit}
-use Rattle.gh_invariant.proofs.Counting.{all_by, all_by_two, found_all, found_passes, none_fail}
-use Rattle.gh_invariant.proofs.RowsLeft.{all_left, find_left}
+use Rattle.gh_invariant.proofs.Counting.{all_by, all_by_two, count_push, found_all, found_passes, none_fail, one_false}
+use Rattle.gh_invariant.proofs.RowsLeft.{all_left, count_fewer, find_left}
 
 -- the page is one of a run, and has the run's item
 pub record IsMoved {X : Type 0} (first end page : ℕ) (item x : X) : Type 0 where
@@ -78,6 +79,7 @@ module _ (first count : ℕ) (holder : Serial) (holders : List Serial) (extents 
         record {
           few = rw same fit.few;
           spans = rw same fit.spans;
+          root = fit.root;
           held = moved_held some;
         }
 
@@ -129,6 +131,9 @@ pub add_keeps_pages : (holders : List Serial) (extents : List ExtentRow) (row : 
 add_keeps_pages holders extents row parent fits fit = record {
   few = fit.few;
   spans = spans_push (length holders) extents row fits fit.spans;
+  root = (let sum : count_by is_parentless (extents ++ row ∷ []) ≡ count_by is_parentless extents + one_if (is_parentless row) = count_push is_parentless extents row in
+      let none : one_if (is_parentless row) ≡ 0 = one_false (is_parentless row) (ne_eqb row.parent.0 0 (λ is. omega arith)) in
+      omega (arith, fit.root));
   held = λ some page holder is. rw find-append (page_more page (find (is_extent holder.0) extents) (find (is_extent holder.0) (row ∷ [])) (fit.held (has_outer (length holders) extents row parent fits) page holder is));
 }
 
@@ -205,6 +210,7 @@ module _ (extent : ℕ) (holders : List Serial) (extents : List ExtentRow) (chil
         spans = rw same (all_left (λ (row : ExtentRow). not (is_child_of extent row) && span_fits (length holders) extents row) (span_fits (length holders) (without (is_extent extent) extents)) (is_extent extent) extents
             (λ row fails passes. (let parts = and_parts (not (is_child_of extent row)) (span_fits (length holders) extents row) passes in part_left (length holders) extent extents row parts.0 parts.1))
             (all_by_two (λ (row : ExtentRow). not (is_child_of extent row)) (span_fits (length holders) extents) (λ (row : ExtentRow). not (is_child_of extent row) && span_fits (length holders) extents row) extents (λ row one also. and_from _ _ one also) (none_fail (is_child_of extent) extents childless) fit.spans));
+        root = omega (arith, count_fewer is_parentless (is_extent extent) extents, fit.root);
         held = λ some page holder is. back_given page holder (slice_get holders page) (sym (slice_get-map (given_back extent (extent_parent extents extent)) holders page) ∙ is) (fit.held (omega (arith, some_more some)) page);
       }
     where

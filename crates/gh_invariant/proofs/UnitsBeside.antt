@@ -16,7 +16,7 @@ use Rattle.gh_model.specs.Units.{given_by, lives_in, rest_units, row_quota, used
 use Rattle.gh_model.specs.declared.rows.ExtentRow.{ExtentRow}
 use Rattle.gh_model.specs.declared.rows.ObjectRow.{ObjectRow}
 use Rattle.gh_model.specs.declared.rows.PartitionRow.{PartitionRow}
-use Rattle.gh_invariant.specs.Lives.{cost_fits, is_new, lives_under, quota_fits}
+use Rattle.gh_invariant.specs.Lives.{cost_fits, giver, is_new, lives_under, quota_fits}
 use Rattle.gh_invariant.specs.Valid.{UnitsFit}
 use Rattle.gh_invariant.proofs.Counting.{all_by, all_push, find_push, find_push_new}
 use Rattle.gh_invariant.proofs.UnitsMoved.{given_push, used_push}
@@ -51,9 +51,8 @@ under_or parent (Some row) new under = under
 
 quota_stays : (objects : List ObjectRow) (object : ObjectRow) (row : PartitionRow) → IsTrue (quota_fits objects row) → IsTrue (quota_fits (objects ++ object ∷ []) row)
 quota_stays objects object row fits =
-    let parent : ℕ = if row.parent.0 == 0 then row.serial.0 else row.parent.0 in
-    let parts : (nat_le row.quota PARTITION_UNITS ≡ true) × (lives_under (if row.parent.0 == 0 then row.serial.0 else row.parent.0) (find (is_object row.serial.0) objects) ≡ true) = and_parts _ _ fits in
-    and_from _ _ parts.0 (rw (find_push (is_object row.serial.0) objects object) (under_or (if row.parent.0 == 0 then row.serial.0 else row.parent.0) (find (is_object row.serial.0) objects) (find (is_object row.serial.0) (object ∷ [])) parts.1))
+    let parts : (nat_le row.quota PARTITION_UNITS ≡ true) × (lives_under (giver row) (find (is_object row.serial.0) objects) ≡ true) = and_parts _ _ fits in
+    and_from _ _ parts.0 (rw (find_push (is_object row.serial.0) objects object) (under_or (giver row) (find (is_object row.serial.0) objects) (find (is_object row.serial.0) (object ∷ [])) parts.1))
 
 -- costs
 

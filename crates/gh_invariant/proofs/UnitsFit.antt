@@ -14,7 +14,7 @@ use Rattle.gh_model.specs.Units.{given_by, is_given_by, lives_in, rest_units, ro
 use Rattle.gh_model.specs.declared.rows.ExtentRow.{ExtentRow}
 use Rattle.gh_model.specs.declared.rows.ObjectRow.{ObjectRow}
 use Rattle.gh_model.specs.declared.rows.PartitionRow.{PartitionRow}
-use Rattle.gh_invariant.specs.Lives.{cost_fits, lives_under, quota_fits}
+use Rattle.gh_invariant.specs.Lives.{cost_fits, giver, lives_under, quota_fits}
 use Rattle.gh_invariant.specs.Valid.{UnitsFit}
 use Rattle.gh_invariant.proofs.Counting.{all_by, find_push_other}
 use Rattle.gh_invariant.proofs.ChangedRow.{all_change, find_change_seen, find_past_change}
@@ -34,7 +34,7 @@ module _ (q : ObjectRow → Bool) (change : ObjectRow → ObjectRow) (keeps : Ke
 
   quota_kept : (row : PartitionRow) → IsTrue (quota_fits objects row) → IsTrue (quota_fits (change_row q change objects) row)
   quota_kept row fits =
-      rw (under_kept (if row.parent.0 == 0 then row.serial.0 else row.parent.0) row.serial.0) fits
+      rw (under_kept (giver row) row.serial.0) fits
 
   -- quotas are in order as before
   quotas_kept : IsTrue (list_all (quota_fits objects) partitions) → IsTrue (list_all (quota_fits (change_row q change objects)) partitions)
@@ -127,7 +127,7 @@ module _ (objects : List ObjectRow) (partitions : List PartitionRow) (extents : 
     give_keeps_units = record {
       within = λ n above. quota_within n (is_given_by n row) above refl;
       quotas = all_change (quota_fits objects) (is_partition partition) (with_quota quota) partitions
-          (λ one is fits. and_from (nat_le quota PARTITION_UNITS) _ (le-leb quota PARTITION_UNITS small) (and_parts (nat_le one.quota PARTITION_UNITS) (lives_under (if one.parent.0 == 0 then one.serial.0 else one.parent.0) (find (is_object one.serial.0) objects)) fits).1) fit.quotas;
+          (λ one is fits. and_from (nat_le quota PARTITION_UNITS) _ (le-leb quota PARTITION_UNITS small) (and_parts (nat_le one.quota PARTITION_UNITS) (lives_under (giver one) (find (is_object one.serial.0) objects)) fits).1) fit.quotas;
       costs = all_pinned (cost_fits partitions extents) (cost_fits (change_row (is_partition partition) (with_quota quota) partitions) extents) (is_object partition) objects (once partition)
           (λ object is fits. cost_staged (change_row (is_partition partition) (with_quota quota) partitions) extents object (cost_some partitions extents object fits) (stage object is))
           (λ object other fits. rw (find_past_change (is_partition object.serial.0) (is_partition partition) (with_quota quota) partitions (λ one is. other_number one.serial.0 object.serial.0 partition other is) (λ one is. other_number one.serial.0 object.serial.0 partition other is)) fits) fit.costs;

@@ -12,7 +12,7 @@ use Rattle.gh_model.specs.Units.{given_by, is_given_by, lives_in, row_quota, use
 use Rattle.gh_model.specs.declared.rows.ExtentRow.{ExtentRow}
 use Rattle.gh_model.specs.declared.rows.ObjectRow.{ObjectRow}
 use Rattle.gh_model.specs.declared.rows.PartitionRow.{PartitionRow}
-use Rattle.gh_invariant.specs.Lives.{cost_fits, lives_under, quota_fits}
+use Rattle.gh_invariant.specs.Lives.{cost_fits, giver, lives_under, quota_fits}
 use Rattle.gh_invariant.specs.Valid.{UnitsFit}
 use Rattle.gh_invariant.proofs.Counting.{found_all, found_passes, none_fail}
 use Rattle.gh_invariant.proofs.RowsLeft.{all_left, find_left}
@@ -37,7 +37,7 @@ module _ (objects : List ObjectRow) (partitions : List PartitionRow) (extents : 
       (λ row stays away fits. no_number (lives_in object row) row.cost (elsewhere (lives_in object row) (is_object object row) stays away)) empty fit.costs)
 
   -- a partition that it gave a quota lives in it
-  gave_by : (row : PartitionRow) (found : Option ObjectRow) → find (is_object row.serial.0) objects ≡ found → is_partition object row ≡ false → is_given_by object row ≡ true → IsTrue (lives_under (if row.parent.0 == 0 then row.serial.0 else row.parent.0) found) → ⊥
+  gave_by : (row : PartitionRow) (found : Option ObjectRow) → find (is_object row.serial.0) objects ≡ found → is_partition object row ≡ false → is_given_by object row ≡ true → IsTrue (lives_under (giver row) found) → ⊥
   gave_by row None is other gives under = (let never : ⊥ = cc in never)
   gave_by row (Some one) is other gives under =
       let own : (one.serial.0 == row.serial.0) ≡ true = found_passes (is_object row.serial.0) objects one is in
@@ -48,7 +48,7 @@ module _ (objects : List ObjectRow) (partitions : List PartitionRow) (extents : 
   gave_none row other fits = gave_here (is_given_by object row) refl
     where
       gave_here : (here : Bool) → is_given_by object row ≡ here → ((if here then row.quota else 0) == 0) ≡ true
-      gave_here true is = absurd (gave_by row (find (is_object row.serial.0) objects) refl other is (and_parts (nat_le row.quota PARTITION_UNITS) (lives_under (if row.parent.0 == 0 then row.serial.0 else row.parent.0) (find (is_object row.serial.0) objects)) fits).1)
+      gave_here true is = absurd (gave_by row (find (is_object row.serial.0) objects) refl other is (and_parts (nat_le row.quota PARTITION_UNITS) (lives_under (giver row) (find (is_object row.serial.0) objects)) fits).1)
       gave_here false is = refl
 
   -- and it gave no quota

@@ -126,6 +126,15 @@ returns s (GiveQuota partition quota) = quota_of (find (is_partition partition.0
 returns s (ConfigureQueue queue depth size cost) = cost_of (object_row s queue.0)
 returns s _ = []
 
+-- the same of changes in order, each in the state that those before it made
+abbrev pub takes_all : State → List Change → List Share
+takes_all s [] = []
+takes_all s (change ∷ changes) = takes s change ++ takes_all (changed s change) changes
+
+abbrev pub returns_all : State → List Change → List Share
+returns_all s [] = []
+returns_all s (change ∷ changes) = returns s change ++ returns_all (changed s change) changes
+
 -- the slot that a change sets, by its capability space and number
 abbrev pub sets : Change → Option (ℕ × ℕ)
 sets (PutCapability row) = Some (row.cspace.0, row.slot)

@@ -1,11 +1,11 @@
 -- Which objects live, and what a row needs of those that live. An object lives from its creation to
 -- its reclaim, doomed or not.
-use Rattle.std.specs.Prelude.{◌==◌, ◌&&◌, ◌||◌, ◌+◌, not, ℕ, Bool, true, false, List, [], ◌∷◌, Option, Some, None, find, is_some, count_by, nat_le, nat_lt, if◌then◌else◌}
-use Rattle.std.specs.List.{list_any}
+use Rattle.std.specs.Prelude.{◌==◌, ◌&&◌, ◌||◌, ◌+◌, not, ℕ, length, Bool, true, false, List, [], ◌∷◌, Option, Some, None, find, is_some, count_by, nat_le, nat_lt, if◌then◌else◌}
+use Rattle.std.specs.List.{list_all, list_any}
 use Rattle.gh_base.specs.Kind.{kind_number}
 use Rattle.gh_base.specs.declared.kind.Kind.{Kind}
 use Rattle.gh_base.specs.declared.kind.Kind.TheVariants as kind
-use Rattle.gh_base.specs.declared.limits.TheConstants.{PARTITION_UNITS}
+use Rattle.gh_base.specs.declared.limits.TheConstants.{MESSAGE_BYTES, PARTITION_UNITS, QUEUE_DEPTH}
 use Rattle.gh_model.specs.Boot.{access_fits, is_of_kind, overlaps}
 use Rattle.gh_model.specs.Decisions.{is_init_stage}
 use Rattle.gh_model.specs.MemoryCalls.{is_within_span}
@@ -20,6 +20,7 @@ use Rattle.gh_model.specs.declared.rows.SetAtRow.{SetAtRow}
 use Rattle.gh_model.specs.declared.rows.MappingRow.{MappingRow}
 use Rattle.gh_model.specs.declared.rows.CpuRow.{CpuRow}
 use Rattle.gh_model.specs.declared.rows.LinkRow.{LinkRow}
+use Rattle.gh_model.specs.declared.rows.QueueRow.{QueueRow}
 
 -- an object of this serial lives
 abbrev pub lives : List ObjectRow → ℕ → Bool
@@ -67,6 +68,10 @@ span_fits pages extents row =
     nat_lt 0 row.count && nat_le (row.first.0 + row.count) pages
     && (is_root pages row || is_part_of row (find (is_extent row.parent.0) extents))
 
+-- the extent has no parent
+abbrev pub is_parentless : ExtentRow → Bool
+is_parentless row = row.parent.0 == 0
+
 -- the page lies in the span
 abbrev pub spans_page : ℕ → Option ExtentRow → Bool
 spans_page page None = false
@@ -93,15 +98,20 @@ abbrev pub are_apart : List MappingRow → Bool
 are_apart [] = true
 are_apart (row ∷ rows) = not (meets row rows) && are_apart rows
 
--- the partition's quota is the boot's, or its partition gave it, and it is at most 128 units
+-- the object lives in the partition
 abbrev pub lives_under : ℕ → Option ObjectRow → Bool
-lives_under parent None = false
-lives_under parent (Some row) = row.partition.0 == parent
+lives_under partition None = false
+lives_under partition (Some row) = row.partition.0 == partition
 
+-- the one that gave a partition its quota, or for a quota of the boot the partition itself
+abbrev pub giver : PartitionRow → ℕ
+giver row = if row.parent.0 == 0 then row.serial.0 else row.parent.0
+
+-- a quota is at most 128 units, and a partition lives in the one that gave it its quota
 abbrev pub quota_fits : List ObjectRow → PartitionRow → Bool
 quota_fits objects row =
     nat_le row.quota PARTITION_UNITS
-    && lives_under (if row.parent.0 == 0 then row.serial.0 else row.parent.0) (find (is_object row.serial.0) objects)
+    && lives_under (giver row) (find (is_object row.serial.0) objects)
 
 -- an object took a unit at least. One that isn't configured yet took just one and has nothing: a
 -- partition no quota, an extent no span
@@ -115,7 +125,8 @@ abbrev pub cost_fits : List PartitionRow → List ExtentRow → ObjectRow → Bo
 cost_fits partitions extents row =
     nat_lt 0 row.cost
     && (not (is_init_stage row.stage)
-    || is_new row.kind row.cost (find (is_partition row.serial.0) partitions) (find (is_extent row.serial.0) extents))
+    || is_new row.kind row.cost (find (is_partition row.serial.0) partitions)
+    (find (is_extent row.serial.0) extents))
 
 -- a CPU that hasn't exited has a capability space and an address space that live
 abbrev pub cpu_fits : List ObjectRow → CpuRow → Bool
@@ -131,3 +142,14 @@ abbrev pub link_stands : List ObjectRow → List CpuRow → LinkRow → Bool
 link_stands objects cpus row =
     space_lives objects (find (is_cpu row.vm.0) cpus) && lives_as objects row.extent.0 kind.Extent
     && lives_as objects row.request.0 kind.Queue && lives_as objects row.reply.0 kind.Queue
+
+-- the message is no longer than a queue's size
+abbrev pub is_short : ℕ → List ℕ → Bool
+is_short size message = nat_le (length message) size
+
+-- a queue has a depth of at most 64 and a size of at most 1,024 bytes, and no more messages than its
+-- depth, each short enough
+abbrev pub queue_fits : QueueRow → Bool
+queue_fits row =
+    nat_le row.depth QUEUE_DEPTH && nat_le row.size MESSAGE_BYTES
+    && nat_le (length row.messages) row.depth && list_all (is_short row.size) row.messages

@@ -3,7 +3,7 @@
 use Rattle.std.specs.Prelude.{◌≡◌, ◌+◌, ◌≤◌, ◌<◌, ℕ, true, false, List, [], ◌∷◌, length, Some, None, IsTrue, ⊤, find, is_some, count_by}
 use Rattle.gh_base.specs.declared.ids.Serial.{Serial}
 use Rattle.gh_base.specs.declared.kind.Kind.TheVariants as kind
-use Rattle.gh_base.specs.declared.limits.TheConstants.{PARTITION_UNITS}
+use Rattle.gh_base.specs.declared.limits.TheConstants.{MESSAGE_BYTES, PARTITION_UNITS, QUEUE_DEPTH}
 use Rattle.gh_model.specs.Boot.{is_row_of, is_kind}
 use Rattle.gh_model.specs.Decisions.{is_init_stage}
 use Rattle.gh_model.specs.Changes.{changed, is_mapping}
@@ -11,7 +11,7 @@ use Rattle.gh_model.specs.History.{is_unretired, is_retired}
 use Rattle.gh_model.specs.MemoryCalls.{is_within_span}
 use Rattle.gh_model.specs.ObjectCalls.{is_full}
 use Rattle.gh_model.specs.References.{references}
-use Rattle.gh_model.specs.Rows.{object_row, is_partition, is_extent, fills}
+use Rattle.gh_model.specs.Rows.{object_row, is_partition, is_extent, is_queue, fills}
 use Rattle.gh_model.specs.Units.{free_units}
 use Rattle.gh_model.specs.Word.{is_slot}
 use Rattle.gh_model.specs.declared.change.Change.{Change}
@@ -21,6 +21,7 @@ use Rattle.gh_model.specs.declared.rows.PartitionRow.{PartitionRow}
 use Rattle.gh_model.specs.declared.rows.ExtentRow.{ExtentRow}
 use Rattle.gh_model.specs.declared.rows.CapabilityRow.{CapabilityRow}
 use Rattle.gh_model.specs.declared.rows.MappingRow.{MappingRow}
+use Rattle.gh_model.specs.declared.rows.QueueRow.{QueueRow}
 use Rattle.gh_model.specs.declared.state.State.{State}
 use Rattle.gh_invariant.specs.Lives.{span_fits, mapping_stands, meets}
 
@@ -96,8 +97,15 @@ abbrev pub MayUnmap : State → MappingRow → Type 0
 MayUnmap s row =
     find (is_mapping row.space.0 row.extent.0 row.base row.offset row.count) s.mappings ≡ Some row
 
+-- the queue has room for a message more, and the message isn't too long
+pub record MaySend (s : State) (queue : ℕ) (message : List ℕ) : Type 0 where
+  pub row : QueueRow
+  pub found : find (is_queue queue) s.queues ≡ Some row
+  pub room : length row.messages < row.depth
+  pub short : length message ≤ row.size
+
 -- the queue is no longer new, cost one unit so far, and its partition has the others
-pub record MayConfigure (s : State) (queue cost : ℕ) : Type 0 where
+pub record MayConfigure (s : State) (queue depth size cost : ℕ) : Type 0 where
   pub row : ObjectRow
   pub found : object_row s queue ≡ Some row
   pub kind : IsTrue (is_kind s queue kind.Queue)
@@ -105,6 +113,8 @@ pub record MayConfigure (s : State) (queue cost : ℕ) : Type 0 where
   pub one : row.cost ≡ 1
   pub some : 0 < cost
   pub units : cost ≤ free_units s row.partition.0 + 1
+  pub deep : depth ≤ QUEUE_DEPTH
+  pub wide : size ≤ MESSAGE_BYTES
 
 -- when a change may be made
 abbrev pub MayChange : State → Change → Type 0
@@ -121,8 +131,8 @@ MayChange s (MovePages first count holder) = MayMove s first count holder
 MayChange s (PutMapping row) = MayMap s row
 MayChange s (DropMapping row) = MayUnmap s row
 MayChange s (SetBell row) = ⊤
-MayChange s (ConfigureQueue queue depth size cost) = MayConfigure s queue.0 cost
-MayChange s (PutMessage queue message) = ⊤
+MayChange s (ConfigureQueue queue depth size cost) = MayConfigure s queue.0 depth size cost
+MayChange s (PutMessage queue message) = MaySend s queue.0 message
 MayChange s (DropMessage queue) = ⊤
 MayChange s (EmptyQueue queue) = ⊤
 MayChange s (Exit cpu) = ⊤

@@ -1,7 +1,8 @@
 -- What every state of the machine keeps, from the boot on and through every entry of the history.
-use Rattle.std.specs.Prelude.{◌≡◌, ◌+◌, ◌≤◌, ◌<◌, ℕ, List, [], length, Some, IsTrue, find, count_by, slice_get}
+use Rattle.std.specs.Prelude.{◌≡◌, ◌+◌, ◌≤◌, ◌<◌, ℕ, Bool, List, [], length, Some, IsTrue, find, count_by, slice_get}
 use Rattle.std.specs.List.{list_all}
 use Rattle.gh_base.specs.declared.ids.Serial.{Serial}
+use Rattle.gh_base.specs.declared.kind.Kind.{Kind}
 use Rattle.gh_base.specs.declared.kind.Kind.TheVariants as kind
 use Rattle.gh_base.specs.declared.limits.TheConstants.{CSPACES, PARTITIONS, MACHINE_PAGES}
 use Rattle.gh_model.specs.Boot.{is_row_of}
@@ -19,7 +20,7 @@ use Rattle.gh_model.specs.declared.rows.QueueRow.{QueueRow}
 use Rattle.gh_model.specs.declared.rows.CpuRow.{CpuRow}
 use Rattle.gh_model.specs.declared.rows.LinkRow.{LinkRow}
 use Rattle.gh_model.specs.declared.state.State.{State}
-use Rattle.gh_invariant.specs.Lives.{lives_as, is_housed, slot_fits, setting_fits, span_fits, spans_page, mapping_stands, are_apart, quota_fits, cost_fits, cpu_fits, link_stands, kind_total}
+use Rattle.gh_invariant.specs.Lives.{is_parentless, queue_fits, lives_as, is_housed, slot_fits, setting_fits, span_fits, spans_page, mapping_stands, are_apart, quota_fits, cost_fits, cpu_fits, link_stands, kind_total}
 
 -- objects: a serial is that of one object at most, and each object lives in a partition that lives
 pub record ObjectsFit (next_serial : ℕ) (objects : List ObjectRow) : Type 0 where
@@ -40,32 +41,48 @@ pub record SlotsFit (next_serial last : ℕ) (objects : List ObjectRow) (caps : 
   pub set_once : (cspace slot : ℕ) → count_by (tells_setting cspace slot) set_at ≤ 1
   pub set : IsTrue (list_all (setting_fits last objects) set_at)
 
--- an object of a kind has the one row of its kind, and no other serial has one
-pub record KindRowsFit (objects : List ObjectRow) (partition_rows : List PartitionRow) (bell_rows : List BellRow) (queue_rows : List QueueRow) (extent_rows : List ExtentRow) : Type 0 where
-  pub partitions : (serial : ℕ) → count_by (is_partition serial) partition_rows ≡ one_if (lives_as objects serial kind.Partition)
-  pub bells : (serial : ℕ) → count_by (is_bell serial) bell_rows ≡ one_if (lives_as objects serial kind.Bell)
-  pub queues : (serial : ℕ) → count_by (is_queue serial) queue_rows ≡ one_if (lives_as objects serial kind.Queue)
-  -- an extent gets its span later
-  pub extents : (serial : ℕ) → count_by (is_extent serial) extent_rows ≤ one_if (lives_as objects serial kind.Extent)
+-- each object of a kind has one row, or one at most, and no other serial has one
+abbrev pub HasOneEach : {R : Type 0} → List ObjectRow → Kind → (ℕ → R → Bool) → List R → Type 0
+HasOneEach objects k is_row rows =
+    (serial : ℕ) → count_by (is_row serial) rows ≡ one_if (lives_as objects serial k)
+
+abbrev pub HasOneAtMost : {R : Type 0} → List ObjectRow → Kind → (ℕ → R → Bool) → List R → Type 0
+HasOneAtMost objects k is_row rows =
+    (serial : ℕ) → count_by (is_row serial) rows ≤ one_if (lives_as objects serial k)
+
+-- an object of a kind has the one row of its kind; an extent gets its span later
+pub record KindRowsFit (objects : List ObjectRow) (partition_rows : List PartitionRow)
+    (bell_rows : List BellRow) (queue_rows : List QueueRow)
+    (extent_rows : List ExtentRow) : Type 0 where
+  pub partitions : HasOneEach objects kind.Partition is_partition partition_rows
+  pub bells : HasOneEach objects kind.Bell is_bell bell_rows
+  pub queues : HasOneEach objects kind.Queue is_queue queue_rows
+  pub extents : HasOneAtMost objects kind.Extent is_extent extent_rows
 
 -- units: what a partition uses and gives is within its quota
-pub record UnitsFit (objects : List ObjectRow) (partitions : List PartitionRow) (extents : List ExtentRow) : Type 0 where
+pub record UnitsFit (objects : List ObjectRow) (partitions : List PartitionRow)
+    (extents : List ExtentRow) : Type 0 where
+  -- 0 is the parent of the boot's partitions, and no partition
   pub within : (partition : ℕ) → 0 < partition
-      → used_by objects partition + given_by partitions partition ≤ row_quota (find (is_partition partition) partitions)
+      → used_by objects partition + given_by partitions partition
+      ≤ row_quota (find (is_partition partition) partitions)
   pub quotas : IsTrue (list_all (quota_fits objects) partitions)
   pub costs : IsTrue (list_all (cost_fits partitions extents) objects)
 
 -- spans: each is the whole machine or a part of its parent's, with no more access
--- pages: each is held by one extent, in whose span it lies. Before the root extent is there, nobody
--- holds a page
+-- pages: once there is an extent, each is held by one in whose span it lies
 pub record PagesFit (holders : List Serial) (extents : List ExtentRow) : Type 0 where
   pub few : length holders ≤ MACHINE_PAGES
   pub spans : IsTrue (list_all (span_fits (length holders) extents) extents)
-  pub held : 0 < length extents → (page : ℕ) (holder : Serial) → slice_get holders page ≡ Some holder
+  -- one extent at most is the root
+  pub root : count_by is_parentless extents ≤ 1
+  pub held : 0 < length extents → (page : ℕ) (holder : Serial)
+      → slice_get holders page ≡ Some holder
       → IsTrue (spans_page page (find (is_extent holder.0) extents))
 
 -- mapping rows: of each address space at most 64, and no two with a page in common
-pub record MappingsFit (objects : List ObjectRow) (extents : List ExtentRow) (mappings : List MappingRow) : Type 0 where
+pub record MappingsFit (objects : List ObjectRow) (extents : List ExtentRow)
+    (mappings : List MappingRow) : Type 0 where
   pub stand : IsTrue (list_all (mapping_stands objects extents) mappings)
   pub few : (space : ℕ) → count_by (is_row_of space) mappings ≤ 64
   pub apart : IsTrue (are_apart mappings)
@@ -85,6 +102,7 @@ pub record IsValidTo (last : ℕ) (s : State) : Type 0 where
   pub pages : PagesFit s.holders s.extents
   pub mappings : MappingsFit s.objects s.extents s.mappings
   pub cpus : CpusFit s.objects s.cpus s.links
+  pub queues : IsTrue (list_all queue_fits s.queues)
   -- no parcels are made yet
   pub parcels : s.parcels ≡ []
 
