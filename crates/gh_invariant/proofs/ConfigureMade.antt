@@ -9,7 +9,7 @@ use Rattle.gh_base.specs.declared.errno.Errno.TheVariants.{ArgInval, ArgSize, De
 use Rattle.gh_base.specs.declared.ids.Serial.{Serial}
 use Rattle.gh_base.specs.declared.kind.Kind.{Kind}
 use Rattle.gh_base.specs.declared.kind.Kind.TheVariants as kind
-use Rattle.gh_base.specs.declared.limits.TheConstants.{PARTITION_UNITS}
+use Rattle.gh_base.specs.declared.limits.TheConstants.{MESSAGE_BYTES, PARTITION_UNITS, QUEUE_DEPTH}
 use Rattle.gh_base.specs.declared.kind.Stage.TheVariants.{Ready}
 use Rattle.gh_model.specs.Boot.{is_kind, is_of_kind, queue_cost}
 use Rattle.gh_model.specs.Changes.{set_stage, with_stage}
@@ -30,6 +30,7 @@ use Rattle.gh_invariant.specs.Valid.{IsValid}
 use Rattle.gh_invariant.proofs.ChangedRow.{find_change}
 use Rattle.gh_invariant.proofs.Counting.{found_all, found_passes, unfound}
 use Rattle.gh_invariant.proofs.MayMake.{at_most_by, unless}
+use Rattle.gh_invariant.proofs.ObjectsMade.{or_none}
 use Rattle.gh_invariant.proofs.UnitsMoved.{used_kept}
 
 -- the state in which the object is ready
@@ -185,10 +186,10 @@ module _ (s : State) (valid : IsValid s) where
       unless s (nat_lt 128 quota) ArgInval _ (λ few. quota_given_made partition quota _ refl some small init is)
 
   room_given_made : (queue : Serial) (depth size : ℕ) (row : Option ObjectRow) → object_row s queue.0 ≡ row
-      → IsTrue (is_init s queue) → IsTrue (lives_as s.objects queue.0 kind.Queue)
+      → depth ≤ QUEUE_DEPTH → size ≤ MESSAGE_BYTES → IsTrue (is_init s queue) → IsTrue (lives_as s.objects queue.0 kind.Queue)
       → MayMake s (room_given s queue depth size row)
-  room_given_made queue depth size None found init is = tt
-  room_given_made queue depth size (Some row) found init is =
+  room_given_made queue depth size None found deep wide init is = tt
+  room_given_made queue depth size (Some row) found deep wide init is =
       unless s (nat_lt (free_units s row.partition.0) (room_cost depth size)) Nomem _ (λ enough.
       let units : room_cost depth size ≤ free_units s row.partition.0 =
       leb-true _ _ (at_most_by (free_units s row.partition.0) (room_cost depth size) enough) in
@@ -196,7 +197,9 @@ module _ (s : State) (valid : IsValid s) where
       row_of_kind kind.Queue (object_row s queue.0) row found is in
       let one : row.cost ≡ 1 =
       eqb-true row.cost 1 (queue_new row.kind row.cost _ _ kinds (new_object_is s valid queue.0 row found init)) in
-      let room : MayConfigure (ready s queue) queue.0 (queue_cost depth size) = record {
+      let room : MayConfigure (ready s queue) queue.0 depth size (queue_cost depth size) = record {
+        deep = deep;
+        wide = wide;
         row = with_stage Ready row;
         found = ready_row s queue row found;
         kind = ready_kind kind.Queue queue row found is;
@@ -210,4 +213,6 @@ module _ (s : State) (valid : IsValid s) where
   pub configure_queue_made : (queue : Serial) (depth size : ℕ) → IsTrue (is_init s queue) → IsTrue (lives_as s.objects queue.0 kind.Queue)
       → MayMake s (configure_queue s queue depth size)
   configure_queue_made queue depth size init is =
-      unless s (nat_lt 64 depth || nat_lt 1024 size) ArgInval _ (λ few. room_given_made queue depth size _ refl init is)
+      unless s (nat_lt 64 depth || nat_lt 1024 size) ArgInval _ (λ few.
+      let both : (nat_lt 64 depth ≡ false) × (nat_lt 1024 size ≡ false) = or_none (nat_lt 64 depth) (nat_lt 1024 size) few in
+      room_given_made queue depth size _ refl (leb-true _ _ (at_most_by 64 depth both.0)) (leb-true _ _ (at_most_by 1024 size both.1)) init is)

@@ -209,7 +209,7 @@ module _ (s : State) (valid : IsValid s) (cpu : ℕ) (running : IsTrue (is_runni
   decided_made (calls.BellReceive cap clear) shape stand stages = received_made s clear (bell_row s (grant_at grants 0))
   decided_made (calls.BellReset cap) shape stand stages = record { first = tt; others = tt }
   decided_made (calls.MsgqSend cap size buffer flags) shape stand stages =
-      put_made s (grant_at grants 0) bytes (queue_fill s (grant_at grants 0))
+      put_made s (grant_at grants 0) bytes
   decided_made (calls.MsgqRecv cap buffer size) shape stand stages =
       taken_made s (grant_at grants 0) size (queue_fill s (grant_at grants 0)) (first_message s (grant_at grants 0))
   decided_made (calls.MsgqFlush cap) shape stand stages = flushed_made s (grant_at grants 0) (queue_fill s (grant_at grants 0))

@@ -1,6 +1,6 @@
 -- The changes of the calls on doorbells and queues, of exit and of the resource manager's calls may
--- be made: they ask nothing of the state.
-use Rattle.std.proofs.Common.{◌≡◌, ◌+◌, ℕ, Bool, true, false, not, List, [], ◌∷◌, length, refl, Option, Some, None, if◌then◌else◌}
+-- be made.
+use Rattle.std.proofs.Common.{◌≡◌, ◌+◌, ℕ, Bool, true, false, not, List, [], ◌∷◌, length, refl, Option, Some, None, find, if◌then◌else◌}
 use Rattle.std.specs.Prelude.{◌==◌, nat_lt, nat_le, min}
 use Rattle.gh_base.specs.declared.access.Access.{Access}
 use Rattle.gh_base.specs.declared.errno.Errno.TheVariants.{AddrInval, ArgSize, QueueEmpty, QueueFull}
@@ -19,8 +19,12 @@ use Rattle.gh_model.specs.declared.change.Decision.TheVariants.{Make}
 use Rattle.gh_model.specs.declared.rows.BellRow.{BellRow}
 use Rattle.gh_model.specs.declared.state.State.{State}
 use Rattle.gh_model.specs.declared.state_reads.QueueFill.{QueueFill}
+use Rattle.gh_model.specs.Rows.{is_queue}
+use Rattle.gh_model.specs.declared.rows.QueueRow.{QueueRow}
 use Rattle.gh_invariant.specs.Grants.{MayMake}
-use Rattle.gh_invariant.proofs.MayMake.{provided, unless}
+use Rattle.gh_invariant.specs.Premises.{MaySend}
+use Rattle.gh_invariant.proofs.MayMake.{at_most_by, below_by, provided, unless}
+use Rattle.std.proofs.lemmas.Bool.{leb-true}
 
 module _ (s : State) where
   pub sent_made : (flags : ℕ) (row : Option BellRow) → MayMake s (bells.sent flags row)
@@ -35,17 +39,27 @@ module _ (s : State) where
   masked_made enable ack None = tt
   masked_made enable ack (Some row) = record { first = tt; others = tt }
 
-  rings_made : (queue : Serial) (message : List ℕ) (linked : Bool) (x1 : ℕ)
+  rings_made : (queue : Serial) (message : List ℕ) (linked : Bool) (x1 : ℕ) → MaySend s queue.0 message
       → MayMake s (Make (PutMessage queue message ∷ queues.rings_if linked) (done_with x1))
-  rings_made queue message true x1 = record { first = tt; others = record { first = tt; others = tt } }
-  rings_made queue message false x1 = record { first = tt; others = tt }
+  rings_made queue message true x1 may = record { first = may; others = record { first = tt; others = tt } }
+  rings_made queue message false x1 may = record { first = may; others = tt }
 
-  pub put_made : (queue : Serial) (message : List ℕ) (fill : Option QueueFill) → MayMake s (queues.sent s queue message fill)
-  put_made queue message None = tt
-  put_made queue message (Some fill) =
-      unless s (nat_lt fill.size (length message)) ArgSize _ (λ short.
-      unless s (nat_le fill.depth fill.count) QueueFull _ (λ room.
-      rings_made queue message (queues.is_request_queue s queue) (queues.one_if (nat_lt (fill.count + 1) fill.depth))))
+  put_made_by : (queue : Serial) (message : List ℕ) (row : Option QueueRow) → find (is_queue queue.0) s.queues ≡ row
+      → MayMake s (queues.sent s queue message (queues.row_fill row))
+  put_made_by queue message None found = tt
+  put_made_by queue message (Some row) found =
+      unless s (nat_lt row.size (length message)) ArgSize _ (λ short.
+      unless s (nat_le row.depth (length row.messages)) QueueFull _ (λ room.
+      rings_made queue message (queues.is_request_queue s queue) (queues.one_if (nat_lt (length row.messages + 1) row.depth))
+      (record {
+        row = row;
+        found = found;
+        room = below_by row.depth (length row.messages) room;
+        short = leb-true _ _ (at_most_by row.size (length message) short);
+      })))
+
+  pub put_made : (queue : Serial) (message : List ℕ) → MayMake s (queues.msgq_send s queue message)
+  put_made queue message = put_made_by queue message (find (is_queue queue.0) s.queues) refl
 
   pub taken_made : (queue : Serial) (room : ℕ) (fill : Option QueueFill) (first : Option (List ℕ))
       → MayMake s (queues.received queue room fill first)
