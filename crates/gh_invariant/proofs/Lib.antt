@@ -9,6 +9,7 @@ pub mod DecisionGives
 pub mod DecisionMade
 pub mod DeriveMade
 pub mod EntriesKept
+pub mod EventsKept
 pub mod GivesMade
 pub mod KindRowsFit
 pub mod Living

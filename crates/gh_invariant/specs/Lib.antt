@@ -1,4 +1,5 @@
 pub mod Effects
+pub mod Events
 pub mod Grants
 pub mod Lives
 pub mod Premises
