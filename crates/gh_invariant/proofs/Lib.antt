@@ -15,6 +15,7 @@ pub mod PartsKept
 pub mod QueuesKept
 pub mod ReferencesLaw
 pub mod ReferencesMoved
+pub mod RetiredKept
 pub mod RowsLeft
 pub mod RowsTested
 pub mod Settings
