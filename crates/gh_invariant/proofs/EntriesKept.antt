@@ -1,9 +1,9 @@
 -- A state that is valid between two entries is so behind the next one, once that is counted.
-use Rattle.std.proofs.Common.{◌≡◌, ◌+◌, ◌≤◌, ◌&&◌, ℕ, Bool, true, false, List, refl, arith, IsTrue, Option, Some, None, find, is_some, if◌then◌else◌}
+use Rattle.std.proofs.Common.{◌≡◌, ◌+◌, ◌≤◌, ◌&&◌, ℕ, Bool, true, false, List, refl, subst, sym, arith, IsTrue, Option, Some, None, find, is_some, if◌then◌else◌}
 use Rattle.std.proofs.lemmas.Bool.{and_parts, leb-true, le-leb, eqb-true}
 use Rattle.gh_base.specs.declared.ids.Serial.{Serial}
 use Rattle.gh_model.specs.Act.{counted}
-use Rattle.gh_model.specs.Changes.{changed}
+use Rattle.gh_model.specs.Changes.{changed, changed_all}
 use Rattle.gh_model.specs.History.{numbered, took, parted, retired, reclaimed, may_part, is_unretired, is_retired}
 use Rattle.gh_model.specs.References.{is_doomed}
 use Rattle.gh_model.specs.Rows.{fills, object_row}
@@ -17,6 +17,9 @@ use Rattle.gh_invariant.specs.Valid.{IsValid, IsValidTo, IsValidWithin, SlotsFit
 use Rattle.gh_invariant.proofs.Counting.{all_by}
 use Rattle.gh_invariant.proofs.SlotsFit.{SettingParts, setting_parts, setting_from}
 use Rattle.gh_invariant.proofs.ValidKept.{valid_kept}
+use Rattle.gh_invariant.proofs.ChangesInOrder.{valid_all, entries_stay_all}
+use Rattle.gh_invariant.specs.Premises.{MayChangeAll}
+use Rattle.gh_model.specs.declared.change.Change.{Change}
 
 -- settings up to an entry are up to a later one
 settings_more : (last later : ℕ) (objects : List ObjectRow) (row : SetAtRow) → last ≤ later → IsTrue (setting_fits last objects row) → IsTrue (setting_fits later objects row)
@@ -125,3 +128,10 @@ module _ (s : State) (valid : IsValid s) where
       either_valid (is_doomed s serial.0 && is_retired (object_row s serial.0)) (counted (changed s (change.Reclaim serial))) (numbered s)
       (λ may. counted_valid (changed s (change.Reclaim serial)) (valid_kept (s.entries + 1) s (change.Reclaim serial) (omega arith) (begins s valid)
       (record { retired = (and_parts _ _ may).1; doomed = eqb-true _ 0 (and_parts _ _ may).0 }))) unmade_valid
+
+  -- the changes of an act
+  pub made_valid : (changes : List Change) → MayChangeAll s changes → IsValid (counted (changed_all s changes))
+  made_valid changes may =
+      counted_valid (changed_all s changes)
+      (subst (λ (n : ℕ). IsValidTo (n + 1) (changed_all s changes)) (sym (entries_stay_all s changes))
+      (valid_all (s.entries + 1) s changes (omega arith) (begins s valid) may))
