@@ -1,3 +1,4 @@
+pub mod BootObjects
 pub mod ChangedRow
 pub mod ChangesInOrder
 pub mod Counting

@@ -49,7 +49,7 @@ under_or : (parent : ℕ) (old new : Option ObjectRow) → IsTrue (lives_under p
 under_or parent None new under = absurd (let never : ⊥ = cc in never)
 under_or parent (Some row) new under = under
 
-quota_stays : (objects : List ObjectRow) (object : ObjectRow) (row : PartitionRow) → IsTrue (quota_fits objects row) → IsTrue (quota_fits (objects ++ object ∷ []) row)
+pub quota_stays : (objects : List ObjectRow) (object : ObjectRow) (row : PartitionRow) → IsTrue (quota_fits objects row) → IsTrue (quota_fits (objects ++ object ∷ []) row)
 quota_stays objects object row fits =
     let parts : (nat_le row.quota PARTITION_UNITS ≡ true) × (lives_under (giver row) (find (is_object row.serial.0) objects) ≡ true) = and_parts _ _ fits in
     and_from _ _ parts.0 (rw (find_push (is_object row.serial.0) objects object) (under_or (giver row) (find (is_object row.serial.0) objects) (find (is_object row.serial.0) (object ∷ [])) parts.1))
@@ -106,16 +106,16 @@ module _ (objects : List ObjectRow) (partitions : List PartitionRow) (extents : 
         ∙ and_from _ _ (all_by (quota_fits objects) (quota_fits (objects ++ row ∷ [])) partitions (quota_stays objects row) fit.quotas) (new_fits k)
 
     module _ (some : 0 < row.cost) (enough : row.cost ≤ rest_units objects partitions row.partition.0) (one : IsTrue (is_init_stage row.stage) → row.cost ≡ 1) (no_partition : find (is_partition row.serial.0) partitions ≡ None) (no_extent : find (is_extent row.serial.0) extents ≡ None) where
-      cost_beside : (n : ℕ) (here : Bool) → lives_in n row ≡ here → used_by objects n + (if here then row.cost else 0) + given_by partitions n ≤ row_quota (find (is_partition n) partitions)
-      cost_beside n true is =
+      cost_beside : (n : ℕ) (here : Bool) → 0 < n → lives_in n row ≡ here → used_by objects n + (if here then row.cost else 0) + given_by partitions n ≤ row_quota (find (is_partition n) partitions)
+      cost_beside n true above is =
           let free : row.cost ≤ rest_units objects partitions n = subst (λ (m : ℕ). row.cost ≤ rest_units objects partitions m) (eqb-true row.partition.0 n is) enough in
-          omega (arith, fit.within n)
-      cost_beside n false is = omega (arith, fit.within n)
+          omega (arith, fit.within n above)
+      cost_beside n false above is = omega (arith, fit.within n above)
 
       -- an object whose cost its partition has
       pub add_keeps_units : UnitsFit (objects ++ row ∷ []) (partitions ++ new_partitions row.kind row.serial row.partition) extents
       add_keeps_units = record {
-        within = λ n. omega (arith, used_push objects row n, given_push partitions row.kind row.serial row.partition n, quota_beside partitions row.kind row.serial row.partition n, cost_beside n (lives_in n row) refl);
+        within = λ n above. omega (arith, used_push objects row n, given_push partitions row.kind row.serial row.partition n, quota_beside partitions row.kind row.serial row.partition n, cost_beside n (lives_in n row) above refl);
         quotas = quotas_beside row.kind;
         costs = all_push (cost_fits (partitions ++ new_partitions row.kind row.serial row.partition) extents) objects row
             (all_by (cost_fits partitions extents) (cost_fits (partitions ++ new_partitions row.kind row.serial row.partition) extents) objects (λ other fits. cost_stays partitions extents row.kind row.serial row.partition other ∙ fits) fit.costs)

@@ -52,7 +52,7 @@ module _ (objects : List ObjectRow) (partitions : List PartitionRow) (extents : 
   -- an object comes to another stage
   pub stage_keeps_units : (q : ObjectRow → Bool) (stage : Stage) → is_init_stage stage ≡ false → UnitsFit (change_row q (with_stage stage) objects) partitions extents
   stage_keeps_units q stage configured = record {
-    within = λ partition. rw (used_kept q (with_stage stage) objects partition (λ row. refl)) (fit.within partition);
+    within = λ partition above. rw (used_kept q (with_stage stage) objects partition (λ row. refl)) (fit.within partition above);
     quotas = quotas_kept q (with_stage stage) (record { serial = λ row. refl; kind = λ row. refl; partition = λ row. refl }) objects partitions fit.quotas;
     costs = all_change (cost_fits partitions extents) q (with_stage stage) objects
         (λ row is fits. cost_staged partitions extents (with_stage stage row) (cost_some partitions extents row fits) configured) fit.costs;
@@ -61,7 +61,7 @@ module _ (objects : List ObjectRow) (partitions : List PartitionRow) (extents : 
   -- an object is retired
   pub retire_keeps_units : (q : ObjectRow → Bool) (seen : List ℕ) → UnitsFit (change_row q (with_counters seen) objects) partitions extents
   retire_keeps_units q seen = record {
-    within = λ partition. rw (used_kept q (with_counters seen) objects partition (λ row. refl)) (fit.within partition);
+    within = λ partition above. rw (used_kept q (with_counters seen) objects partition (λ row. refl)) (fit.within partition above);
     quotas = quotas_kept q (with_counters seen) (record { serial = λ row. refl; kind = λ row. refl; partition = λ row. refl }) objects partitions fit.quotas;
     costs = all_change (cost_fits partitions extents) q (with_counters seen) objects (λ row is fits. fits) fit.costs;
   }
@@ -73,19 +73,19 @@ module _ (objects : List ObjectRow) (partitions : List PartitionRow) (extents : 
       let new : number_found (cost_in partition) (option_map (with_cost cost) (find q objects)) ≡ (if here then cost else 0) = ap (λ (o : Option ObjectRow). number_found (cost_in partition) (option_map (with_cost cost) o)) found ∙ ap (λ (b : Bool). if b then cost else 0) is in
       omega (arith, used_change q (with_cost cost) objects partition)
 
-  cost_within : (partition : ℕ) (here : Bool) → lives_in partition row ≡ here → used_by (change_row q (with_cost cost) objects) partition + given_by partitions partition ≤ row_quota (find (is_partition partition) partitions)
-  cost_within partition true is =
+  cost_within : (partition : ℕ) (here : Bool) → 0 < partition → lives_in partition row ≡ here → used_by (change_row q (with_cost cost) objects) partition + given_by partitions partition ≤ row_quota (find (is_partition partition) partitions)
+  cost_within partition true above is =
       let free : cost ≤ rest_units objects partitions partition + 1 = subst (λ (n : ℕ). cost ≤ rest_units objects partitions n + 1) (eqb-true row.partition.0 partition is) enough in
       let moved : used_by (change_row q (with_cost cost) objects) partition + row.cost ≡ used_by objects partition + cost = cost_moved partition true is in
-      omega (arith, fit.within partition)
-  cost_within partition false is =
+      omega (arith, fit.within partition above)
+  cost_within partition false above is =
       let moved : used_by (change_row q (with_cost cost) objects) partition + 0 ≡ used_by objects partition + 0 = cost_moved partition false is in
-      omega (arith, fit.within partition)
+      omega (arith, fit.within partition above)
 
   -- a queue's cost comes from its partition's free units
   pub configure_keeps_units : UnitsFit (change_row q (with_cost cost) objects) partitions extents
   configure_keeps_units = record {
-    within = λ partition. cost_within partition (lives_in partition row) refl;
+    within = λ partition above. cost_within partition (lives_in partition row) above refl;
     quotas = quotas_kept q (with_cost cost) (record { serial = λ row. refl; kind = λ row. refl; partition = λ row. refl }) objects partitions fit.quotas;
     costs = all_change_found (cost_fits partitions extents) q (with_cost cost) objects
         (λ other is fits. cost_staged partitions extents (with_cost cost other) some (same_stage other is)) fit.costs;
@@ -112,20 +112,20 @@ module _ (objects : List ObjectRow) (partitions : List PartitionRow) (extents : 
       let new : number_found (quota_in n) (option_map (with_quota quota) (find (is_partition partition) partitions)) ≡ (if here then quota else 0) = ap (λ (o : Option PartitionRow). number_found (quota_in n) (option_map (with_quota quota) o)) found ∙ ap (λ (b : Bool). if b then quota else 0) is in
       omega (arith, given_change (is_partition partition) (with_quota quota) partitions n)
 
-  quota_within : (n : ℕ) (here : Bool) → is_given_by n row ≡ here → used_by objects n + given_by (change_row (is_partition partition) (with_quota quota) partitions) n ≤ row_quota (find (is_partition n) (change_row (is_partition partition) (with_quota quota) partitions))
-  quota_within n true is =
+  quota_within : (n : ℕ) (here : Bool) → 0 < n → is_given_by n row ≡ here → used_by objects n + given_by (change_row (is_partition partition) (with_quota quota) partitions) n ≤ row_quota (find (is_partition n) (change_row (is_partition partition) (with_quota quota) partitions))
+  quota_within n true above is =
       let free : quota ≤ rest_units objects partitions n = subst (λ (m : ℕ). quota ≤ rest_units objects partitions m) (eqb-true row.parent.0 n is) enough in
       let moved : given_by (change_row (is_partition partition) (with_quota quota) partitions) n + row.quota ≡ given_by partitions n + quota = quota_moved n true is in
-      omega (arith, fit.within n, rises_by n (n == partition) refl)
-  quota_within n false is =
+      omega (arith, fit.within n above, rises_by n (n == partition) refl)
+  quota_within n false above is =
       let moved : given_by (change_row (is_partition partition) (with_quota quota) partitions) n + 0 ≡ given_by partitions n + 0 = quota_moved n false is in
-      omega (arith, fit.within n, rises_by n (n == partition) refl)
+      omega (arith, fit.within n above, rises_by n (n == partition) refl)
 
   module _ (stage : (object : ObjectRow) → find (is_object partition) objects ≡ Some object → is_init_stage object.stage ≡ false) where
     -- a partition gets its quota once it is configured
     pub give_keeps_units : UnitsFit objects (change_row (is_partition partition) (with_quota quota) partitions) extents
     give_keeps_units = record {
-      within = λ n. quota_within n (is_given_by n row) refl;
+      within = λ n above. quota_within n (is_given_by n row) above refl;
       quotas = all_change (quota_fits objects) (is_partition partition) (with_quota quota) partitions
           (λ one is fits. and_from (nat_le quota PARTITION_UNITS) _ (le-leb quota PARTITION_UNITS small) (and_parts (nat_le one.quota PARTITION_UNITS) (lives_under (giver one) (find (is_object one.serial.0) objects)) fits).1) fit.quotas;
       costs = all_pinned (cost_fits partitions extents) (cost_fits (change_row (is_partition partition) (with_quota quota) partitions) extents) (is_object partition) objects (once partition)

@@ -57,15 +57,15 @@ module _ (objects : List ObjectRow) (partitions : List PartitionRow) (extents : 
       given_sum (without (is_partition object) partitions) object ∙ eqb-true (sum_by (quota_in object) (without (is_partition object) partitions)) 0
       (sum_by-zero (quota_in object) (without (is_partition object) partitions) ∙ all_left (quota_fits objects) (λ (row : PartitionRow). quota_in object row == 0) (is_partition object) partitions gave_none fit.quotas)
 
-  left_within : (once : count_by (is_object object) objects ≤ 1) → (once_partition : count_by (is_partition object) partitions ≤ 1) → (n : ℕ) (here : Bool) → (n == object) ≡ here → used_by (without (is_object object) objects) n + given_by (without (is_partition object) partitions) n ≤ row_quota (find (is_partition n) (without (is_partition object) partitions))
-  left_within once once_partition n true is =
+  left_within : (once : count_by (is_object object) objects ≤ 1) → (once_partition : count_by (is_partition object) partitions ≤ 1) → (n : ℕ) (here : Bool) → 0 < n → (n == object) ≡ here → used_by (without (is_object object) objects) n + given_by (without (is_partition object) partitions) n ≤ row_quota (find (is_partition n) (without (is_partition object) partitions))
+  left_within once once_partition n true above is =
       let same : n ≡ object = eqb-true n object is in
       let used : used_by (without (is_object object) objects) n ≡ 0 = rw same none_used in
       let given : given_by (without (is_partition object) partitions) n ≡ 0 = rw same none_given in
       omega arith
-  left_within once once_partition n false other =
+  left_within once once_partition n false above other =
       let same : row_quota (find (is_partition n) (without (is_partition object) partitions)) ≡ row_quota (find (is_partition n) partitions) = ap row_quota (find_left (is_partition n) (is_partition object) partitions (λ row is. other_number row.serial.0 n object other is)) in
-      omega (arith, fit.within n, used_without (is_object object) objects n once, given_without (is_partition object) partitions n once_partition)
+      omega (arith, fit.within n above, used_without (is_object object) objects n once, given_without (is_partition object) partitions n once_partition)
 
   quota_left : (row : PartitionRow) → is_partition object row ≡ false → IsTrue (quota_fits objects row) → IsTrue (quota_fits (without (is_object object) objects) row)
   quota_left row other fits =
@@ -79,7 +79,7 @@ module _ (objects : List ObjectRow) (partitions : List PartitionRow) (extents : 
   -- an object that nothing lives in goes with its rows
   pub reclaim_keeps_units : count_by (is_object object) objects ≤ 1 → count_by (is_partition object) partitions ≤ 1 → UnitsFit (without (is_object object) objects) (without (is_partition object) partitions) (without (is_extent object) extents)
   reclaim_keeps_units once once_partition = record {
-    within = λ n. left_within once once_partition n (n == object) refl;
+    within = λ n above. left_within once once_partition n (n == object) above refl;
     quotas = all_left (quota_fits objects) (quota_fits (without (is_object object) objects)) (is_partition object) partitions quota_left fit.quotas;
     costs = all_left (cost_fits partitions extents) (cost_fits (without (is_partition object) partitions) (without (is_extent object) extents)) (is_object object) objects cost_left fit.costs;
   }

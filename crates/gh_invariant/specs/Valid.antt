@@ -64,10 +64,11 @@ pub record KindRowsFit (objects : List ObjectRow) (partition_rows : List Partiti
   pub queues : HasOneEach objects kind.Queue is_queue queue_rows
   pub extents : HasOneAtMost objects kind.Extent is_extent extent_rows
 
--- units: what a partition uses and gives is within its quota
+-- units: what a partition uses and gives is within its quota. The boot's quotas are given by none, 0
 pub record UnitsFit (objects : List ObjectRow) (partitions : List PartitionRow)
     (extents : List ExtentRow) : Type 0 where
-  pub within : (partition : ℕ) → used_by objects partition + given_by partitions partition
+  pub within : (partition : ℕ) → 0 < partition
+      → used_by objects partition + given_by partitions partition
       ≤ row_quota (find (is_partition partition) partitions)
   pub quotas : IsTrue (list_all (quota_fits objects) partitions)
   pub costs : IsTrue (list_all (cost_fits partitions extents) objects)
