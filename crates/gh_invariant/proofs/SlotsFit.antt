@@ -117,30 +117,41 @@ module _ (next_serial last : ℕ) (objects : List ObjectRow) (caps : List Capabi
           let parts : SettingParts last objects one = setting_parts last objects one fits in
           setting_from last objects (with_number number one) (record { home = parts.home; slot = parts.slot; some = lt-ltb 0 number some; within = le-leb number last within })
 
+  fills_once : (row : CapabilityRow) (c n : ℕ) → find (fills row.cspace.0 row.slot) caps ≡ None → (here : Bool) → fills c n row ≡ here → count_by (fills c n) caps + one_if here ≤ 1
+  fills_once row c n free true is =
+      let same : count_by (fills c n) caps ≡ count_by (fills row.cspace.0 row.slot) caps = count_same (fills c n) (fills row.cspace.0 row.slot) caps (λ one. grind (arith, nat_tests)) in
+      let one : one_if true ≡ 1 = refl in
+      omega (arith, count_unfound (fills row.cspace.0 row.slot) caps free)
+  fills_once row c n free false is = let no : one_if false ≡ 0 = refl in omega (arith, fit.once c n)
+
+  master_once : (row : CapabilityRow) (n : ℕ) → (row.master ≡ true → count_by (is_master_of row.serial.0) caps ≡ 0) → (here : Bool) → is_master_of n row ≡ here → count_by (is_master_of n) caps + one_if here ≤ 1
+  master_once row n only true is =
+      let parts : (row.master ≡ true) × ((row.serial.0 == n) ≡ true) = and_parts _ _ is in
+      let none : count_by (is_master_of n) caps ≡ 0 = subst (λ (m : ℕ). count_by (is_master_of m) caps ≡ 0) (eqb-true row.serial.0 n parts.1) (only parts.0) in
+      let one : one_if true ≡ 1 = refl in
+      omega arith
+  master_once row n only false is = let no : one_if false ≡ 0 = refl in omega (arith, fit.masters n)
+
+  -- a free slot is filled, with its setting as it was
+  pub fill_keeps_slots : (row : CapabilityRow) → find (fills row.cspace.0 row.slot) caps ≡ None → (row.master ≡ true → count_by (is_master_of row.serial.0) caps ≡ 0) → IsTrue (slot_fits next_serial objects row) → SlotsFit next_serial last objects (caps ++ row ∷ []) set_at
+  fill_keeps_slots row free only fits = record {
+    once = λ c n. subst (λ (m : ℕ). m ≤ 1) (sym (count_push (fills c n) caps row)) (fills_once row c n free (fills c n row) refl);
+    masters = λ n. subst (λ (m : ℕ). m ≤ 1) (sym (count_push (is_master_of n) caps row)) (master_once row n only (is_master_of n row) refl);
+    filled = all_push (slot_fits next_serial objects) caps row fit.filled fits;
+    set_once = fit.set_once;
+    set = fit.set;
+  }
+
   module _ (number : ℕ) (some : 0 < number) (within : number ≤ last) where
-    fills_once : (row : CapabilityRow) (c n : ℕ) → find (fills row.cspace.0 row.slot) caps ≡ None → (here : Bool) → fills c n row ≡ here → count_by (fills c n) caps + one_if here ≤ 1
-    fills_once row c n free true is =
-        let same : count_by (fills c n) caps ≡ count_by (fills row.cspace.0 row.slot) caps = count_same (fills c n) (fills row.cspace.0 row.slot) caps (λ one. grind (arith, nat_tests)) in
-        let one : one_if true ≡ 1 = refl in
-        omega (arith, count_unfound (fills row.cspace.0 row.slot) caps free)
-    fills_once row c n free false is = let no : one_if false ≡ 0 = refl in omega (arith, fit.once c n)
-
-    master_once : (row : CapabilityRow) (n : ℕ) → (row.master ≡ true → count_by (is_master_of row.serial.0) caps ≡ 0) → (here : Bool) → is_master_of n row ≡ here → count_by (is_master_of n) caps + one_if here ≤ 1
-    master_once row n only true is =
-        let parts : (row.master ≡ true) × ((row.serial.0 == n) ≡ true) = and_parts _ _ is in
-        let none : count_by (is_master_of n) caps ≡ 0 = subst (λ (m : ℕ). count_by (is_master_of m) caps ≡ 0) (eqb-true row.serial.0 n parts.1) (only parts.0) in
-        let one : one_if true ≡ 1 = refl in
-        omega arith
-    master_once row n only false is = let no : one_if false ≡ 0 = refl in omega (arith, fit.masters n)
-
-    -- a free slot is filled
+    -- a free slot is filled by an entry
     pub put_keeps_slots : (row : CapabilityRow) → find (fills row.cspace.0 row.slot) caps ≡ None → (row.master ≡ true → count_by (is_master_of row.serial.0) caps ≡ 0) → IsTrue (slot_fits next_serial objects row) → SlotsFit next_serial last objects (caps ++ row ∷ []) (with_setting set_at row.cspace row.slot number)
     put_keeps_slots row free only fits =
         let parts : SlotParts next_serial objects row = slot_parts next_serial objects row fits in
+        let filled : SlotsFit next_serial last objects (caps ++ row ∷ []) set_at = fill_keeps_slots row free only fits in
         record {
-          once = λ c n. subst (λ (m : ℕ). m ≤ 1) (sym (count_push (fills c n) caps row)) (fills_once row c n free (fills c n row) refl);
-          masters = λ n. subst (λ (m : ℕ). m ≤ 1) (sym (count_push (is_master_of n) caps row)) (master_once row n only (is_master_of n row) refl);
-          filled = all_push (slot_fits next_serial objects) caps row fit.filled fits;
+          once = filled.once;
+          masters = filled.masters;
+          filled = filled.filled;
           set_once = λ c n. setting_once set_at row.cspace row.slot number c n (fit.set_once c n);
           set = settings_fit row.cspace row.slot number some within parts.home parts.slot;
         }
