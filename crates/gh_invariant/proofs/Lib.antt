@@ -1,4 +1,5 @@
 pub mod BootObjects
+pub mod BootPartition
 pub mod ChangedRow
 pub mod ChangesInOrder
 pub mod Counting
