@@ -1,4 +1,5 @@
 pub mod BootObjects
+pub mod BootPartition
 pub mod BootSlots
 pub mod ChangedRow
 pub mod ChangesInOrder

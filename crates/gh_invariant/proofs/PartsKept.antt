@@ -146,7 +146,7 @@ rows_kept last s Ring valid may = valid.rows
 
 -- units
 
-no_row_by : {R : Type 0} (p : R → Bool) (rows : List R) (found : Option ObjectRow) (k : Kind) → found ≡ None → count_by p rows ≤ one_if (is_of_kind k found) → find p rows ≡ None
+pub no_row_by : {R : Type 0} (p : R → Bool) (rows : List R) (found : Option ObjectRow) (k : Kind) → found ≡ None → count_by p rows ≤ one_if (is_of_kind k found) → find p rows ≡ None
 no_row_by p rows None k none few =
     unfound p rows (let zero : one_if (is_of_kind k None) ≡ 0 = refl in omega arith)
 no_row_by p rows (Some row) k none few = absurd (let never : ⊥ = cc in never)
