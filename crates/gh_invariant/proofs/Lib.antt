@@ -1,3 +1,6 @@
+pub mod BootObjects
+pub mod BootPartition
+pub mod BootSlots
 pub mod CapabilityMade
 pub mod ChangedRow
 pub mod ChangesInOrder
@@ -27,6 +30,7 @@ pub mod QueuesKept
 pub mod ReferencesLaw
 pub mod ReferencesMoved
 pub mod Referred
+pub mod RetiredKept
 pub mod RowsLeft
 pub mod RowsTested
 pub mod Settings

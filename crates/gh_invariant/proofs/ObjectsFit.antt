@@ -88,15 +88,15 @@ module _ (next : ℕ) (objects : List ObjectRow) (row : ObjectRow) (serial : row
       let zero : one_if (is_object n row) ≡ 0 = one_false (is_object n row) (ne_eqb row.serial.0 n other) in
       omega arith
 
-  module _ (home : IsTrue (lives_as objects row.partition.0 kind.Partition)) (partitions : kind_total objects kind.Partition + one_if (kind_number row.kind == kind_number kind.Partition) ≤ PARTITIONS) (cspaces : kind_total objects kind.Cspace + one_if (kind_number row.kind == kind_number kind.Cspace) ≤ CSPACES) where
-    -- an object with the next serial, in a partition that lives
+  module _ (home : IsTrue (is_housed (objects ++ row ∷ []) row)) (partitions : kind_total objects kind.Partition + one_if (kind_number row.kind == kind_number kind.Partition) ≤ PARTITIONS) (cspaces : kind_total objects kind.Cspace + one_if (kind_number row.kind == kind_number kind.Cspace) ≤ CSPACES) where
+    -- an object with the next serial, in a partition that lives then
     pub add_keeps_objects : ObjectsFit (next + 1) (objects ++ row ∷ [])
     add_keeps_objects = record {
       some = omega arith;
       once = λ n. rw (count_push (is_object n) objects row) (once_more (count_by (is_object n) objects) (is_object n row) (fit.once n) (unmade n));
       none = not_now 0 (λ is. (let some : 0 < next = fit.some in omega arith)) fit.none;
       later = λ n new. not_now n (λ is. omega arith) (fit.later n (omega arith));
-      housed = all_push (is_housed (objects ++ row ∷ [])) objects row (all_by (is_housed objects) (is_housed (objects ++ row ∷ [])) objects (λ one housed. lives_beside objects row one.partition.0 kind.Partition housed) fit.housed) (lives_beside objects row row.partition.0 kind.Partition home);
+      housed = all_push (is_housed (objects ++ row ∷ [])) objects row (all_by (is_housed objects) (is_housed (objects ++ row ∷ [])) objects (λ one housed. lives_beside objects row one.partition.0 kind.Partition housed) fit.housed) home;
       partitions = rw (count_push (λ (one : ObjectRow). kind_number one.kind == kind_number kind.Partition) objects row) partitions;
       cspaces = rw (count_push (λ (one : ObjectRow). kind_number one.kind == kind_number kind.Cspace) objects row) cspaces;
     }

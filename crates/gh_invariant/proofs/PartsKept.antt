@@ -59,7 +59,7 @@ room_for most total room =
 room_as : (most total : ℕ) → total ≤ most → total + one_if false ≤ most
 room_as most total within = (let none : one_if false ≡ 0 = refl in omega arith)
 
-few_partitions : (s : State) (k : Kind) → is_full s k ≡ false → kind_total s.objects kind.Partition ≤ PARTITIONS → kind_total s.objects kind.Partition + one_if (kind_number k == kind_number kind.Partition) ≤ PARTITIONS
+pub few_partitions : (s : State) (k : Kind) → is_full s k ≡ false → kind_total s.objects kind.Partition ≤ PARTITIONS → kind_total s.objects kind.Partition + one_if (kind_number k == kind_number kind.Partition) ≤ PARTITIONS
 few_partitions s kind.Partition room within = room_for PARTITIONS (kind_total s.objects kind.Partition) room
 few_partitions s kind.Cspace room within = room_as PARTITIONS (kind_total s.objects kind.Partition) within
 few_partitions s kind.Space room within = room_as PARTITIONS (kind_total s.objects kind.Partition) within
@@ -67,7 +67,7 @@ few_partitions s kind.Extent room within = room_as PARTITIONS (kind_total s.obje
 few_partitions s kind.Bell room within = room_as PARTITIONS (kind_total s.objects kind.Partition) within
 few_partitions s kind.Queue room within = room_as PARTITIONS (kind_total s.objects kind.Partition) within
 
-few_cspaces : (s : State) (k : Kind) → is_full s k ≡ false → kind_total s.objects kind.Cspace ≤ CSPACES → kind_total s.objects kind.Cspace + one_if (kind_number k == kind_number kind.Cspace) ≤ CSPACES
+pub few_cspaces : (s : State) (k : Kind) → is_full s k ≡ false → kind_total s.objects kind.Cspace ≤ CSPACES → kind_total s.objects kind.Cspace + one_if (kind_number k == kind_number kind.Cspace) ≤ CSPACES
 few_cspaces s kind.Cspace room within = room_for CSPACES (kind_total s.objects kind.Cspace) room
 few_cspaces s kind.Partition room within = room_as CSPACES (kind_total s.objects kind.Cspace) within
 few_cspaces s kind.Space room within = room_as CSPACES (kind_total s.objects kind.Cspace) within
@@ -81,7 +81,7 @@ objects_kept last s (PutCapability row) valid may = valid.objects
 objects_kept last s (DropCapability cspace slot) valid may = valid.objects
 objects_kept last s (RevokeCapability cspace slot) valid may = valid.objects
 objects_kept last s (AddObject row) valid may =
-    add_keeps_objects s.next_serial s.objects row may.serial valid.objects may.partition (few_partitions s row.kind may.room valid.objects.partitions) (few_cspaces s row.kind may.room valid.objects.cspaces)
+    add_keeps_objects s.next_serial s.objects row may.serial valid.objects (lives_beside s.objects row row.partition.0 kind.Partition may.partition) (few_partitions s row.kind may.room valid.objects.partitions) (few_cspaces s row.kind may.room valid.objects.cspaces)
 objects_kept last s (SetStage object stage) valid may =
     change_keeps_objects (is_object object.0) (with_stage stage) (stage_keeps stage) s.objects s.next_serial valid.objects
 objects_kept last s (Retire object seen) valid may =
@@ -146,7 +146,7 @@ rows_kept last s Ring valid may = valid.rows
 
 -- units
 
-no_row_by : {R : Type 0} (p : R → Bool) (rows : List R) (found : Option ObjectRow) (k : Kind) → found ≡ None → count_by p rows ≤ one_if (is_of_kind k found) → find p rows ≡ None
+pub no_row_by : {R : Type 0} (p : R → Bool) (rows : List R) (found : Option ObjectRow) (k : Kind) → found ≡ None → count_by p rows ≤ one_if (is_of_kind k found) → find p rows ≡ None
 no_row_by p rows None k none few =
     unfound p rows (let zero : one_if (is_of_kind k None) ≡ 0 = refl in omega arith)
 no_row_by p rows (Some row) k none few = absurd (let never : ⊥ = cc in never)

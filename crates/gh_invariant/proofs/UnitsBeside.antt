@@ -49,7 +49,7 @@ under_or : (parent : ℕ) (old new : Option ObjectRow) → IsTrue (lives_under p
 under_or parent None new under = absurd (let never : ⊥ = cc in never)
 under_or parent (Some row) new under = under
 
-quota_stays : (objects : List ObjectRow) (object : ObjectRow) (row : PartitionRow) → IsTrue (quota_fits objects row) → IsTrue (quota_fits (objects ++ object ∷ []) row)
+pub quota_stays : (objects : List ObjectRow) (object : ObjectRow) (row : PartitionRow) → IsTrue (quota_fits objects row) → IsTrue (quota_fits (objects ++ object ∷ []) row)
 quota_stays objects object row fits =
     let parts : (nat_le row.quota PARTITION_UNITS ≡ true) × (lives_under (giver row) (find (is_object row.serial.0) objects) ≡ true) = and_parts _ _ fits in
     and_from _ _ parts.0 (rw (find_push (is_object row.serial.0) objects object) (under_or (giver row) (find (is_object row.serial.0) objects) (find (is_object row.serial.0) (object ∷ [])) parts.1))

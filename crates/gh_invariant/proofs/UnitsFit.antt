@@ -41,7 +41,7 @@ module _ (q : ObjectRow → Bool) (change : ObjectRow → ObjectRow) (keeps : Ke
   quotas_kept all = all_by (quota_fits objects) (quota_fits (change_row q change objects)) partitions quota_kept all
 
 -- a stage that isn't INIT asks nothing of the cost but that there is one
-cost_staged : (partitions : List PartitionRow) (extents : List ExtentRow) (row : ObjectRow) → 0 < row.cost → is_init_stage row.stage ≡ false → IsTrue (cost_fits partitions extents row)
+pub cost_staged : (partitions : List PartitionRow) (extents : List ExtentRow) (row : ObjectRow) → 0 < row.cost → is_init_stage row.stage ≡ false → IsTrue (cost_fits partitions extents row)
 cost_staged partitions extents row some stage =
     and_from (nat_lt 0 row.cost) _ (lt-ltb 0 row.cost some) (rw stage refl)
 
