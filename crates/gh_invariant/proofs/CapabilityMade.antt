@@ -74,9 +74,8 @@ module _ (s : State) (valid : IsValid s) where
   valid_names cspace slot row found is =
       let fits : IsTrue (slot_fits s.next_serial s.objects row) =
       found_all (fills cspace slot) (slot_fits s.next_serial s.objects) s.caps row valid.slots.filled found in
-      valid_names_by row.valid (lives_as s.objects row.serial.0 row.kind) is (and_parts
-      (lives_as s.objects row.cspace.0 kind.Cspace && is_slot row.slot && nat_lt 0 row.serial.0 && nat_lt row.serial.0 s.next_serial)
-      (not row.valid || lives_as s.objects row.serial.0 row.kind) fits).1
+      valid_names_by row.valid (lives_as s.objects row.serial.0 row.kind) is
+      (slot_parts s.next_serial s.objects row fits).object
 
   copied_into_made : (row : CapabilityRow) (cspace : Serial) (mask : ℕ) (slot : Option ℕ) → free_slot s cspace.0 ≡ slot
       → IsTrue (lives_as s.objects cspace.0 kind.Cspace) → IsTrue (lives_as s.objects row.serial.0 row.kind) → row.valid ≡ true

@@ -32,18 +32,9 @@ use Rattle.gh_model.specs.declared.rows.ObjectRow.{ObjectRow}
 use Rattle.gh_model.specs.declared.state.State.{State}
 use Rattle.gh_model.specs.declared.state_reads.QueueFill.{QueueFill}
 use Rattle.gh_invariant.specs.Grants.{GivesToReferred, MayAct, grants_stand, is_referred, is_running}
-use Rattle.gh_invariant.proofs.DecisionMade.{named_needs}
+use Rattle.gh_invariant.proofs.GrantsReferred.{extent_referred, first_of_two, second_of_two, space_referred}
 use Rattle.gh_invariant.proofs.GivesMade.{activated_gives, caps_revoke_gives, copied_gives, created_gives, deleted_gives, derived_gives, donated_gives, mapped_gives, quota_gives, revoked_gives, room_gives, unmapped_gives}
 use Rattle.gh_invariant.proofs.Referred.{cpu_refers, first_referred, gives_provided, gives_unless, second_referred}
-
--- as many grants as needs
-as_many : (s : State) (needs : List (ℕ × Need)) (grants : List Serial) → IsTrue (grants_stand s.objects needs grants) → length grants ≡ length needs
-as_many s [] [] stand = refl
-as_many s [] (grant ∷ grants) stand = absurd (let never : ⊥ = cc in never)
-as_many s (need ∷ needs) [] stand = absurd (let never : ⊥ = cc in never)
-as_many s (need ∷ needs) (grant ∷ grants) stand =
-    let others : length grants ≡ length needs = as_many s needs grants (and_parts _ (grants_stand s.objects needs grants) stand).1 in
-    omega arith
 
 module _ (s : State) where
   sent_gives : (flags : ℕ) (row : Option BellRow) → GivesToReferred s (bells.sent flags row)
@@ -89,35 +80,7 @@ module _ (s : State) where
   looked_gives None = tt
   looked_gives (Some found) = refl
 
-module _ (s : State) (cpu : ℕ) (running : IsTrue (is_running (cpu_row s cpu))) (space extent : ℕ) (rights : Rights)
-    (grants : List Serial) (live : any_doomed s grants ≡ false) where
-  space_referred : (own : Bool) → IsTrue (grants_stand s.objects (named_needs space extent rights own) grants)
-      → IsTrue (is_referred s (if own then row_space (cpu_row s cpu) else grant_at grants 0))
-  space_referred true stand = cpu_refers s cpu running
-  space_referred false stand =
-      let two : length grants ≡ 2 = as_many s (named_needs space extent rights false) grants stand in
-      first_referred s grants (omega arith) live
-
-  extent_referred : (own : Bool) → IsTrue (grants_stand s.objects (named_needs space extent rights own) grants)
-      → IsTrue (is_referred s (if own then grant_at grants 0 else grant_at grants 1))
-  extent_referred true stand =
-      let one : length grants ≡ 1 = as_many s (named_needs space extent rights true) grants stand in
-      first_referred s grants (omega arith) live
-  extent_referred false stand =
-      let two : length grants ≡ 2 = as_many s (named_needs space extent rights false) grants stand in
-      second_referred s grants (omega arith) live
-
 module _ (s : State) (cpu : ℕ) (running : IsTrue (is_running (cpu_row s cpu))) (bytes : List ℕ) (grants : List Serial) where
-  first_of_two : (first second : ℕ × Need) → IsTrue (grants_stand s.objects (first ∷ second ∷ []) grants) → any_doomed s grants ≡ false
-      → IsTrue (is_referred s (grant_at grants 0))
-  first_of_two first second stand live =
-      let two : length grants ≡ 2 = as_many s (first ∷ second ∷ []) grants stand in first_referred s grants (omega arith) live
-
-  second_of_two : (first second : ℕ × Need) → IsTrue (grants_stand s.objects (first ∷ second ∷ []) grants) → any_doomed s grants ≡ false
-      → IsTrue (is_referred s (grant_at grants 1))
-  second_of_two first second stand live =
-      let two : length grants ≡ 2 = as_many s (first ∷ second ∷ []) grants stand in second_referred s grants (omega arith) live
-
   -- what each call comes to gives no reference to an object that lives and has none
   decided_gives : (call : Call) → IsTrue (grants_stand s.objects (needs_of call) grants) → is_at_end s call grants ≡ false
       → GivesToReferred s (decided s cpu call bytes grants)
@@ -142,14 +105,14 @@ module _ (s : State) (cpu : ℕ) (running : IsTrue (is_running (cpu_row s cpu)))
       donated_gives s (options % 256) (grant_at grants 1) (page_of offset) (page_of size) _
   decided_gives (calls.Derive child parent offset size access) stand live =
       derived_gives s (grant_at grants 0) (grant_at grants 1) offset size access _
-      (first_of_two (child, of_kind kind.Extent right.DERIVE) (parent, of_kind kind.Extent right.DERIVE) stand live)
-      (second_of_two (child, of_kind kind.Extent right.DERIVE) (parent, of_kind kind.Extent right.DERIVE) stand live)
+      (first_of_two s grants (child, of_kind kind.Extent right.DERIVE) (parent, of_kind kind.Extent right.DERIVE) stand live)
+      (second_of_two s grants (child, of_kind kind.Extent right.DERIVE) (parent, of_kind kind.Extent right.DERIVE) stand live)
   decided_gives (calls.AsLookup space address) stand live =
       gives_provided s (nat_lt (page_of address) 4096) AddrInval _ (λ within. looked_gives s _)
   decided_gives (calls.Create partition cspace number) stand live =
       created_gives s (grant_at grants 0) (grant_at grants 1) (kind_numbered number)
-      (first_of_two (partition, of_kind kind.Partition right.CREATE) (cspace, of_kind kind.Cspace right.CREATE) stand live)
-      (second_of_two (partition, of_kind kind.Partition right.CREATE) (cspace, of_kind kind.Cspace right.CREATE) stand live)
+      (first_of_two s grants (partition, of_kind kind.Partition right.CREATE) (cspace, of_kind kind.Cspace right.CREATE) stand live)
+      (second_of_two s grants (partition, of_kind kind.Partition right.CREATE) (cspace, of_kind kind.Cspace right.CREATE) stand live)
   decided_gives (calls.ConfigurePartition cap quota) stand live =
       gives_unless s (nat_lt 128 quota) ArgInval _ (λ few. quota_gives s (grant_at grants 0) quota _)
   decided_gives (calls.ConfigureQueue cap depth size) stand live =
@@ -157,7 +120,7 @@ module _ (s : State) (cpu : ℕ) (running : IsTrue (is_running (cpu_row s cpu)))
   decided_gives (calls.Activate cap) stand live = activated_gives s (grant_at grants 0) (object_row s (grant_at grants 0).0)
   decided_gives (calls.CapCopy cspace source mask) stand live =
       copied_gives s (grant_at grants 0) (grant_at grants 1) mask (cpu_cspace s.cpus cpu) source _ refl
-      (first_of_two (cspace, of_kind kind.Cspace right.COPY) (source, of_any_kind right.NONE) stand live)
+      (first_of_two s grants (cspace, of_kind kind.Cspace right.COPY) (source, of_any_kind right.NONE) stand live)
   decided_gives (calls.CapDelete cspace slot) stand live = deleted_gives s _
   decided_gives (calls.CapRevoke cspace slot) stand live = revoked_gives s _
   decided_gives (calls.CapsRevoke cap) stand live = caps_revoke_gives s (grant_at grants 0)

@@ -33,6 +33,7 @@ use Rattle.gh_invariant.proofs.Counting.{found_all}
 use Rattle.gh_invariant.proofs.CapabilityMade.{cap_copy_made, cap_delete_made, cap_revoke_made, caps_revoke_made}
 use Rattle.gh_invariant.proofs.ConfigureMade.{configure_partition_made, configure_queue_made}
 use Rattle.gh_invariant.proofs.DeriveMade.{derived_made}
+use Rattle.gh_invariant.proofs.GrantsReferred.{extent_referred, first_of_two, named_needs, second_of_two, space_referred}
 use Rattle.gh_invariant.proofs.MayMake.{active_lives, at_most_by, first_none, granted_kind, not_false, some_pages, unless}
 use Rattle.gh_invariant.proofs.MemoryMade.{donated_made, mapped_made, unmapped_made}
 use Rattle.gh_invariant.proofs.ObjectsMade.{activate_made, create_made, or_none}
@@ -113,11 +114,6 @@ own_space : (s : State) (valid : IsValid s) (cpu : ℕ) → IsTrue (is_running (
 own_space s valid cpu running = own_space_by s valid cpu (cpu_row s cpu) refl running
 
 -- the address space and the extent that a call names live
-abbrev pub named_needs : ℕ → ℕ → Rights → Bool → List (ℕ × Need)
-named_needs space extent rights own =
-    if own then (extent, of_kind kind.Extent rights) ∷ []
-    else (space, of_kind kind.Space rights) ∷ (extent, of_kind kind.Extent rights) ∷ []
-
 module _ (s : State) (valid : IsValid s) (cpu : ℕ) (running : IsTrue (is_running (cpu_row s cpu)))
     (space extent : ℕ) (rights : Rights) (grants : List Serial) (all : all_active s grants ≡ true) where
   abbrev space_named : Bool → Serial
@@ -200,56 +196,62 @@ quota_bounds quota fits =
 module _ (s : State) (valid : IsValid s) (cpu : ℕ) (running : IsTrue (is_running (cpu_row s cpu))) (bytes : List ℕ) (grants : List Serial) where
   -- what each call comes to may be made
   decided_made : (call : Call) → first_of (shape_refusals call (length bytes)) ≡ None
-      → IsTrue (grants_stand s.objects (needs_of call) grants) → stages_fit s call grants ≡ true
+      → IsTrue (grants_stand s.objects (needs_of call) grants) → stages_fit s call grants ≡ true → is_at_end s call grants ≡ false
       → MayMake s (decided s cpu call bytes grants)
-  decided_made calls.Identify shape stand stages = tt
-  decided_made calls.Exit shape stand stages = exit_made s (record { 0 = cpu })
-  decided_made (calls.BellSend cap flags) shape stand stages = sent_made s flags (bell_row s (grant_at grants 0))
-  decided_made (calls.BellSetMask cap enable ack) shape stand stages = masked_made s enable ack (bell_row s (grant_at grants 0))
-  decided_made (calls.BellReceive cap clear) shape stand stages = received_made s clear (bell_row s (grant_at grants 0))
-  decided_made (calls.BellReset cap) shape stand stages = record { first = tt; others = tt }
-  decided_made (calls.MsgqSend cap size buffer flags) shape stand stages =
+  decided_made calls.Identify shape stand stages live = tt
+  decided_made calls.Exit shape stand stages live = exit_made s (record { 0 = cpu })
+  decided_made (calls.BellSend cap flags) shape stand stages live = sent_made s flags (bell_row s (grant_at grants 0))
+  decided_made (calls.BellSetMask cap enable ack) shape stand stages live = masked_made s enable ack (bell_row s (grant_at grants 0))
+  decided_made (calls.BellReceive cap clear) shape stand stages live = received_made s clear (bell_row s (grant_at grants 0))
+  decided_made (calls.BellReset cap) shape stand stages live = record { first = tt; others = tt }
+  decided_made (calls.MsgqSend cap size buffer flags) shape stand stages live =
       put_made s (grant_at grants 0) bytes
-  decided_made (calls.MsgqRecv cap buffer size) shape stand stages =
+  decided_made (calls.MsgqRecv cap buffer size) shape stand stages live =
       taken_made s (grant_at grants 0) size (queue_fill s (grant_at grants 0)) (first_message s (grant_at grants 0))
-  decided_made (calls.MsgqFlush cap) shape stand stages = flushed_made s (grant_at grants 0) (queue_fill s (grant_at grants 0))
-  decided_made (calls.Map space extent base attributes flags offset size) shape stand stages =
+  decided_made (calls.MsgqFlush cap) shape stand stages live = flushed_made s (grant_at grants 0) (queue_fill s (grant_at grants 0))
+  decided_made (calls.Map space extent base attributes flags offset size) shape stand stages live =
       mapped_made s valid (named_space s cpu space grants) (named_extent space grants) base (user_access attributes) flags offset size
       _ refl (map_pages space extent base attributes flags offset size (length bytes) shape)
       (space_by s valid cpu running space extent right.MAP grants stages (space == 0) stand)
       (extent_by s valid cpu running space extent right.MAP grants stages (space == 0) stand)
-  decided_made (calls.Unmap space extent base flags offset size) shape stand stages =
+      (space_referred s cpu running space extent right.MAP grants live (space == 0) stand)
+      (extent_referred s cpu running space extent right.MAP grants live (space == 0) stand)
+  decided_made (calls.Unmap space extent base flags offset size) shape stand stages live =
       unmapped_made s (named_space s cpu space grants) (named_extent space grants) base flags offset size _
-  decided_made (calls.Donate options giver receiver offset size) shape stand stages =
+  decided_made (calls.Donate options giver receiver offset size) shape stand stages live =
       donated_made s (options % 256) (grant_at grants 1) (page_of offset) (page_of size) _
-  decided_made (calls.Derive child parent offset size access) shape stand stages =
+  decided_made (calls.Derive child parent offset size access) shape stand stages live =
       let both : (is_init s (grant_at grants 0) ≡ true) × (is_active s (grant_at grants 1) ≡ true) = and_parts _ _ stages in
       derived_made s valid (grant_at grants 0) (grant_at grants 1) offset size access _ refl
       (derive_pages child parent offset size access (length bytes) shape) both.0
       (init_lives s child kind.Extent right.DERIVE grants ((parent, of_kind kind.Extent right.DERIVE) ∷ []) stand both.0)
-  decided_made (calls.AsLookup space address) shape stand stages =
+      (second_of_two s grants (child, of_kind kind.Extent right.DERIVE) (parent, of_kind kind.Extent right.DERIVE) stand live)
+  decided_made (calls.AsLookup space address) shape stand stages live =
       as_lookup_made s (named_space s cpu space grants) address
-  decided_made (calls.Create partition cspace number) shape stand stages =
+  decided_made (calls.Create partition cspace number) shape stand stages live =
       create_made s valid (grant_at grants 0) (grant_at grants 1) number
       (first_lives s partition kind.Partition right.CREATE grants ((cspace, of_kind kind.Cspace right.CREATE) ∷ []) stand stages)
       (second_lives s cspace kind.Cspace right.CREATE grants (partition, of_kind kind.Partition right.CREATE) stand stages)
-  decided_made (calls.ConfigurePartition cap quota) shape stand stages =
+      (first_of_two s grants (partition, of_kind kind.Partition right.CREATE) (cspace, of_kind kind.Cspace right.CREATE) stand live)
+      (second_of_two s grants (partition, of_kind kind.Partition right.CREATE) (cspace, of_kind kind.Cspace right.CREATE) stand live)
+  decided_made (calls.ConfigurePartition cap quota) shape stand stages live =
       let bounds : (0 < quota) × (quota ≤ PARTITION_UNITS) =
       quota_bounds quota (first_none ((quota == 0) || nat_lt PARTITION_UNITS quota) ArgInval [] shape).0 in
       configure_partition_made s valid (grant_at grants 0) quota bounds.0 bounds.1 stages
       (init_lives s cap kind.Partition right.ACTIVATE grants [] stand stages)
-  decided_made (calls.ConfigureQueue cap depth size) shape stand stages =
+  decided_made (calls.ConfigureQueue cap depth size) shape stand stages live =
       configure_queue_made s valid (grant_at grants 0) depth size stages
       (init_lives s cap kind.Queue right.ACTIVATE grants [] stand stages)
-  decided_made (calls.Activate cap) shape stand stages = activate_made s (grant_at grants 0)
-  decided_made (calls.CapCopy cspace source mask) shape stand stages =
+  decided_made (calls.Activate cap) shape stand stages live = activate_made s (grant_at grants 0)
+  decided_made (calls.CapCopy cspace source mask) shape stand stages live =
       cap_copy_made s valid cpu (grant_at grants 0) (grant_at grants 1) source mask
       (first_fits s cspace kind.Cspace right.COPY grants ((source, of_any_kind right.NONE) ∷ []) stand stages)
-  decided_made (calls.CapDelete cspace slot) shape stand stages = cap_delete_made s (grant_at grants 0) slot
-  decided_made (calls.CapRevoke cspace slot) shape stand stages = cap_revoke_made s (grant_at grants 0) slot
-  decided_made (calls.CapsRevoke cap) shape stand stages = caps_revoke_made s (grant_at grants 0)
-  decided_made (calls.RmAct cap vm) shape stand stages = rm_act_made s vm bytes
-  decided_made (calls.RmPoll cap) shape stand stages = tt
+      (first_of_two s grants (cspace, of_kind kind.Cspace right.COPY) (source, of_any_kind right.NONE) stand live)
+  decided_made (calls.CapDelete cspace slot) shape stand stages live = cap_delete_made s (grant_at grants 0) slot
+  decided_made (calls.CapRevoke cspace slot) shape stand stages live = cap_revoke_made s (grant_at grants 0) slot
+  decided_made (calls.CapsRevoke cap) shape stand stages live = caps_revoke_made s (grant_at grants 0)
+  decided_made (calls.RmAct cap vm) shape stand stages live = rm_act_made s vm bytes
+  decided_made (calls.RmPoll cap) shape stand stages live = tt
 
 -- what a call comes to may be made, whatever refuses it before
 pub decision_made : (s : State) → IsValid s → (moved : Bool) (cpu : ℕ) (call : Call) (bytes : List ℕ) (grants : List Serial)
@@ -258,4 +260,4 @@ decision_made s valid moved cpu call bytes grants may =
     unless s (is_at_end s call grants) CapRevoked _ (λ live.
     unless s (not (stages_fit s call grants)) ObjState _ (λ stages.
     unless s moved Retry _ (λ here.
-    decided_made s valid cpu may.running bytes grants call may.shape may.granted (not_false _ stages))))
+    decided_made s valid cpu may.running bytes grants call may.shape may.granted (not_false _ stages) live)))

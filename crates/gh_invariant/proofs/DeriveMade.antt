@@ -24,8 +24,8 @@ use Rattle.gh_invariant.specs.Premises.{MayMove, MaySpan}
 use Rattle.gh_invariant.specs.Valid.{IsValid}
 use Rattle.gh_invariant.proofs.ConfigureMade.{extent_new, init_found, new_object_is, nobody, none_there, own_serial, ready, ready_kind, ready_row, row_of_kind}
 use Rattle.gh_invariant.proofs.Counting.{find_push_new, found_all, found_one}
-use Rattle.gh_invariant.proofs.MayMake.{at_most_by, not_false, unless}
-use Rattle.gh_invariant.proofs.ObjectsMade.{itself, or_none}
+use Rattle.gh_invariant.proofs.MayMake.{at_most_by, itself, not_false, unless}
+use Rattle.gh_invariant.proofs.ObjectsMade.{or_none}
 
 -- numbers are at most themselves
 at_most_itself : (n : ℕ) → IsTrue (nat_le n n)

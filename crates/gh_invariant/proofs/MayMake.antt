@@ -1,5 +1,5 @@
 -- What every call comes to may be made: the changes of a decision, in a valid state.
-use Rattle.std.proofs.Common.{◌≡◌, ◌+◌, ◌-◌, ◌*◌, ◌/◌, ◌%◌, ◌<◌, ◌≤◌, ◌∙◌, ℕ, suc, Bool, true, false, not, List, [], ◌∷◌, ◌++◌, length, refl, subst, sym, ap, arith, Option, Some, None, IsTrue, find, if◌then◌else◌}
+use Rattle.std.proofs.Common.{◌≡◌, ◌+◌, ◌-◌, ◌*◌, ◌/◌, ◌%◌, ◌<◌, ◌≤◌, ◌∙◌, ℕ, suc, Bool, true, false, not, List, [], ◌∷◌, ◌++◌, length, refl, subst, sym, ap, arith, Option, Some, None, IsTrue, find, eqb, if◌then◌else◌}
 use Rattle.std.specs.Prelude.{◌&&◌, ◌||◌, ◌==◌, is_some, nat_lt, nat_le, count_by}
 use Rattle.std.proofs.lemmas.Bool.{cases_Bool, and_parts, and_from, eqb-true, leb-true}
 use Rattle.std.proofs.lemmas.Bool.Decides.{nat_tests}
@@ -60,6 +60,9 @@ not_false true is = refl
 not_false false is = absurd (let never : ⊥ = cc in never)
 
 -- tests of numbers that fail
+
+pub itself : (n : ℕ) → eqb n n ≡ true
+itself n = grind (arith, nat_tests)
 
 pub at_most_by : (a b : ℕ) → nat_lt a b ≡ false → IsTrue (nat_le b a)
 at_most_by a b fails = grind (arith, nat_tests)

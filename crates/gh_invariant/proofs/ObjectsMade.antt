@@ -22,16 +22,14 @@ use Rattle.gh_model.specs.declared.change.Decision.TheVariants.{Refuse, Make}
 use Rattle.gh_model.specs.declared.rows.CapabilityRow.{CapabilityRow}
 use Rattle.gh_model.specs.declared.rows.ObjectRow.{ObjectRow}
 use Rattle.gh_model.specs.declared.state.State.{State}
-use Rattle.gh_invariant.specs.Grants.{MayMake}
+use Rattle.gh_invariant.specs.Grants.{MayMake, is_referred}
 use Rattle.gh_invariant.specs.Lives.{lives_as}
 use Rattle.gh_invariant.specs.Premises.{MayAdd, MayPut}
 use Rattle.gh_invariant.specs.Valid.{IsValid}
 use Rattle.gh_invariant.proofs.CapabilityMade.{IsFree, free_slot_is}
 use Rattle.gh_invariant.proofs.Counting.{find_push_found, find_push_new, unfound}
-use Rattle.gh_invariant.proofs.MayMake.{at_most_by, one, unless}
-
-pub itself : (n : ℕ) → eqb n n ≡ true
-itself n = grind (arith, nat_tests)
+use Rattle.gh_invariant.proofs.MayMake.{at_most_by, itself, one, unless}
+use Rattle.gh_invariant.proofs.Referred.{may_refer, refer_push}
 
 -- what lives does so behind a further object
 lives_push_by : (k : Kind) (objects : List ObjectRow) (row : ObjectRow) (serial : ℕ) (found : Option ObjectRow)
@@ -66,12 +64,43 @@ new_cost kind.Extent init = refl
 new_cost kind.Bell init = refl
 new_cost kind.Queue init = refl
 
+-- a master has the rights of its kind at most
+kind_rights_fit : (k : Kind) → (bit_and (master_rights k) (kind_rights k) == master_rights k) ≡ true
+kind_rights_fit kind.Partition = refl
+kind_rights_fit kind.Cspace = refl
+kind_rights_fit kind.Space = refl
+kind_rights_fit kind.Extent = refl
+kind_rights_fit kind.Bell = refl
+kind_rights_fit kind.Queue = refl
+
+-- no slot names an object that isn't made yet, so it has no master
+names_other_by : (s : State) (row : CapabilityRow) (master here : Bool) → (row.serial.0 == s.next_serial) ≡ here
+    → IsTrue (slot_fits s.next_serial s.objects row) → not (master && here) ≡ true
+names_other_by s row false here is fits = refl
+names_other_by s row true false is fits = refl
+names_other_by s row true true is fits =
+    let same : row.serial.0 ≡ s.next_serial = eqb-true row.serial.0 s.next_serial is in
+    let below : nat_lt row.serial.0 s.next_serial ≡ true = made s row fits in
+    absurd (let never : false ≡ true = sym (not_below s.next_serial) ∙ ap (λ (n : ℕ). nat_lt n s.next_serial) (sym same) ∙ below in cc)
+  where
+    not_below : (n : ℕ) → nat_lt n n ≡ false
+    not_below n = grind (arith, nat_tests)
+    made : (s : State) (row : CapabilityRow) → IsTrue (slot_fits s.next_serial s.objects row) → nat_lt row.serial.0 s.next_serial ≡ true
+    made s row fits = lt-ltb row.serial.0 s.next_serial (slot_parts s.next_serial s.objects row fits).within
+
+no_master : (s : State) → IsValid s → count_by (is_master_of s.next_serial) s.caps ≡ 0
+no_master s valid =
+    none_by (is_master_of s.next_serial) s.caps
+    (all_by (slot_fits s.next_serial s.objects) (λ (row : CapabilityRow). not (is_master_of s.next_serial row)) s.caps
+    (λ row fits. names_other_by s row row.master (row.serial.0 == s.next_serial) refl fits) valid.slots.filled)
+
 module _ (s : State) (valid : IsValid s) where
   created_in_made : (partition cspace : Serial) (k : Kind) (slot : Option ℕ) → free_slot s cspace.0 ≡ slot
       → IsTrue (lives_as s.objects partition.0 kind.Partition) → IsTrue (lives_as s.objects cspace.0 kind.Cspace)
+      → IsTrue (is_referred s partition) → IsTrue (is_referred s cspace)
       → MayMake s (created_in s partition cspace k slot)
-  created_in_made partition cspace k None free owner home = tt
-  created_in_made partition cspace k (Some slot) free owner home =
+  created_in_made partition cspace k None free owner home from_owner from_home = tt
+  created_in_made partition cspace k (Some slot) free owner home from_owner from_home =
       unless s (lacks_room s partition k) Nomem _ (λ roomy.
       let room : (nat_lt (free_units s partition.0) (kind_cost k) ≡ false) × (is_full s k ≡ false) = or_none _ _ roomy in
       let row : ObjectRow = new_object s partition k in
@@ -84,6 +113,8 @@ module _ (s : State) (valid : IsValid s) where
         some = some_cost k;
         units = units;
         new = new_cost k;
+        unretired = refl;
+        from_object = may_refer s valid partition from_owner;
       } in
       let place : IsFree s cspace.0 slot = free_slot_is s cspace.0 slot free in
       let none : find (is_object s.next_serial) s.objects ≡ None =
@@ -96,19 +127,27 @@ module _ (s : State) (valid : IsValid s) where
         home = lives_push kind.Cspace s.objects row cspace.0 home;
         object = subst (λ (o : Option ObjectRow). IsTrue (is_of_kind k o)) (sym new) (itself (kind_number k));
         valid = refl;
+        rights = kind_rights_fit k;
+        master = λ is. no_master s valid;
+        from_slot = refer_push s row cspace.0 refl (may_refer s valid cspace from_home);
+        from_capability = ap is_retired new;
       } in
       record { first = added; others = record { first = put; others = tt } })
 
   created_made : (partition cspace : Serial) (k : Option Kind)
       → IsTrue (lives_as s.objects partition.0 kind.Partition) → IsTrue (lives_as s.objects cspace.0 kind.Cspace)
+      → IsTrue (is_referred s partition) → IsTrue (is_referred s cspace)
       → MayMake s (created s partition cspace k)
-  created_made partition cspace None owner home = tt
-  created_made partition cspace (Some k) owner home = created_in_made partition cspace k _ refl owner home
+  created_made partition cspace None owner home from_owner from_home = tt
+  created_made partition cspace (Some k) owner home from_owner from_home =
+      created_in_made partition cspace k _ refl owner home from_owner from_home
 
   pub create_made : (partition cspace : Serial) (number : ℕ)
       → IsTrue (lives_as s.objects partition.0 kind.Partition) → IsTrue (lives_as s.objects cspace.0 kind.Cspace)
+      → IsTrue (is_referred s partition) → IsTrue (is_referred s cspace)
       → MayMake s (create s partition cspace number)
-  create_made partition cspace number owner home = created_made partition cspace (kind_numbered number) owner home
+  create_made partition cspace number owner home from_owner from_home =
+      created_made partition cspace (kind_numbered number) owner home from_owner from_home
 
 -- activate comes to a stage that isn't the first
 activated_made : (s : State) (object : Serial) (row : Option ObjectRow) → MayMake s (activated object row)

@@ -1,6 +1,7 @@
 -- What a call gives a reference has one already, or is new.
 use Rattle.std.proofs.Common.{◌≡◌, ◌≢◌, ◌+◌, ◌%◌, ◌<◌, ◌≤◌, ◌∙◌, ℕ, Bool, true, false, not, List, [], ◌∷◌, ◌++◌, length, refl, subst, sym, ap, arith, Option, Some, None, IsTrue, find, if◌then◌else◌}
-use Rattle.std.specs.Prelude.{◌&&◌, ◌||◌, ◌==◌, nat_lt, nat_le, count_by}
+use Rattle.std.specs.Option.{option_or}
+use Rattle.std.specs.Prelude.{◌&&◌, ◌||◌, ◌==◌, is_some, nat_lt, nat_le, count_by}
 use Rattle.std.specs.List.{list_all, list_any}
 use Rattle.std.proofs.lemmas.Bool.{and_parts, and_from, eqb-true, leb-true}
 use Rattle.std.proofs.lemmas.Bool.Decides.{nat_tests}
@@ -11,15 +12,22 @@ use Rattle.gh_model.specs.Decisions.{grant_at}
 use Rattle.gh_model.specs.MemoryCalls.{row_space}
 use Rattle.gh_model.specs.QueueCalls.{one_if}
 use Rattle.gh_model.specs.References.{is_attached_to, is_capability_of, is_doomed, references}
-use Rattle.gh_model.specs.Rows.{cpu_row, fills, is_cpu}
+use Rattle.gh_model.specs.Rows.{cpu_row, fills, is_cpu, is_object, object_row}
 use Rattle.gh_model.specs.declared.change.Decision.{Decision}
 use Rattle.gh_model.specs.declared.change.Decision.TheVariants.{Refuse, Make}
 use Rattle.gh_model.specs.declared.rows.CapabilityRow.{CapabilityRow}
 use Rattle.gh_model.specs.declared.rows.CpuRow.{CpuRow}
 use Rattle.gh_model.specs.declared.state.State.{State}
+use Rattle.gh_base.specs.declared.kind.Stage.{Stage}
+use Rattle.gh_model.specs.Changes.{add_object, set_stage, with_stage}
+use Rattle.gh_model.specs.History.{is_retired}
+use Rattle.gh_model.specs.declared.rows.ObjectRow.{ObjectRow}
 use Rattle.gh_invariant.specs.Grants.{GivesToReferred, is_referred, is_running}
-use Rattle.gh_invariant.proofs.Counting.{count_cons, one_true}
-use Rattle.gh_invariant.proofs.ObjectsMade.{itself}
+use Rattle.gh_invariant.specs.Premises.{MayRefer}
+use Rattle.gh_invariant.specs.Valid.{IsValid}
+use Rattle.gh_invariant.proofs.ChangedRow.{find_change_seen}
+use Rattle.gh_invariant.proofs.Counting.{count_cons, find_push, find_push_found, one_true, unfound}
+use Rattle.gh_invariant.proofs.MayMake.{itself}
 
 -- a decision behind a refusal gives only to what is referred to where that refusal doesn't hold
 pub gives_unless : (s : State) (refused : Bool) (errno : Errno) (others : Decision)
@@ -114,3 +122,38 @@ cpu_refers_by s cpu (Some row) found running =
 
 pub cpu_refers : (s : State) (cpu : ℕ) → IsTrue (is_running (cpu_row s cpu)) → IsTrue (is_referred s (row_space (cpu_row s cpu)))
 cpu_refers s cpu running = cpu_refers_by s cpu (cpu_row s cpu) refl running
+
+-- an object that has references, or isn't made yet, isn't retired
+pub may_refer : (s : State) → IsValid s → (object : Serial) → IsTrue (is_referred s object) → MayRefer s object.0
+may_refer s valid object is = by_row (is_retired (object_row s object.0)) refl
+  where
+    later_by : (doomed later : Bool) → doomed ≡ true → (not doomed || later) ≡ true → later ≡ true
+    later_by true later is both = both
+    later_by false later is both = absurd (let never : ⊥ = cc in never)
+    by_row : (retired : Bool) → is_retired (object_row s object.0) ≡ retired → retired ≡ false
+    by_row false row = refl
+    by_row true row =
+        let doomed : is_doomed s object.0 ≡ true = ap (λ (n : ℕ). n == 0) (valid.retired object.0 row) in
+        let later : nat_le s.next_serial object.0 ≡ true = later_by (is_doomed s object.0) (nat_le s.next_serial object.0) doomed is in
+        let none : find (is_object object.0) s.objects ≡ None =
+            unfound (is_object object.0) s.objects (valid.objects.later object.0 (leb-true s.next_serial object.0 later)) in
+        absurd (let never : false ≡ true = ap is_retired (sym none) ∙ row in cc)
+
+-- nor does it become so where an object that isn't retired is added, or one comes to another stage
+refer_push_by : (objects : List ObjectRow) (row : ObjectRow) (object : ℕ) (found : Option ObjectRow) → find (is_object object) objects ≡ found
+    → row.retired ≡ None → is_retired found ≡ false → is_retired (find (is_object object) (objects ++ row ∷ [])) ≡ false
+refer_push_by objects row object (Some old) found new is = ap is_retired (find_push_found (is_object object) objects row old found) ∙ is
+refer_push_by objects row object None found new is =
+    ap is_retired (find_push (is_object object) objects row ∙ ap (λ (o : Option ObjectRow). option_or o (find (is_object object) (row ∷ []))) found)
+    ∙ either (row.serial.0 == object)
+  where
+    either : (here : Bool) → is_retired (if here then Some row else None) ≡ false
+    either true = ap is_some new
+    either false = refl
+
+pub refer_push : (s : State) (row : ObjectRow) (object : ℕ) → row.retired ≡ None → MayRefer s object → MayRefer (add_object row s) object
+refer_push s row object new is = refer_push_by s.objects row object (find (is_object object) s.objects) refl new is
+
+pub refer_staged : (s : State) (other : Serial) (stage : Stage) (object : ℕ) → MayRefer s object → MayRefer (set_stage other stage s) object
+refer_staged s other stage object is =
+    find_change_seen is_retired (is_object object) (is_object other.0) (with_stage stage) s.objects (λ row. refl) (λ row. refl) ∙ is
