@@ -66,7 +66,7 @@ module _ (s : State) (valid : IsValidTo 0 s) where
       }))
 
   -- with the slots of it, the state is valid still
-  with_slots : (caps : List CapabilityRow) → SlotsFit s.next_serial 0 s.objects caps s.set_at → NoneRetired s → IsValidTo 0 (record s { caps = caps })
+  pub with_slots : (caps : List CapabilityRow) → SlotsFit s.next_serial 0 s.objects caps s.set_at → NoneRetired s → IsValidTo 0 (record s { caps = caps })
   with_slots caps slots fresh = record {
     objects = valid.objects;
     slots = slots;
@@ -94,7 +94,7 @@ module _ (s : State) (valid : IsValidTo 0 s) where
       (fill_valid cspace.0 slot object.0 rights.0 master first.0 first.1 third.1 (only_master master (list_any (is_master_of object.0) s.caps) object.0 refl (not-true _ last.1))) fresh
 
   -- an object of a kind has the rights of the kind
-  rights_by : (k : Kind) (rights : ℕ) → (bit_and rights (kind_rights k) == rights) ≡ true → (found : Option ObjectRow) → is_of_kind k found ≡ true → ((j : Kind) → kind_number j ≡ kind_number k → j ≡ k) → rights_fit_kind rights found ≡ true
+  pub rights_by : (k : Kind) (rights : ℕ) → (bit_and rights (kind_rights k) == rights) ≡ true → (found : Option ObjectRow) → is_of_kind k found ≡ true → ((j : Kind) → kind_number j ≡ kind_number k → j ≡ k) → rights_fit_kind rights found ≡ true
   rights_by k rights fits None is same = absurd (let never : ⊥ = cc in never)
   rights_by k rights fits (Some row) is same =
       subst (λ (j : Kind). (bit_and rights (kind_rights j) == rights) ≡ true) (sym (same row.kind (eqb-true (kind_number row.kind) (kind_number k) is))) fits

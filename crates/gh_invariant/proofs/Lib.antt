@@ -1,3 +1,4 @@
+pub mod BootCpus
 pub mod BootObjects
 pub mod BootPartition
 pub mod BootSlots
