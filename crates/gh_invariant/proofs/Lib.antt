@@ -1,5 +1,6 @@
 pub mod BootObjects
 pub mod BootPartition
+pub mod BootSlots
 pub mod BootSpans
 pub mod ChangedRow
 pub mod ChangesInOrder
