@@ -78,7 +78,7 @@ map_valid s space extent base offset count access valid fits =
 -- a capability
 
 -- an object that is found lives as what it is
-lives_itself : (s : State) (object : ℕ) (k : Kind) → IsTrue (is_kind s object k) → IsTrue (lives_as s.objects object (kind_at s object))
+pub lives_itself : (s : State) (object : ℕ) (k : Kind) → IsTrue (is_kind s object k) → IsTrue (lives_as s.objects object (kind_at s object))
 lives_itself s object k is = itself_by (find (is_object object) s.objects) is
   where
     itself_by : (found : Option ObjectRow) → IsTrue (is_of_kind k found) → IsTrue (is_of_kind (option_map_or (λ (row : ObjectRow). row.kind) found kind.Partition) found)
@@ -99,7 +99,7 @@ none_found p (row ∷ rows) none =
     let parts : (p row ≡ false) × (list_any p rows ≡ false) = or_parts _ _ none in
     rw parts.0 (none_found p rows parts.1)
 
-abbrev boot_capability : State → ℕ → ℕ → ℕ → ℕ → Bool → CapabilityRow
+abbrev pub boot_capability : State → ℕ → ℕ → ℕ → ℕ → Bool → CapabilityRow
 boot_capability s cspace slot object rights master = record { cspace = serial_of cspace; slot = slot; serial = serial_of object; kind = kind_at s object; rights = record { 0 = rights }; master = master; valid = true }
 
 module _ (s : State) (valid : IsValidTo 0 s) (cspace slot object rights : ℕ) (master : Bool) (home : IsTrue (is_kind s cspace kind.Cspace)) (free : IsTrue (is_free_slot s cspace slot)) (lives : IsTrue (lives_as s.objects object (kind_at s object))) where

@@ -1,7 +1,9 @@
+pub mod BootCpus
 pub mod BootObjects
 pub mod BootPartition
 pub mod BootSlots
 pub mod BootSpans
+pub mod BootValid
 pub mod ChangedRow
 pub mod ChangesInOrder
 pub mod Counting
