@@ -3,7 +3,7 @@ use Rattle.std.proofs.Common.{◌≡◌, ◌+◌, ◌≤◌, ◌<◌, ◌∙◌,
 use Rattle.std.specs.Prelude.{count_by, replicate}
 use Rattle.std.specs.List.{list_all}
 use Rattle.std.specs.Option.{option_map_or}
-use Rattle.std.proofs.lemmas.Bool.{and_from, and_parts, eq-eqb, eqb-true, leb-true, le-leb, lt-ltb, or_left, or_right}
+use Rattle.std.proofs.lemmas.Bool.{and_from, and_parts, both_ways, eq-eqb, eqb-true, leb-true, le-leb, lt-ltb, or_left, or_right}
 use Rattle.std.proofs.lemmas.Bool.Decides.{nat_tests}
 use Rattle.std.proofs.lemmas.List.{length-replicate}
 use Rattle.gh_base.specs.declared.access.Access.{Access}
@@ -20,7 +20,7 @@ use Rattle.gh_model.specs.declared.rows.ObjectRow.{ObjectRow}
 use Rattle.gh_model.specs.declared.state.State.{State}
 use Rattle.gh_invariant.specs.Lives.{is_parentless, is_part_of, lives_as, span_fits, spans_page}
 use Rattle.gh_invariant.specs.Valid.{IsValidTo, PagesFit}
-use Rattle.gh_invariant.proofs.BootObjects.{bare_valid, boot_may}
+use Rattle.gh_invariant.proofs.BootObjects.{NoneRetired, bare_valid, boot_may, fresh_beside}
 use Rattle.gh_invariant.proofs.Counting.{find_here, find_push_new, found_all, found_one, unfound}
 use Rattle.gh_invariant.proofs.KindRowsFit.{span_keeps_rows}
 use Rattle.gh_invariant.proofs.MappingsFit.{span_keeps_mappings}
@@ -30,7 +30,7 @@ use Rattle.gh_invariant.proofs.UnitsFit.{span_keeps_units}
 
 -- a new extent with its span, once the object is there
 
-module _ (s : State) (partition : ℕ) (valid : IsValidTo 0 s) (units : IsTrue (has_units s partition 1)) where
+module _ (s : State) (partition : ℕ) (valid : IsValidTo 0 s) (fresh : NoneRetired s) (units : IsTrue (has_units s partition 1)) where
   abbrev object : ObjectRow
   object = boot_object s kind.Extent partition 1
 
@@ -46,7 +46,7 @@ module _ (s : State) (partition : ℕ) (valid : IsValidTo 0 s) (units : IsTrue (
 
   with_bare : IsValidTo 0 (with_object s kind.Extent partition 1)
   with_bare =
-      bare_valid s kind.Extent partition 1 valid refl refl refl refl (boot_may s valid kind.Extent partition 1 refl (omega arith) units)
+      bare_valid s kind.Extent partition 1 valid fresh refl refl refl refl (boot_may s valid fresh kind.Extent partition 1 refl (omega arith) units)
 
   -- a valid state, if its pages fit
   span_valid : (row : ExtentRow) (holders : List Serial) → row.serial.0 ≡ s.next_serial → PagesFit holders (s.extents ++ row ∷ []) → IsValidTo 0 (record (with_object s kind.Extent partition 1) { extents = s.extents ++ row ∷ []; holders = holders })
@@ -61,6 +61,7 @@ module _ (s : State) (partition : ℕ) (valid : IsValidTo 0 s) (units : IsTrue (
         pages = pages;
         mappings = span_keeps_mappings (s.objects ++ object ∷ []) s.extents s.mappings row with_bare.mappings;
         cpus = with_bare.cpus;
+        retired = λ one is. absurd (both_ways _ (fresh_beside s valid fresh kind.Extent partition 1 one) is);
         queues = with_bare.queues;
         parcels = with_bare.parcels;
       }
@@ -109,11 +110,11 @@ empty_list : {X : Type 0} (xs : List X) → (length xs == 0) ≡ true → xs ≡
 empty_list [] none = refl
 empty_list (x ∷ xs) none = absurd (let long : length (x ∷ xs) ≡ 0 = eqb-true (length (x ∷ xs)) 0 none in omega arith)
 
-pub root_valid : (s : State) (partition : Serial) → IsValidTo 0 s → 0 < length s.holders → IsTrue (line_fits s (RootExtent partition)) → IsValidTo 0 (after_line s (RootExtent partition))
-root_valid s partition valid some fits =
+pub root_valid : (s : State) (partition : Serial) → IsValidTo 0 s → NoneRetired s → 0 < length s.holders → IsTrue (line_fits s (RootExtent partition)) → IsValidTo 0 (after_line s (RootExtent partition))
+root_valid s partition valid fresh some fits =
     let parts : (has_units s partition.0 1 ≡ true) × ((length s.extents == 0) ≡ true) = and_parts _ _ fits in
     let none : s.extents ≡ [] = empty_list s.extents parts.1 in
-    span_valid s partition.0 valid parts.0 (root_row (serial_of s.next_serial) (length s.holders)) (replicate (length s.holders) (serial_of s.next_serial)) refl
+    span_valid s partition.0 valid fresh parts.0 (root_row (serial_of s.next_serial) (length s.holders)) (replicate (length s.holders) (serial_of s.next_serial)) refl
     (subst (λ (extents : List ExtentRow). PagesFit (replicate (length s.holders) (serial_of s.next_serial)) (extents ++ root_row (serial_of s.next_serial) (length s.holders) ∷ [])) (sym none)
     (root_pages (serial_of s.next_serial) (length s.holders) some valid.pages.few))
 
@@ -181,17 +182,17 @@ module _ (s : State) (valid : IsValidTo 0 s) (parent offset count access : ℕ) 
 first_found : (s : State) (parent : ℕ) (outer : ExtentRow) → find (is_extent parent) s.extents ≡ Some outer → first_page s parent ≡ outer.first.0
 first_found s parent outer found = ap (λ (o : Option ExtentRow). option_map_or (λ (row : ExtentRow). row.first.0) o 0) found
 
-extent_found : (s : State) (partition parent : Serial) (offset count : ℕ) (access : Access) (held_offset held_count : ℕ) → IsValidTo 0 s → IsTrue (has_units s partition.0 1) → held_offset + held_count ≤ count → (found : Option ExtentRow) → find (is_extent parent.0) s.extents ≡ found → IsTrue (extent_fits s parent.0 offset count access.0 held_offset held_count found) → IsValidTo 0 (after_line s (Extent partition parent offset count access held_offset held_count))
-extent_found s partition parent offset count access held_offset held_count valid units held None is fits = absurd (let never : ⊥ = cc in never)
-extent_found s partition parent offset count access held_offset held_count valid units held (Some outer) is fits =
+extent_found : (s : State) (partition parent : Serial) (offset count : ℕ) (access : Access) (held_offset held_count : ℕ) → IsValidTo 0 s → NoneRetired s → IsTrue (has_units s partition.0 1) → held_offset + held_count ≤ count → (found : Option ExtentRow) → find (is_extent parent.0) s.extents ≡ found → IsTrue (extent_fits s parent.0 offset count access.0 held_offset held_count found) → IsValidTo 0 (after_line s (Extent partition parent offset count access held_offset held_count))
+extent_found s partition parent offset count access held_offset held_count valid fresh units held None is fits = absurd (let never : ⊥ = cc in never)
+extent_found s partition parent offset count access held_offset held_count valid fresh units held (Some outer) is fits =
     let child : Serial = serial_of s.next_serial in
     let parts : ExtentParts outer offset count access.0 = extent_parts s parent.0 offset count access.0 held_offset held_count outer fits in
     rw (first_found s parent.0 outer is)
-    (span_valid s partition.0 valid units (derived_row (serial_of s.next_serial) parent.0 outer offset count access.0) (move_pages (outer.first.0 + offset + held_offset) held_count (serial_of s.next_serial) s.holders) refl
-    (held_pages s valid parent.0 offset count access.0 outer is parts (serial_of s.next_serial) held_offset held_count held (no_span s partition.0 valid units)))
+    (span_valid s partition.0 valid fresh units (derived_row (serial_of s.next_serial) parent.0 outer offset count access.0) (move_pages (outer.first.0 + offset + held_offset) held_count (serial_of s.next_serial) s.holders) refl
+    (held_pages s valid parent.0 offset count access.0 outer is parts (serial_of s.next_serial) held_offset held_count held (no_span s partition.0 valid fresh units)))
 
-pub extent_valid : (s : State) (partition parent : Serial) (offset count : ℕ) (access : Access) (held_offset held_count : ℕ) → IsValidTo 0 s → IsTrue (line_fits s (Extent partition parent offset count access held_offset held_count)) → IsValidTo 0 (after_line s (Extent partition parent offset count access held_offset held_count))
-extent_valid s partition parent offset count access held_offset held_count valid fits =
+pub extent_valid : (s : State) (partition parent : Serial) (offset count : ℕ) (access : Access) (held_offset held_count : ℕ) → IsValidTo 0 s → NoneRetired s → IsTrue (line_fits s (Extent partition parent offset count access held_offset held_count)) → IsValidTo 0 (after_line s (Extent partition parent offset count access held_offset held_count))
+extent_valid s partition parent offset count access held_offset held_count valid fresh fits =
     let last : _ × (extent_fits s parent.0 offset count access.0 held_offset held_count (find (is_extent parent.0) s.extents) ≡ true) = and_parts _ _ fits in
     let first : (has_units s partition.0 1 ≡ true) × (nat_le (held_offset + held_count) count ≡ true) = and_parts _ _ last.0 in
-    extent_found s partition parent offset count access held_offset held_count valid first.0 (leb-true (held_offset + held_count) count first.1) (find (is_extent parent.0) s.extents) refl last.1
+    extent_found s partition parent offset count access held_offset held_count valid fresh first.0 (leb-true (held_offset + held_count) count first.1) (find (is_extent parent.0) s.extents) refl last.1

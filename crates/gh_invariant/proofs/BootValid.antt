@@ -7,7 +7,7 @@ use Rattle.std.proofs.lemmas.List.{length-append, length-drop, length-replicate,
 use Rattle.gh_base.specs.declared.ids.Serial.{Serial}
 use Rattle.gh_base.specs.declared.kind.Kind.TheVariants as kind
 use Rattle.gh_base.specs.declared.limits.TheConstants.{MACHINE_PAGES}
-use Rattle.gh_model.specs.Boot.{after_line, boot_fits, boot_state, empty_state, first_page, is_complete, is_row_of, line_fits, lines_fit, move_pages, serial_of}
+use Rattle.gh_model.specs.Boot.{after_line, boot_fits, boot_state, empty_state, first_page, is_complete, is_master_of, is_row_of, line_fits, lines_fit, move_pages, serial_of}
 use Rattle.gh_model.specs.Fitting.{IsNumbered}
 use Rattle.gh_model.specs.Rows.{fills, is_cpu, is_extent, is_object, tells_setting}
 use Rattle.gh_model.specs.Units.{given_by, used_by}
@@ -18,43 +18,45 @@ use Rattle.gh_model.specs.declared.state.State.{State}
 use Rattle.gh_model.proofs.CpuRows.{empty_numbered, line_numbered}
 use Rattle.gh_invariant.specs.Lives.{is_parentless}
 use Rattle.gh_invariant.specs.Valid.{IsValid, IsValidTo}
-use Rattle.gh_invariant.proofs.BootCpus.{link_valid, rm_valid, runs, vm_valid}
-use Rattle.gh_invariant.proofs.BootObjects.{bell_valid, cspace_valid, queue_valid, space_valid}
+use Rattle.gh_invariant.proofs.BootCpus.{AllRunning, is_running, link_valid, rm_valid, vm_valid}
+use Rattle.gh_invariant.proofs.BootMaps.{map_valid}
+use Rattle.gh_invariant.proofs.BootObjects.{NoneRetired, bell_valid, cspace_valid, queue_valid, space_valid, unretired_beside}
 use Rattle.gh_invariant.proofs.BootPartition.{partition_valid}
-use Rattle.gh_invariant.proofs.BootSlots.{cap_valid, map_valid}
+use Rattle.gh_invariant.proofs.BootSlots.{cap_valid}
 use Rattle.gh_invariant.proofs.BootSpans.{extent_valid, root_valid}
 use Rattle.gh_invariant.proofs.Counting.{all_push}
 use Rattle.gh_invariant.proofs.EntriesKept.{valid_more}
 
--- behind lines that fit: a valid state, whose CPUs are numbered and haven't exited
+-- behind lines that fit: a valid state, whose CPUs are numbered and run, with no object retired
 record IsBooted (s : State) : Type 0 where
   pub valid : IsValidTo 0 s
   pub numbered : IsNumbered s
-  pub running : IsTrue (list_all runs s.cpus)
+  pub fresh : NoneRetired s
+  pub running : AllRunning s
 
 -- each line but the pages
 line_valid : (s : State) (line : BootLine) → 0 < length s.holders → IsTrue (line_fits s line) → IsBooted s → IsValidTo 0 (after_line s line)
 line_valid s (Pages count) some fits booted = absurd (let never : ⊥ = cc in never)
-line_valid s (Partition quota) some fits booted = partition_valid s quota booted.valid fits
-line_valid s (Cspace partition) some fits booted = cspace_valid s partition booted.valid fits
-line_valid s (Addrspace partition) some fits booted = space_valid s partition booted.valid fits
-line_valid s (Doorbell partition) some fits booted = bell_valid s partition booted.valid fits
-line_valid s (RootExtent partition) some fits booted = root_valid s partition booted.valid some fits
+line_valid s (Partition quota) some fits booted = partition_valid s quota booted.valid booted.fresh fits
+line_valid s (Cspace partition) some fits booted = cspace_valid s partition booted.valid booted.fresh fits
+line_valid s (Addrspace partition) some fits booted = space_valid s partition booted.valid booted.fresh fits
+line_valid s (Doorbell partition) some fits booted = bell_valid s partition booted.valid booted.fresh fits
+line_valid s (RootExtent partition) some fits booted = root_valid s partition booted.valid booted.fresh some fits
 line_valid s (Extent partition parent offset count access held_offset held_count) some fits booted =
-    extent_valid s partition parent offset count access held_offset held_count booted.valid fits
+    extent_valid s partition parent offset count access held_offset held_count booted.valid booted.fresh fits
 line_valid s (Msgqueue partition depth size) some fits booted =
-    queue_valid s partition depth size booted.valid fits
+    queue_valid s partition depth size booted.valid booted.fresh fits
 line_valid s (Map space extent base offset count access) some fits booted =
-    map_valid s space extent base offset count access booted.valid fits
+    map_valid s space extent base offset count access booted.valid booted.fresh fits
 line_valid s (Cap cspace slot object rights master) some fits booted =
-    cap_valid s cspace slot object rights master booted.valid fits
-line_valid s (Vm cspace space) some fits booted = vm_valid s cspace space booted.valid booted.numbered fits
+    cap_valid s booted.valid cspace slot object rights master booted.fresh fits
+line_valid s (Vm cspace space) some fits booted = vm_valid s booted.valid booted.fresh cspace space (line_numbered s (Vm cspace space) fits booted.numbered).once fits
 line_valid s (Rm cspace space partition) some fits booted =
-    rm_valid s cspace space partition booted.valid booted.numbered fits
+    rm_valid s booted.valid booted.fresh cspace space partition (line_numbered s (Rm cspace space partition) fits booted.numbered).once fits
 line_valid s (Link vm extent request reply) some fits booted =
-    link_valid s vm extent request reply booted.valid booted.running fits
+    link_valid s booted.valid booted.fresh booted.running vm extent request reply fits
 
-line_runs : (s : State) (line : BootLine) → IsTrue (list_all runs s.cpus) → IsTrue (list_all runs (after_line s line).cpus)
+line_runs : (s : State) (line : BootLine) → AllRunning s → AllRunning (after_line s line)
 line_runs s (Pages count) running = running
 line_runs s (Partition quota) running = running
 line_runs s (Cspace partition) running = running
@@ -65,14 +67,30 @@ line_runs s (Extent partition parent offset count access held_offset held_count)
 line_runs s (Msgqueue partition depth size) running = running
 line_runs s (Map space extent base offset count access) running = running
 line_runs s (Cap cspace slot object rights master) running = running
-line_runs s (Vm cspace space) running = all_push runs s.cpus _ running refl
-line_runs s (Rm cspace space partition) running = all_push runs s.cpus _ running refl
+line_runs s (Vm cspace space) running = all_push is_running s.cpus _ running refl
+line_runs s (Rm cspace space partition) running = all_push is_running s.cpus _ running refl
 line_runs s (Link vm extent request reply) running = running
+
+line_fresh : (s : State) (line : BootLine) → NoneRetired s → NoneRetired (after_line s line)
+line_fresh s (Pages count) fresh = fresh
+line_fresh s (Partition quota) fresh = λ object. unretired_beside s.objects _ refl object (fresh object)
+line_fresh s (Cspace partition) fresh = λ object. unretired_beside s.objects _ refl object (fresh object)
+line_fresh s (Addrspace partition) fresh = λ object. unretired_beside s.objects _ refl object (fresh object)
+line_fresh s (Doorbell partition) fresh = λ object. unretired_beside s.objects _ refl object (fresh object)
+line_fresh s (RootExtent partition) fresh = λ object. unretired_beside s.objects _ refl object (fresh object)
+line_fresh s (Extent partition parent offset count access held_offset held_count) fresh = λ object. unretired_beside s.objects _ refl object (fresh object)
+line_fresh s (Msgqueue partition depth size) fresh = λ object. unretired_beside s.objects _ refl object (fresh object)
+line_fresh s (Map space extent base offset count access) fresh = fresh
+line_fresh s (Cap cspace slot object rights master) fresh = fresh
+line_fresh s (Vm cspace space) fresh = fresh
+line_fresh s (Rm cspace space partition) fresh = fresh
+line_fresh s (Link vm extent request reply) fresh = fresh
 
 line_booted : (s : State) (line : BootLine) → 0 < length s.holders → IsTrue (line_fits s line) → IsBooted s → IsBooted (after_line s line)
 line_booted s line some fits booted = record {
   valid = line_valid s line some fits booted;
   numbered = line_numbered s line fits booted.numbered;
+  fresh = line_fresh s line booted.fresh;
   running = line_runs s line booted.running;
 }
 
@@ -121,6 +139,7 @@ pages_booted count few = record {
     };
     slots = record {
       once = λ c n. (let none : count_by (fills c n) [] ≡ 0 = refl in omega arith);
+      masters = λ n. (let none : count_by (is_master_of n) [] ≡ 0 = refl in omega arith);
       filled = refl;
       set_once = λ c n. (let none : count_by (tells_setting c n) [] ≡ 0 = refl in omega arith);
       set = refl;
@@ -145,9 +164,11 @@ pages_booted count few = record {
     mappings = record { stand = refl; few = λ n. (let none : count_by (is_row_of n) [] ≡ 0 = refl in omega arith); apart = refl };
     cpus = record { once = λ n. (let none : count_by (is_cpu n) [] ≡ 0 = refl in omega arith); attached = refl; linked = refl };
     queues = refl;
+    retired = λ object is. absurd (let never : ⊥ = cc in never);
     parcels = refl;
   };
   numbered = record { once = empty_numbered.once; beyond = empty_numbered.beyond };
+  fresh = λ object. refl;
   running = refl;
 }
 

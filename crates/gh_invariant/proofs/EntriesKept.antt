@@ -31,6 +31,7 @@ settings_more last later objects row more fits =
 pub slots_more : (next last later : ℕ) (objects : List ObjectRow) (caps : List CapabilityRow) (set_at : List SetAtRow) → last ≤ later → SlotsFit next last objects caps set_at → SlotsFit next later objects caps set_at
 slots_more next last later objects caps set_at more fit = record {
   once = fit.once;
+  masters = fit.masters;
   filled = fit.filled;
   set_once = fit.set_once;
   set = all_by (setting_fits last objects) (setting_fits later objects) set_at (λ row fits. settings_more last later objects row more fits) fit.set;
@@ -47,6 +48,7 @@ valid_more last later s more valid = record {
   mappings = valid.mappings;
   cpus = valid.cpus;
   queues = valid.queues;
+  retired = valid.retired;
   parcels = valid.parcels;
 }
 
@@ -64,6 +66,7 @@ counted_valid s valid = record {
   mappings = valid.mappings;
   cpus = valid.cpus;
   queues = valid.queues;
+  retired = valid.retired;
   parcels = valid.parcels;
 }
 
@@ -78,6 +81,7 @@ numbered_valid s valid = record {
   mappings = valid.mappings;
   cpus = valid.cpus;
   queues = valid.queues;
+  retired = valid.retired;
   parcels = valid.parcels;
 }
 
@@ -91,6 +95,7 @@ took_valid s space slot valid = record {
   mappings = valid.mappings;
   cpus = valid.cpus;
   queues = valid.queues;
+  retired = valid.retired;
   parcels = valid.parcels;
 }
 

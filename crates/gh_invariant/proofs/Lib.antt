@@ -1,4 +1,5 @@
 pub mod BootCpus
+pub mod BootMaps
 pub mod BootObjects
 pub mod BootPartition
 pub mod BootSlots
@@ -21,6 +22,7 @@ pub mod PartsKept
 pub mod QueuesKept
 pub mod ReferencesLaw
 pub mod ReferencesMoved
+pub mod RetiredKept
 pub mod RowsLeft
 pub mod RowsTested
 pub mod Settings

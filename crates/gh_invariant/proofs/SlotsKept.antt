@@ -30,6 +30,7 @@ module _ (last : ℕ) (s : State) (valid : IsValidTo last s) where
   put_fits row may = slot_from s.next_serial s.objects row (record {
     home = may.home;
     slot = may.slot;
+    rights = may.rights;
     some = lt-ltb 0 row.serial.0 (lives_some s.objects s.next_serial valid.objects row.serial.0 row.kind may.object);
     made = lt-ltb row.serial.0 s.next_serial (lives_made s.objects s.next_serial valid.objects row.serial.0 row.kind may.object);
     object = rw may.valid may.object;
@@ -49,7 +50,7 @@ module _ (last : ℕ) (s : State) (valid : IsValidTo last s) where
   module _ (room : s.entries < last) where
     put_stays : (row : CapabilityRow) → MayPut s row → SlotsStay last s (PutCapability row)
     put_stays row may =
-        put_keeps_slots s.next_serial last s.objects s.caps s.set_at valid.slots (s.entries + 1) (omega arith) (omega (arith, room)) row may.free (put_fits row may)
+        put_keeps_slots s.next_serial last s.objects s.caps s.set_at valid.slots (s.entries + 1) (omega arith) (omega (arith, room)) row may.free may.master (put_fits row may)
 
     drop_stays : (cspace : Serial) (slot : ℕ) → IsFilled s cspace slot → SlotsStay last s (DropCapability cspace slot)
     drop_stays cspace slot filled =

@@ -9,6 +9,7 @@ use Rattle.gh_invariant.specs.Valid.{IsValidTo}
 use Rattle.gh_invariant.proofs.CpusKept.{cpus_kept}
 use Rattle.gh_invariant.proofs.PartsKept.{mappings_kept, objects_kept, pages_kept, rows_kept, units_kept}
 use Rattle.gh_invariant.proofs.QueuesKept.{queues_kept}
+use Rattle.gh_invariant.proofs.RetiredKept.{retired_kept}
 use Rattle.gh_invariant.proofs.SlotsKept.{slots_kept}
 
 -- parcels stay as they are
@@ -44,5 +45,6 @@ valid_kept last s change within valid may = record {
   mappings = mappings_kept last s change valid may;
   cpus = cpus_kept last s valid change may;
   queues = queues_kept last s change valid may;
+  retired = retired_kept last s valid change may;
   parcels = parcels_stay s change ∙ valid.parcels;
 }

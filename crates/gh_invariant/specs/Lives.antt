@@ -1,8 +1,8 @@
 -- Which objects live, and what a row needs of those that live. An object lives from its creation to
 -- its reclaim, doomed or not.
-use Rattle.std.specs.Prelude.{◌==◌, ◌&&◌, ◌||◌, ◌+◌, not, ℕ, length, Bool, true, false, List, [], ◌∷◌, Option, Some, None, find, is_some, count_by, nat_le, nat_lt, if◌then◌else◌}
+use Rattle.std.specs.Prelude.{◌==◌, ◌&&◌, ◌||◌, ◌+◌, not, ℕ, length, Bool, true, false, List, [], ◌∷◌, Option, Some, None, find, is_some, count_by, bit_and, nat_le, nat_lt, if◌then◌else◌}
 use Rattle.std.specs.List.{list_all, list_any}
-use Rattle.gh_base.specs.Kind.{kind_number}
+use Rattle.gh_base.specs.Kind.{kind_number, kind_rights}
 use Rattle.gh_base.specs.declared.kind.Kind.{Kind}
 use Rattle.gh_base.specs.declared.kind.Kind.TheVariants as kind
 use Rattle.gh_base.specs.declared.limits.TheConstants.{MESSAGE_BYTES, PARTITION_UNITS, QUEUE_DEPTH}
@@ -38,18 +38,23 @@ kind_total objects k = count_by (λ (row : ObjectRow). kind_number row.kind == k
 abbrev pub is_housed : List ObjectRow → ObjectRow → Bool
 is_housed objects row = lives_as objects row.partition.0 kind.Partition
 
+-- the capability has no right but those of its kind
+abbrev pub has_kind_rights : CapabilityRow → Bool
+has_kind_rights row = bit_and row.rights.0 (kind_rights row.kind) == row.rights.0
+
 -- the slot is one of a capability space that lives, and its object was made; where the capability is
 -- valid, the object lives and is of its kind
 abbrev pub slot_fits : ℕ → List ObjectRow → CapabilityRow → Bool
 slot_fits next_serial objects row =
-    lives_as objects row.cspace.0 kind.Cspace && is_slot row.slot
+    lives_as objects row.cspace.0 kind.Cspace && is_slot row.slot && has_kind_rights row
     && nat_lt 0 row.serial.0 && nat_lt row.serial.0 next_serial
     && (not row.valid || lives_as objects row.serial.0 row.kind)
 
 -- the setting is of a slot of a capability space that lives, by an entry up to the last
 abbrev pub setting_fits : ℕ → List ObjectRow → SetAtRow → Bool
 setting_fits last objects row =
-    lives_as objects row.cspace.0 kind.Cspace && is_slot row.slot && nat_lt 0 row.number && nat_le row.number last
+    lives_as objects row.cspace.0 kind.Cspace && is_slot row.slot
+    && nat_lt 0 row.number && nat_le row.number last
 
 -- the span lies within another, and its access within that one's
 abbrev pub is_part_of : ExtentRow → Option ExtentRow → Bool

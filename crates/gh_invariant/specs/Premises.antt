@@ -4,7 +4,7 @@ use Rattle.std.specs.Prelude.{◌≡◌, ◌+◌, ◌≤◌, ◌<◌, ℕ, true,
 use Rattle.gh_base.specs.declared.ids.Serial.{Serial}
 use Rattle.gh_base.specs.declared.kind.Kind.TheVariants as kind
 use Rattle.gh_base.specs.declared.limits.TheConstants.{MESSAGE_BYTES, PARTITION_UNITS, QUEUE_DEPTH}
-use Rattle.gh_model.specs.Boot.{is_row_of, is_kind}
+use Rattle.gh_model.specs.Boot.{is_row_of, is_kind, is_master_of}
 use Rattle.gh_model.specs.Decisions.{is_init_stage}
 use Rattle.gh_model.specs.Changes.{changed, is_mapping}
 use Rattle.gh_model.specs.History.{is_unretired, is_retired}
@@ -23,21 +23,30 @@ use Rattle.gh_model.specs.declared.rows.CapabilityRow.{CapabilityRow}
 use Rattle.gh_model.specs.declared.rows.MappingRow.{MappingRow}
 use Rattle.gh_model.specs.declared.rows.QueueRow.{QueueRow}
 use Rattle.gh_model.specs.declared.state.State.{State}
-use Rattle.gh_invariant.specs.Lives.{span_fits, mapping_stands, meets}
+use Rattle.gh_invariant.specs.Lives.{has_kind_rights, span_fits, mapping_stands, meets}
 
--- a slot that is free is filled with a valid capability of an object that lives and has this kind
+-- a reference may come to the object: it isn't retired
+abbrev pub MayRefer : State → ℕ → Type 0
+MayRefer s object = is_retired (object_row s object) ≡ false
+
+-- a slot that is free is filled with a valid capability of an object that lives and has this kind,
+-- with no more rights than those of the kind, and as its only master where it is one
 pub record MayPut (s : State) (row : CapabilityRow) : Type 0 where
   pub slot : IsTrue (is_slot row.slot)
   pub free : find (fills row.cspace.0 row.slot) s.caps ≡ None
   pub home : IsTrue (is_kind s row.cspace.0 kind.Cspace)
   pub object : IsTrue (is_kind s row.serial.0 row.kind)
   pub valid : row.valid ≡ true
+  pub rights : IsTrue (has_kind_rights row)
+  pub master : row.master ≡ true → count_by (is_master_of row.serial.0) s.caps ≡ 0
+  pub from_slot : MayRefer s row.cspace.0
+  pub from_capability : MayRefer s row.serial.0
 
 -- the slot is filled
 abbrev pub IsFilled : State → Serial → ℕ → Type 0
 IsFilled s cspace slot = IsTrue (is_some (find (fills cspace.0 slot) s.caps))
 
--- the object has the next serial, and its partition has the units and room for its kind. One that is
+-- the object has the next serial and isn't retired, and its partition has the units and room for its kind. One that is
 -- to be configured costs one unit by now
 pub record MayAdd (s : State) (row : ObjectRow) : Type 0 where
   pub serial : row.serial.0 ≡ s.next_serial
@@ -46,6 +55,8 @@ pub record MayAdd (s : State) (row : ObjectRow) : Type 0 where
   pub some : 0 < row.cost
   pub units : row.cost ≤ free_units s row.partition.0
   pub new : IsTrue (is_init_stage row.stage) → row.cost ≡ 1
+  pub unretired : row.retired ≡ None
+  pub from_object : MayRefer s row.partition.0
 
 -- the object lives and isn't retired, and nothing refers to it
 pub record MayRetire (s : State) (object : ℕ) : Type 0 where
@@ -79,6 +90,7 @@ pub record MaySpan (s : State) (row : ExtentRow) : Type 0 where
   -- the root extent comes with the boot alone
   pub parent : 0 < row.parent.0
   pub fits : IsTrue (span_fits (length s.holders) s.extents row)
+  pub from_child : MayRefer s row.parent.0
 
 -- the pages lie in the span of the new holder
 pub record MayMove (s : State) (first count : ℕ) (holder : Serial) : Type 0 where
@@ -91,6 +103,8 @@ pub record MayMap (s : State) (row : MappingRow) : Type 0 where
   pub stands : IsTrue (mapping_stands s.objects s.extents row)
   pub apart : meets row s.mappings ≡ false
   pub few : count_by (is_row_of row.space.0) s.mappings < 64
+  pub from_space : MayRefer s row.space.0
+  pub from_extent : MayRefer s row.extent.0
 
 -- the row is there
 abbrev pub MayUnmap : State → MappingRow → Type 0

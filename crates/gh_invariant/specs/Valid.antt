@@ -1,13 +1,15 @@
 -- What every state of the machine keeps, from the boot on and through every entry of the history.
-use Rattle.std.specs.Prelude.{◌≡◌, ◌+◌, ◌≤◌, ◌<◌, ℕ, Bool, List, [], length, Some, IsTrue, find, count_by, slice_get}
+use Rattle.std.specs.Prelude.{◌≡◌, ◌+◌, ◌≤◌, ◌<◌, ℕ, Bool, true, List, [], length, Some, IsTrue, find, count_by, slice_get}
 use Rattle.std.specs.List.{list_all}
 use Rattle.gh_base.specs.declared.ids.Serial.{Serial}
 use Rattle.gh_base.specs.declared.kind.Kind.{Kind}
 use Rattle.gh_base.specs.declared.kind.Kind.TheVariants as kind
 use Rattle.gh_base.specs.declared.limits.TheConstants.{CSPACES, PARTITIONS, MACHINE_PAGES}
-use Rattle.gh_model.specs.Boot.{is_row_of}
+use Rattle.gh_model.specs.Boot.{is_master_of, is_row_of}
+use Rattle.gh_model.specs.History.{is_retired}
+use Rattle.gh_model.specs.References.{references}
 use Rattle.gh_model.specs.QueueCalls.{one_if}
-use Rattle.gh_model.specs.Rows.{is_object, is_partition, is_extent, is_bell, is_queue, is_cpu, fills, tells_setting}
+use Rattle.gh_model.specs.Rows.{object_row, is_object, is_partition, is_extent, is_bell, is_queue, is_cpu, fills, tells_setting}
 use Rattle.gh_model.specs.Units.{used_by, given_by, row_quota}
 use Rattle.gh_model.specs.declared.rows.BellRow.{BellRow}
 use Rattle.gh_model.specs.declared.rows.ObjectRow.{ObjectRow}
@@ -35,8 +37,11 @@ pub record ObjectsFit (next_serial : ℕ) (objects : List ObjectRow) : Type 0 wh
   pub cspaces : kind_total objects kind.Cspace ≤ CSPACES
 
 -- slots: a slot has at most one capability and one setting, by an entry up to the last
-pub record SlotsFit (next_serial last : ℕ) (objects : List ObjectRow) (caps : List CapabilityRow) (set_at : List SetAtRow) : Type 0 where
+pub record SlotsFit (next_serial last : ℕ) (objects : List ObjectRow) (caps : List CapabilityRow)
+    (set_at : List SetAtRow) : Type 0 where
   pub once : (cspace slot : ℕ) → count_by (fills cspace slot) caps ≤ 1
+  -- an object has at most one master capability
+  pub masters : (object : ℕ) → count_by (is_master_of object) caps ≤ 1
   pub filled : IsTrue (list_all (slot_fits next_serial objects) caps)
   pub set_once : (cspace slot : ℕ) → count_by (tells_setting cspace slot) set_at ≤ 1
   pub set : IsTrue (list_all (setting_fits last objects) set_at)
@@ -102,6 +107,8 @@ pub record IsValidTo (last : ℕ) (s : State) : Type 0 where
   pub mappings : MappingsFit s.objects s.extents s.mappings
   pub cpus : CpusFit s.objects s.cpus s.links
   pub queues : IsTrue (list_all queue_fits s.queues)
+  -- what is retired has no references
+  pub retired : (object : ℕ) → is_retired (object_row s object) ≡ true → references s object ≡ 0
   -- no parcels are made yet
   pub parcels : s.parcels ≡ []
 
