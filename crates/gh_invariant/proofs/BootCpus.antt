@@ -146,12 +146,12 @@ module _ (s : State) (valid : IsValidTo 0 s) (fresh : NoneRetired s) where
         let asks : LinkAsks s vm.0 extent.0 request.0 reply.0 = link_asks vm.0 extent.0 request.0 reply.0 fits in
         let home : IsTrue (is_kind s (manager_cspace s) kind.Cspace) = home_found (find (is_cpu 0) s.cpus) refl asks.manager in
         let first : IsValidTo 0 (with_capability s (manager_cspace s) (2 * vm.0) request.0 2 false) =
-            with_slots s valid (with_capability s (manager_cspace s) (2 * vm.0) request.0 2 false).caps
-            (fill_valid s valid (manager_cspace s) (2 * vm.0) request.0 2 false home asks.first_free
-            (rights_by s valid kind.Queue 2 refl (find (is_object request.0) s.objects) asks.request_lives one_queue) never_master) fresh in
+        with_slots s valid (with_capability s (manager_cspace s) (2 * vm.0) request.0 2 false).caps
+        (fill_valid s valid (manager_cspace s) (2 * vm.0) request.0 2 false home asks.first_free
+        (rights_by s valid kind.Queue 2 refl (find (is_object request.0) s.objects) asks.request_lives one_queue) never_master) fresh in
         let second : SlotsFit s.next_serial 0 s.objects (after_line s (Link vm extent request reply)).caps s.set_at =
-            fill_valid (with_capability s (manager_cspace s) (2 * vm.0) request.0 2 false) first (manager_cspace s) (2 * vm.0 + 1) reply.0 1 false home (still_free (2 * vm.0) request.0 2 asks.second_free)
-            (rights_by s valid kind.Queue 1 refl (find (is_object reply.0) s.objects) asks.reply_lives one_queue) never_master in
+        fill_valid (with_capability s (manager_cspace s) (2 * vm.0) request.0 2 false) first (manager_cspace s) (2 * vm.0 + 1) reply.0 1 false home (still_free (2 * vm.0) request.0 2 asks.second_free)
+        (rights_by s valid kind.Queue 1 refl (find (is_object reply.0) s.objects) asks.reply_lives one_queue) never_master in
         record {
           objects = valid.objects;
           slots = second;

@@ -1,17 +1,14 @@
 -- A boot line that makes an extent with its span leaves a valid state.
-use Rattle.std.proofs.Common.{◌≡◌, ◌+◌, ◌≤◌, ◌<◌, ◌∙◌, ◌&&◌, ◌||◌, ◌==◌, ◌++◌, ℕ, zero, suc, Bool, true, false, List, [], ◌∷◌, length, refl, subst, sym, ap, arith, IsTrue, Option, Some, None, find, nat_le, nat_lt, slice_get}
+use Rattle.std.proofs.Common.{◌≡◌, ◌+◌, ◌≤◌, ◌<◌, ◌∙◌, ◌&&◌, ◌==◌, ◌++◌, ℕ, zero, suc, true, false, List, [], ◌∷◌, length, refl, subst, sym, ap, arith, IsTrue, Option, Some, None, find, nat_le, nat_lt, slice_get}
 use Rattle.std.specs.Prelude.{count_by, replicate}
-use Rattle.std.specs.List.{list_all}
 use Rattle.std.specs.Option.{option_map_or}
-use Rattle.std.proofs.lemmas.Bool.{and_from, and_parts, both_ways, eq-eqb, eqb-true, leb-true, le-leb, lt-ltb, or_left, or_right}
-use Rattle.std.proofs.lemmas.Bool.Decides.{nat_tests}
+use Rattle.std.proofs.lemmas.Bool.{both_ways, and_from, and_parts, eq-eqb, eqb-true, leb-true, le-leb, lt-ltb, or_left, or_right}
 use Rattle.std.proofs.lemmas.List.{length-replicate}
 use Rattle.gh_base.specs.declared.access.Access.{Access}
 use Rattle.gh_base.specs.declared.ids.Serial.{Serial}
 use Rattle.gh_base.specs.declared.kind.Kind.TheVariants as kind
 use Rattle.gh_base.specs.declared.limits.TheConstants.{MACHINE_PAGES}
 use Rattle.gh_model.specs.Boot.{access_fits, after_line, all_held, boot_object, extent_fits, first_page, has_units, is_access, is_of_kind, line_fits, move_pages, serial_of, with_object}
-use Rattle.gh_model.specs.MemoryCalls.{is_within_span}
 use Rattle.gh_model.specs.QueueCalls.{one_if}
 use Rattle.gh_model.specs.Rows.{is_extent, is_object}
 use Rattle.gh_model.specs.declared.boot_line.BootLine.TheVariants.{Extent, RootExtent}
@@ -20,7 +17,7 @@ use Rattle.gh_model.specs.declared.rows.ObjectRow.{ObjectRow}
 use Rattle.gh_model.specs.declared.state.State.{State}
 use Rattle.gh_invariant.specs.Lives.{is_parentless, is_part_of, lives_as, span_fits, spans_page}
 use Rattle.gh_invariant.specs.Valid.{IsValidTo, PagesFit}
-use Rattle.gh_invariant.proofs.BootObjects.{NoneRetired, bare_valid, boot_may, fresh_beside}
+use Rattle.gh_invariant.proofs.BootObjects.{NoneRetired, fresh_beside, bare_valid, boot_may}
 use Rattle.gh_invariant.proofs.Counting.{find_here, find_push_new, found_all, found_one, unfound}
 use Rattle.gh_invariant.proofs.KindRowsFit.{span_keeps_rows}
 use Rattle.gh_invariant.proofs.MappingsFit.{span_keeps_mappings}
@@ -61,8 +58,8 @@ module _ (s : State) (partition : ℕ) (valid : IsValidTo 0 s) (fresh : NoneReti
         pages = pages;
         mappings = span_keeps_mappings (s.objects ++ object ∷ []) s.extents s.mappings row with_bare.mappings;
         cpus = with_bare.cpus;
-        retired = λ one is. absurd (both_ways _ (fresh_beside s valid fresh kind.Extent partition 1 one) is);
         queues = with_bare.queues;
+        retired = λ n is. absurd (both_ways _ (fresh_beside s valid fresh kind.Extent partition 1 n) is);
         parcels = with_bare.parcels;
       }
 

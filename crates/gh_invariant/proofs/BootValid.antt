@@ -1,11 +1,9 @@
 -- The state of a boot file is valid.
-use Rattle.std.proofs.Common.{◌≡◌, ◌+◌, ◌≤◌, ◌<◌, ◌∙◌, ◌&&◌, ◌++◌, ℕ, Bool, true, false, not, List, [], ◌∷◌, length, take, drop, refl, subst, sym, ap, arith, IsTrue, Option, Some, None, fold, nat_le}
+use Rattle.std.proofs.Common.{◌≡◌, ◌+◌, ◌≤◌, ◌<◌, ◌&&◌, ◌++◌, ℕ, true, List, [], ◌∷◌, length, take, drop, refl, arith, IsTrue, fold, nat_le}
 use Rattle.std.specs.Prelude.{count_by, replicate}
-use Rattle.std.specs.List.{list_all}
-use Rattle.std.proofs.lemmas.Bool.{and_from, and_parts, leb-true}
+use Rattle.std.proofs.lemmas.Bool.{and_parts, leb-true}
 use Rattle.std.proofs.lemmas.List.{length-append, length-drop, length-replicate, length-take}
 use Rattle.gh_base.specs.declared.ids.Serial.{Serial}
-use Rattle.gh_base.specs.declared.kind.Kind.TheVariants as kind
 use Rattle.gh_base.specs.declared.limits.TheConstants.{MACHINE_PAGES}
 use Rattle.gh_model.specs.Boot.{after_line, boot_fits, boot_state, empty_state, first_page, is_complete, is_master_of, is_row_of, line_fits, lines_fit, move_pages, serial_of}
 use Rattle.gh_model.specs.Fitting.{IsNumbered}
@@ -13,13 +11,12 @@ use Rattle.gh_model.specs.Rows.{fills, is_cpu, is_extent, is_object, tells_setti
 use Rattle.gh_model.specs.Units.{given_by, used_by}
 use Rattle.gh_model.specs.declared.boot_line.BootLine.{BootLine}
 use Rattle.gh_model.specs.declared.boot_line.BootLine.TheVariants.{Pages, Partition, Cspace, Addrspace, Doorbell, RootExtent, Extent, Msgqueue, Map, Cap, Vm, Rm, Link}
-use Rattle.gh_model.specs.declared.rows.CpuRow.{CpuRow}
 use Rattle.gh_model.specs.declared.state.State.{State}
 use Rattle.gh_model.proofs.CpuRows.{empty_numbered, line_numbered}
 use Rattle.gh_invariant.specs.Lives.{is_parentless}
 use Rattle.gh_invariant.specs.Valid.{IsValid, IsValidTo}
 use Rattle.gh_invariant.proofs.BootCpus.{AllRunning, is_running, link_valid, rm_valid, vm_valid}
-use Rattle.gh_invariant.proofs.BootMaps.{map_valid}
+use Rattle.gh_invariant.proofs.BootMapping.{map_valid}
 use Rattle.gh_invariant.proofs.BootObjects.{NoneRetired, bell_valid, cspace_valid, queue_valid, space_valid, unretired_beside}
 use Rattle.gh_invariant.proofs.BootPartition.{partition_valid}
 use Rattle.gh_invariant.proofs.BootSlots.{cap_valid}

@@ -1,5 +1,5 @@
 pub mod BootCpus
-pub mod BootMaps
+pub mod BootMapping
 pub mod BootObjects
 pub mod BootPartition
 pub mod BootSlots

@@ -1,8 +1,8 @@
--- A boot line that maps an extent leaves a valid state.
-use Rattle.std.proofs.Common.{◌≡◌, ◌+◌, ◌≤◌, ◌<◌, ◌∙◌, ◌&&◌, ℕ, Bool, true, false, not, List, [], ◌∷◌, refl, ap, arith, IsTrue, Option, Some, None, find, nat_le, nat_lt}
+-- A boot line that maps pages leaves a valid state.
+use Rattle.std.proofs.Common.{◌≡◌, ◌+◌, ◌≤◌, ◌∙◌, ℕ, Bool, true, false, not, refl, ap, arith, IsTrue, Option, Some, None, find, nat_le, nat_lt}
 use Rattle.std.specs.Prelude.{count_by}
 use Rattle.std.specs.List.{list_any}
-use Rattle.std.proofs.lemmas.Bool.{and_from, and_parts, leb-true, lt-ltb, ltb-true, not-true}
+use Rattle.std.proofs.lemmas.Bool.{and_from, and_parts, both_ways, leb-true, lt-ltb, ltb-true, not-true}
 use Rattle.gh_base.specs.declared.access.Access.{Access}
 use Rattle.gh_base.specs.declared.ids.Serial.{Serial}
 use Rattle.gh_base.specs.declared.kind.Kind.TheVariants as kind
@@ -11,14 +11,12 @@ use Rattle.gh_model.specs.QueueCalls.{one_if}
 use Rattle.gh_model.specs.Rows.{is_extent}
 use Rattle.gh_model.specs.declared.boot_line.BootLine.TheVariants.{Map}
 use Rattle.gh_model.specs.declared.rows.ExtentRow.{ExtentRow}
-use Rattle.gh_model.specs.declared.rows.MappingRow.{MappingRow}
 use Rattle.gh_model.specs.declared.state.State.{State}
 use Rattle.gh_invariant.specs.Lives.{lives_as, spans_row}
 use Rattle.gh_invariant.specs.Valid.{IsValidTo}
 use Rattle.gh_invariant.proofs.BootObjects.{NoneRetired}
 use Rattle.gh_invariant.proofs.Counting.{found_one}
 use Rattle.gh_invariant.proofs.MappingsFit.{put_keeps_mappings}
-use Rattle.std.proofs.lemmas.Bool.{both_ways}
 
 counted_true : (n : ℕ) (b : Bool) → 1 ≤ n → n ≤ one_if b → b ≡ true
 counted_true n true some most = refl
@@ -50,8 +48,8 @@ map_found s space extent base offset count access valid fresh home (Some row) is
           (ap (spans_row (record { space = space; extent = extent; base = base; offset = offset; count = count; access = access; handle = 0 })) is ∙ and_from _ _ within.1 narrow.1))
           (not-true (list_any (overlaps space.0 base count) s.mappings) free.1) (ltb-true (count_by (is_row_of space.0) s.mappings) 64 few.1);
       cpus = valid.cpus;
-      retired = λ object is. absurd (both_ways _ (fresh object) is);
       queues = valid.queues;
+      retired = λ object is. absurd (both_ways _ (fresh object) is);
       parcels = valid.parcels;
     }
 
