@@ -13,10 +13,11 @@ use Rattle.gh_model.specs.Boot.{after_line, boot_object, has_units, kind_count, 
 use Rattle.gh_model.specs.Changes.{new_partitions}
 use Rattle.gh_model.specs.History.{is_retired}
 use Rattle.gh_model.specs.ObjectCalls.{is_full}
+use Rattle.gh_model.specs.Changes.{new_partitions}
 use Rattle.gh_model.specs.QueueCalls.{one_if}
 use Rattle.gh_model.specs.Rows.{object_row, is_bell, is_object, is_partition, is_queue}
 use Rattle.gh_model.specs.Units.{free_units}
-use Rattle.gh_model.specs.declared.boot_line.BootLine.TheVariants.{Partition, Cspace, Addrspace, Doorbell, Msgqueue}
+use Rattle.gh_model.specs.declared.boot_line.BootLine.TheVariants.{Cspace, Addrspace, Doorbell, Msgqueue}
 use Rattle.gh_model.specs.declared.change.Change.TheVariants.{AddObject}
 use Rattle.gh_model.specs.declared.rows.BellRow.{BellRow}
 use Rattle.gh_model.specs.declared.rows.ExtentRow.{ExtentRow}

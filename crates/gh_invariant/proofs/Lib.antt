@@ -4,6 +4,7 @@ pub mod BootObjects
 pub mod BootPartition
 pub mod BootSlots
 pub mod BootSpans
+pub mod BootValid
 pub mod ChangedRow
 pub mod ChangesInOrder
 pub mod Counting

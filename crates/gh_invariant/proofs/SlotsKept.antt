@@ -2,7 +2,6 @@
 use Rattle.std.proofs.Common.{◌≡◌, ◌+◌, ◌<◌, ◌∙◌, ℕ, refl, arith, Option, Some, None, IsTrue, find, is_some, ◌++◌, ◌∷◌, []}
 use Rattle.std.proofs.lemmas.Bool.{lt-ltb}
 use Rattle.gh_base.specs.declared.ids.Serial.{Serial}
-use Rattle.gh_base.specs.declared.kind.Kind.TheVariants as kind
 use Rattle.gh_model.specs.Changes.{changed, with_stage, with_counters, with_cost}
 use Rattle.gh_model.specs.Rows.{change_row, fills, is_object}
 use Rattle.gh_model.specs.declared.change.Change.{Change}

@@ -2,12 +2,14 @@
 //! units and words.
 #![tactic(auto)]
 
+mod boot;
 mod entries;
 mod references;
 mod units;
 mod validity;
 mod words;
 
+pub use boot::boot_is_valid;
 pub use entries::{act_keeps_valid, entries_keep_valid, entry_begins};
 pub use references::{
     change_moves_references, changes_move_references, doomed_stays, only_living_referenced,
