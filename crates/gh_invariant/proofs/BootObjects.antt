@@ -10,12 +10,14 @@ use Rattle.gh_base.specs.declared.kind.Kind.{Kind}
 use Rattle.gh_base.specs.declared.kind.Kind.TheVariants as kind
 use Rattle.gh_base.specs.declared.limits.TheConstants.{CSPACES, MESSAGE_BYTES, QUEUE_DEPTH}
 use Rattle.gh_model.specs.Boot.{after_line, boot_object, has_units, kind_count, line_fits, new_bell, queue_cost, serial_of, with_object}
+use Rattle.gh_model.specs.Changes.{new_partitions}
 use Rattle.gh_model.specs.History.{is_retired}
 use Rattle.gh_model.specs.ObjectCalls.{is_full}
+use Rattle.gh_model.specs.Changes.{new_partitions}
 use Rattle.gh_model.specs.QueueCalls.{one_if}
 use Rattle.gh_model.specs.Rows.{object_row, is_bell, is_object, is_partition, is_queue}
 use Rattle.gh_model.specs.Units.{free_units}
-use Rattle.gh_model.specs.declared.boot_line.BootLine.TheVariants.{Partition, Cspace, Addrspace, Doorbell, Msgqueue}
+use Rattle.gh_model.specs.declared.boot_line.BootLine.TheVariants.{Cspace, Addrspace, Doorbell, Msgqueue}
 use Rattle.gh_model.specs.declared.change.Change.TheVariants.{AddObject}
 use Rattle.gh_model.specs.declared.rows.BellRow.{BellRow}
 use Rattle.gh_model.specs.declared.rows.ExtentRow.{ExtentRow}
@@ -123,42 +125,32 @@ bare_rows s k partition cost valid no_partition no_bell no_queue =
     (λ n. rw no_bell (none_now (count_by (is_bell n) s.bells) (s.next_serial == n)))
     (λ n. rw no_queue (none_now (count_by (is_queue n) s.queues) (s.next_serial == n))) valid.rows
 
--- an object of a kind that isn't full
-pub cspace_valid : (s : State) (partition : Serial) → IsValidTo 0 s → NoneRetired s → IsTrue (line_fits s (Cspace partition)) → IsValidTo 0 (after_line s (Cspace partition))
-cspace_valid s partition valid fresh fits =
-    let parts : (has_units s partition.0 4 ≡ true) × (nat_lt (kind_count s kind.Cspace) CSPACES ≡ true) = and_parts _ _ fits in
-    let fewer : kind_count s kind.Cspace < CSPACES = ltb-true (kind_count s kind.Cspace) CSPACES parts.1 in
-    let may : MayAdd s (boot_object s kind.Cspace partition.0 4) = boot_may s valid fresh kind.Cspace partition.0 4 (lt-leb CSPACES (kind_count s kind.Cspace) fewer) (omega arith) parts.0 in
-    let beside : ObjectBeside s (boot_object s kind.Cspace partition.0 4) = object_beside s valid fresh kind.Cspace partition.0 4 may in
+-- such an object leaves a valid state
+pub bare_valid : (s : State) (k : Kind) (partition cost : ℕ) → IsValidTo 0 s → NoneRetired s → (kind_number k == kind_number kind.Partition) ≡ false → (kind_number k == kind_number kind.Bell) ≡ false → (kind_number k == kind_number kind.Queue) ≡ false → new_partitions k (serial_of s.next_serial) (serial_of partition) ≡ [] → MayAdd s (boot_object s k partition cost) → IsValidTo 0 (with_object s k partition cost)
+bare_valid s k partition cost valid fresh no_partition no_bell no_queue none may =
+    let beside : ObjectBeside s (boot_object s k partition cost) = object_beside s valid fresh k partition cost may in
     record {
       objects = beside.objects;
       slots = beside.slots;
-      rows = bare_rows s kind.Cspace partition.0 4 valid refl refl refl;
-      units = subst (λ (rows : List PartitionRow). UnitsFit (s.objects ++ boot_object s kind.Cspace partition.0 4 ∷ []) rows s.extents) (append-nil s.partitions) (units_kept 0 s (AddObject (boot_object s kind.Cspace partition.0 4)) valid may);
+      rows = bare_rows s k partition cost valid no_partition no_bell no_queue;
+      units = subst (λ (rows : List PartitionRow). UnitsFit (s.objects ++ boot_object s k partition cost ∷ []) rows s.extents) (ap (λ (new : List PartitionRow). s.partitions ++ new) none ∙ append-nil s.partitions) (units_kept 0 s (AddObject (boot_object s k partition cost)) valid may);
       pages = valid.pages;
       mappings = beside.mappings;
       cpus = beside.cpus;
-      retired = λ object is. absurd (both_ways _ (fresh_beside s valid fresh kind.Cspace partition.0 4 object) is);
+      retired = λ object is. absurd (both_ways _ (fresh_beside s valid fresh k partition cost object) is);
       queues = valid.queues;
       parcels = valid.parcels;
     }
 
+pub cspace_valid : (s : State) (partition : Serial) → IsValidTo 0 s → NoneRetired s → IsTrue (line_fits s (Cspace partition)) → IsValidTo 0 (after_line s (Cspace partition))
+cspace_valid s partition valid fresh fits =
+    let parts : (has_units s partition.0 4 ≡ true) × (nat_lt (kind_count s kind.Cspace) CSPACES ≡ true) = and_parts _ _ fits in
+    let fewer : kind_count s kind.Cspace < CSPACES = ltb-true (kind_count s kind.Cspace) CSPACES parts.1 in
+    bare_valid s kind.Cspace partition.0 4 valid fresh refl refl refl refl (boot_may s valid fresh kind.Cspace partition.0 4 (lt-leb CSPACES (kind_count s kind.Cspace) fewer) (omega arith) parts.0)
+
 pub space_valid : (s : State) (partition : Serial) → IsValidTo 0 s → NoneRetired s → IsTrue (line_fits s (Addrspace partition)) → IsValidTo 0 (after_line s (Addrspace partition))
 space_valid s partition valid fresh fits =
-    let may : MayAdd s (boot_object s kind.Space partition.0 4) = boot_may s valid fresh kind.Space partition.0 4 refl (omega arith) fits in
-    let beside : ObjectBeside s (boot_object s kind.Space partition.0 4) = object_beside s valid fresh kind.Space partition.0 4 may in
-    record {
-      objects = beside.objects;
-      slots = beside.slots;
-      rows = bare_rows s kind.Space partition.0 4 valid refl refl refl;
-      units = subst (λ (rows : List PartitionRow). UnitsFit (s.objects ++ boot_object s kind.Space partition.0 4 ∷ []) rows s.extents) (append-nil s.partitions) (units_kept 0 s (AddObject (boot_object s kind.Space partition.0 4)) valid may);
-      pages = valid.pages;
-      mappings = beside.mappings;
-      cpus = beside.cpus;
-      retired = λ object is. absurd (both_ways _ (fresh_beside s valid fresh kind.Space partition.0 4 object) is);
-      queues = valid.queues;
-      parcels = valid.parcels;
-    }
+    bare_valid s kind.Space partition.0 4 valid fresh refl refl refl refl (boot_may s valid fresh kind.Space partition.0 4 refl (omega arith) fits)
 
 pub bell_valid : (s : State) (partition : Serial) → IsValidTo 0 s → NoneRetired s → IsTrue (line_fits s (Doorbell partition)) → IsValidTo 0 (after_line s (Doorbell partition))
 bell_valid s partition valid fresh fits =

@@ -1,27 +1,24 @@
 -- A boot line that makes a partition leaves a valid state: it lives in itself and has its quota.
-use Rattle.std.proofs.Common.{◌≡◌, ◌+◌, ◌≤◌, ◌<◌, ◌∙◌, ◌&&◌, ◌==◌, ◌++◌, ℕ, Bool, true, false, List, [], ◌∷◌, refl, subst, sym, ap, arith, IsTrue, Option, Some, None, find, nat_le, nat_lt, if◌then◌else◌}
-use Rattle.std.specs.Prelude.{count_by, sum_by}
-use Rattle.std.specs.List.{list_all}
+use Rattle.std.proofs.Common.{◌≡◌, ◌+◌, ◌≤◌, ◌<◌, ◌∙◌, ◌==◌, ◌++◌, ℕ, Bool, true, false, [], ◌∷◌, refl, subst, ap, arith, IsTrue, Option, Some, None, find, nat_le, nat_lt, if◌then◌else◌}
+use Rattle.std.specs.Prelude.{count_by}
 use Rattle.std.specs.Option.{option_or}
-use Rattle.std.proofs.lemmas.Bool.{and_from, and_parts, eq-eqb, eqb-true, leb-true, ltb-true, lt-leb, le-leb}
+use Rattle.std.proofs.lemmas.Bool.{both_ways, and_from, and_parts, eq-eqb, eqb-true, leb-true, ltb-true, lt-leb, le-leb}
 use Rattle.std.proofs.lemmas.Bool.Decides.{nat_tests}
 use Rattle.std.proofs.lemmas.List.Sums.{sum_by_push}
-use Rattle.gh_base.specs.declared.ids.Serial.{Serial}
-use Rattle.gh_base.specs.declared.kind.Kind.{Kind}
 use Rattle.gh_base.specs.declared.kind.Kind.TheVariants as kind
 use Rattle.gh_base.specs.declared.limits.TheConstants.{PARTITIONS, PARTITION_UNITS}
 use Rattle.gh_model.specs.Boot.{after_line, boot_object, is_of_kind, kind_count, line_fits, serial_of}
 use Rattle.gh_model.specs.QueueCalls.{one_if}
 use Rattle.gh_model.specs.Rows.{is_bell, is_object, is_partition, is_queue}
-use Rattle.gh_model.specs.Units.{given_by, is_given_by, lives_in, row_quota, used_by}
+use Rattle.gh_model.specs.Units.{given_by, row_quota, used_by}
 use Rattle.gh_model.specs.declared.boot_line.BootLine.TheVariants.{Partition}
 use Rattle.gh_model.specs.declared.rows.ObjectRow.{ObjectRow}
 use Rattle.gh_model.specs.declared.rows.PartitionRow.{PartitionRow}
 use Rattle.gh_model.specs.declared.state.State.{State}
 use Rattle.gh_invariant.specs.Lives.{cost_fits, lives_as, lives_under, quota_fits}
-use Rattle.gh_invariant.specs.Valid.{IsValidTo, ObjectsFit, UnitsFit}
-use Rattle.gh_invariant.proofs.BootObjects.{none_now, one_now, rows_now}
-use Rattle.gh_invariant.proofs.Counting.{all_by, all_push, find_push, find_push_new, find_push_other, unfound}
+use Rattle.gh_invariant.specs.Valid.{IsValidTo, UnitsFit}
+use Rattle.gh_invariant.proofs.BootObjects.{NoneRetired, unretired_beside, none_now, one_now, rows_now}
+use Rattle.gh_invariant.proofs.Counting.{all_by, all_push, find_push_new, find_push_other, unfound}
 use Rattle.gh_invariant.proofs.CpusFit.{cpus_live_on}
 use Rattle.gh_invariant.proofs.MappingsFit.{lives_keep_mappings}
 use Rattle.gh_invariant.proofs.ObjectsFit.{add_keeps_objects, lives_beside}
@@ -97,8 +94,8 @@ module _ (s : State) (quota : ℕ) (valid : IsValidTo 0 s) (some : 1 ≤ quota) 
       turned : (n : ℕ) → (n == s.next_serial) ≡ false → (s.next_serial == n) ≡ false
       turned n other = grind (arith, nat_tests)
 
-  partition_made : kind_count s kind.Partition < PARTITIONS → IsValidTo 0 (after_line s (Partition quota))
-  partition_made fewer = record {
+  partition_made : NoneRetired s → kind_count s kind.Partition < PARTITIONS → IsValidTo 0 (after_line s (Partition quota))
+  partition_made fresh fewer = record {
     objects = add_keeps_objects s.next_serial s.objects object refl valid.objects (ap (is_of_kind kind.Partition) made)
         (few_partitions s kind.Partition (lt-leb PARTITIONS (kind_count s kind.Partition) fewer) valid.objects.partitions)
         (few_cspaces s kind.Partition (lt-leb PARTITIONS (kind_count s kind.Partition) fewer) valid.objects.cspaces);
@@ -110,11 +107,12 @@ module _ (s : State) (quota : ℕ) (valid : IsValidTo 0 s) (some : 1 ≤ quota) 
     mappings = lives_keep_mappings s.objects (s.objects ++ object ∷ []) s.extents s.mappings (lives_beside s.objects object) valid.mappings;
     cpus = cpus_live_on s.objects (s.objects ++ object ∷ []) s.cpus s.links (lives_beside s.objects object) valid.cpus;
     queues = valid.queues;
+    retired = λ n is. absurd (both_ways _ (unretired_beside s.objects object refl n (fresh n)) is);
     parcels = valid.parcels;
   }
 
-pub partition_valid : (s : State) (quota : ℕ) → IsValidTo 0 s → IsTrue (line_fits s (Partition quota)) → IsValidTo 0 (after_line s (Partition quota))
-partition_valid s quota valid fits =
+pub partition_valid : (s : State) (quota : ℕ) → IsValidTo 0 s → NoneRetired s → IsTrue (line_fits s (Partition quota)) → IsValidTo 0 (after_line s (Partition quota))
+partition_valid s quota valid fresh fits =
     let last : _ × (nat_lt (kind_count s kind.Partition) PARTITIONS ≡ true) = and_parts _ _ fits in
     let first : (nat_le 1 quota ≡ true) × (nat_le quota PARTITION_UNITS ≡ true) = and_parts _ _ last.0 in
-    partition_made s quota valid (leb-true 1 quota first.0) (leb-true quota PARTITION_UNITS first.1) (ltb-true (kind_count s kind.Partition) PARTITIONS last.1)
+    partition_made s quota valid (leb-true 1 quota first.0) (leb-true quota PARTITION_UNITS first.1) fresh (ltb-true (kind_count s kind.Partition) PARTITIONS last.1)

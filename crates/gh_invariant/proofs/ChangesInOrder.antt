@@ -37,21 +37,28 @@ entries_stay s (EmptyQueue queue) = refl
 entries_stay s (Exit cpu) = refl
 entries_stay s Ring = refl
 
-pub entries_stay_all : (s : State) (changes : List Change) → (changed_all s changes).entries ≡ s.entries
+pub entries_stay_all : (s : State) (changes : List Change)
+    → (changed_all s changes).entries ≡ s.entries
 entries_stay_all s [] = refl
-entries_stay_all s (change ∷ changes) = entries_stay_all (changed s change) changes ∙ entries_stay s change
+entries_stay_all s (change ∷ changes) =
+    entries_stay_all (changed s change) changes ∙ entries_stay s change
 
-room_stays : (last : ℕ) (s : State) (change : Change) → s.entries + 1 ≤ last → (changed s change).entries + 1 ≤ last
+room_stays : (last : ℕ) (s : State) (change : Change) → s.entries + 1 ≤ last
+    → (changed s change).entries + 1 ≤ last
 room_stays last s change room = subst (λ (n : ℕ). n + 1 ≤ last) (sym (entries_stay s change)) room
 
 -- a valid state stays so
-pub valid_all : (last : ℕ) (s : State) (changes : List Change) → s.entries + 1 ≤ last → IsValidTo last s → MayChangeAll s changes → IsValidTo last (changed_all s changes)
+pub valid_all : (last : ℕ) (s : State) (changes : List Change) → s.entries + 1 ≤ last
+    → IsValidTo last s → MayChangeAll s changes → IsValidTo last (changed_all s changes)
 valid_all last s [] room valid may = valid
 valid_all last s (change ∷ changes) room valid may =
     valid_all last (changed s change) changes (room_stays last s change room) (valid_kept last s change room valid may.first) may.others
 
 -- references move by what all of them give and take
-pub references_all : (last : ℕ) (s : State) (changes : List Change) (object : ℕ) → 0 < object → s.entries + 1 ≤ last → IsValidTo last s → MayChangeAll s changes → references (changed_all s changes) object + times object (lost s changes) ≡ references s object + times object (gained s changes)
+pub references_all : (last : ℕ) (s : State) (changes : List Change) (object : ℕ) → 0 < object
+    → s.entries + 1 ≤ last → IsValidTo last s → MayChangeAll s changes
+    → references (changed_all s changes) object + times object (lost s changes)
+    ≡ references s object + times object (gained s changes)
 references_all last s [] object some room valid may = refl
 references_all last s (change ∷ changes) object some room valid may =
     let others : references (changed_all (changed s change) changes) object + times object (lost (changed s change) changes) ≡ references (changed s change) object + times object (gained (changed s change) changes) =
@@ -65,7 +72,10 @@ references_all last s (change ∷ changes) object some room valid may =
     )
 
 -- and so do units
-pub units_all : (last : ℕ) (s : State) (changes : List Change) (partition : ℕ) → s.entries + 1 ≤ last → IsValidTo last s → MayChangeAll s changes → used_units (changed_all s changes) partition + given_units (changed_all s changes) partition + units_of partition (returns_all s changes) ≡ used_units s partition + given_units s partition + units_of partition (takes_all s changes)
+pub units_all : (last : ℕ) (s : State) (changes : List Change) (partition : ℕ)
+    → s.entries + 1 ≤ last → IsValidTo last s → MayChangeAll s changes
+    → used_units (changed_all s changes) partition + given_units (changed_all s changes) partition + units_of partition (returns_all s changes)
+    ≡ used_units s partition + given_units s partition + units_of partition (takes_all s changes)
 units_all last s [] partition room valid may = refl
 units_all last s (change ∷ changes) partition room valid may =
     let others : used_units (changed_all (changed s change) changes) partition + given_units (changed_all (changed s change) changes) partition + units_of partition (returns_all (changed s change) changes) ≡ used_units (changed s change) partition + given_units (changed s change) partition + units_of partition (takes_all (changed s change) changes) =

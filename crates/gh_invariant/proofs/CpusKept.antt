@@ -15,20 +15,24 @@ use Rattle.gh_invariant.proofs.ReferencesLaw.{unreferenced}
 
 module _ (last : ℕ) (s : State) (valid : IsValidTo last s) where
   -- objects whose rows change in place live on
-  cpus_in_place : (object : ℕ) (change : ObjectRow → ObjectRow) → KeepsPlace change → CpusFit (change_row (is_object object) change s.objects) s.cpus s.links
+  cpus_in_place : (object : ℕ) (change : ObjectRow → ObjectRow) → KeepsPlace change
+      → CpusFit (change_row (is_object object) change s.objects) s.cpus s.links
   cpus_in_place object change keeps =
       cpus_live_on s.objects (change_row (is_object object) change s.objects) s.cpus s.links
       (λ serial k lives. lives_kept (is_object object) change keeps s.objects serial k ∙ lives) valid.cpus
 
   -- CPUs and links
-  pub cpus_kept : (change : Change) → MayChange s change → CpusFit (changed s change).objects (changed s change).cpus (changed s change).links
+  pub cpus_kept : (change : Change) → MayChange s change
+      → CpusFit (changed s change).objects (changed s change).cpus (changed s change).links
   cpus_kept (PutCapability row) may = valid.cpus
   cpus_kept (DropCapability cspace slot) may = valid.cpus
   cpus_kept (RevokeCapability cspace slot) may = valid.cpus
   cpus_kept (AddObject row) may =
       cpus_live_on s.objects (s.objects ++ row ∷ []) s.cpus s.links (λ serial k lives. lives_beside s.objects row serial k lives) valid.cpus
-  cpus_kept (SetStage object stage) may = cpus_in_place object.0 (with_stage stage) (stage_keeps stage)
-  cpus_kept (Retire object seen) may = cpus_in_place object.0 (with_counters seen) (counters_keep seen)
+  cpus_kept (SetStage object stage) may =
+      cpus_in_place object.0 (with_stage stage) (stage_keeps stage)
+  cpus_kept (Retire object seen) may =
+      cpus_in_place object.0 (with_counters seen) (counters_keep seen)
   cpus_kept (Reclaim object) may =
       reclaim_keeps_cpus s.objects object.0 s.cpus s.links (unreferenced s object.0 may.doomed).cpus (unreferenced s object.0 may.doomed).links valid.cpus
   cpus_kept (GiveQuota partition quota) may = valid.cpus
@@ -37,7 +41,8 @@ module _ (last : ℕ) (s : State) (valid : IsValidTo last s) where
   cpus_kept (PutMapping row) may = valid.cpus
   cpus_kept (DropMapping row) may = valid.cpus
   cpus_kept (SetBell row) may = valid.cpus
-  cpus_kept (ConfigureQueue queue depth size cost) may = cpus_in_place queue.0 (with_cost cost) (cost_keeps cost)
+  cpus_kept (ConfigureQueue queue depth size cost) may =
+      cpus_in_place queue.0 (with_cost cost) (cost_keeps cost)
   cpus_kept (PutMessage queue message) may = valid.cpus
   cpus_kept (DropMessage queue) may = valid.cpus
   cpus_kept (EmptyQueue queue) may = valid.cpus

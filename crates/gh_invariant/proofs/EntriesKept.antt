@@ -22,13 +22,16 @@ use Rattle.gh_invariant.specs.Premises.{MayChangeAll}
 use Rattle.gh_model.specs.declared.change.Change.{Change}
 
 -- settings up to an entry are up to a later one
-settings_more : (last later : ℕ) (objects : List ObjectRow) (row : SetAtRow) → last ≤ later → IsTrue (setting_fits last objects row) → IsTrue (setting_fits later objects row)
+settings_more : (last later : ℕ) (objects : List ObjectRow) (row : SetAtRow) → last ≤ later
+    → IsTrue (setting_fits last objects row) → IsTrue (setting_fits later objects row)
 settings_more last later objects row more fits =
     let parts : SettingParts last objects row = setting_parts last objects row fits in
     let within : row.number ≤ last = leb-true row.number last parts.within in
     setting_from later objects row (record { home = parts.home; slot = parts.slot; some = parts.some; within = le-leb row.number later (omega arith) })
 
-pub slots_more : (next last later : ℕ) (objects : List ObjectRow) (caps : List CapabilityRow) (set_at : List SetAtRow) → last ≤ later → SlotsFit next last objects caps set_at → SlotsFit next later objects caps set_at
+pub slots_more : (next last later : ℕ) (objects : List ObjectRow) (caps : List CapabilityRow) (set_at : List SetAtRow)
+    → last ≤ later → SlotsFit next last objects caps set_at
+    → SlotsFit next later objects caps set_at
 slots_more next last later objects caps set_at more fit = record {
   once = fit.once;
   masters = fit.masters;
@@ -85,7 +88,8 @@ numbered_valid s valid = record {
   parcels = valid.parcels;
 }
 
-took_valid : (s : State) (space : Serial) (slot : ℕ) → IsValidWithin s → IsValidWithin (took s space slot)
+took_valid : (s : State) (space : Serial) (slot : ℕ) → IsValidWithin s
+    → IsValidWithin (took s space slot)
 took_valid s space slot valid = record {
   objects = valid.objects;
   slots = valid.slots;
@@ -100,7 +104,8 @@ took_valid s space slot valid = record {
 }
 
 -- what may be made of two states is valid where both are
-either_valid : (b : Bool) (new old : State) → (b ≡ true → IsValid new) → IsValid old → IsValid (if b then new else old)
+either_valid : (b : Bool) (new old : State) → (b ≡ true → IsValid new) → IsValid old
+    → IsValid (if b then new else old)
 either_valid true new old then_new is = then_new refl
 either_valid false new old then_new is = is
 
@@ -135,7 +140,8 @@ module _ (s : State) (valid : IsValid s) where
       (record { retired = (and_parts _ _ may).1; doomed = eqb-true _ 0 (and_parts _ _ may).0 }))) unmade_valid
 
   -- the changes of an act
-  pub made_valid : (changes : List Change) → MayChangeAll s changes → IsValid (counted (changed_all s changes))
+  pub made_valid : (changes : List Change) → MayChangeAll s changes
+      → IsValid (counted (changed_all s changes))
   made_valid changes may =
       counted_valid (changed_all s changes)
       (subst (λ (n : ℕ). IsValidTo (n + 1) (changed_all s changes)) (sym (entries_stay_all s changes))

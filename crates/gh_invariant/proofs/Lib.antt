@@ -1,6 +1,10 @@
+pub mod BootCpus
+pub mod BootMapping
 pub mod BootObjects
 pub mod BootPartition
 pub mod BootSlots
+pub mod BootSpans
+pub mod BootValid
 pub mod CapabilityMade
 pub mod ChangedRow
 pub mod ChangesInOrder

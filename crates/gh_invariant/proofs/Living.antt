@@ -12,26 +12,33 @@ use Rattle.gh_invariant.specs.Lives.{lives_as}
 use Rattle.gh_invariant.specs.Valid.{ObjectsFit}
 use Rattle.gh_invariant.proofs.Counting.{found_one}
 
-two_kinds : (found : Option ObjectRow) (k j : Kind) → IsTrue (is_of_kind k found) → IsTrue (is_of_kind j found) → (kind_number k == kind_number j) ≡ false → ⊥
+two_kinds : (found : Option ObjectRow) (k j : Kind) → IsTrue (is_of_kind k found)
+    → IsTrue (is_of_kind j found) → (kind_number k == kind_number j) ≡ false → ⊥
 two_kinds None k j is also apart = let never : ⊥ = cc in never
 two_kinds (Some row) k j is also apart = grind (arith, nat_tests)
 
 module _ (objects : List ObjectRow) where
   -- objects of two kinds are two
-  pub kinds_apart : (serial other : ℕ) (k j : Kind) → IsTrue (lives_as objects serial k) → IsTrue (lives_as objects other j) → (kind_number k == kind_number j) ≡ false → (serial == other) ≡ false
+  pub kinds_apart : (serial other : ℕ) (k j : Kind) → IsTrue (lives_as objects serial k)
+      → IsTrue (lives_as objects other j) → (kind_number k == kind_number j) ≡ false
+      → (serial == other) ≡ false
   kinds_apart serial other k j is also apart =
       elim (eqb_tells serial other) as (λ _. (serial == other) ≡ false) [
         | inl same ↦ absurd (two_kinds (find (is_object serial) objects) k j is (subst (λ (n : ℕ). IsTrue (lives_as objects n j)) (sym same.1) also) apart)
         | inr differs ↦ differs.0
       ]
 
-  found_lives_by : (serial : ℕ) (k : Kind) (found : Option ObjectRow) → find (is_object serial) objects ≡ found → IsTrue (is_of_kind k found) → 1 ≤ count_by (is_object serial) objects
+  found_lives_by : (serial : ℕ) (k : Kind) (found : Option ObjectRow)
+      → find (is_object serial) objects ≡ found → IsTrue (is_of_kind k found)
+      → 1 ≤ count_by (is_object serial) objects
   found_lives_by serial k None is lives = absurd (let never : ⊥ = cc in never)
   found_lives_by serial k (Some row) is lives = found_one (is_object serial) objects row is
 
   -- what lives is counted
-  pub lives_counted : (serial : ℕ) (k : Kind) → IsTrue (lives_as objects serial k) → 1 ≤ count_by (is_object serial) objects
-  lives_counted serial k lives = found_lives_by serial k (find (is_object serial) objects) refl lives
+  pub lives_counted : (serial : ℕ) (k : Kind) → IsTrue (lives_as objects serial k)
+      → 1 ≤ count_by (is_object serial) objects
+  lives_counted serial k lives =
+      found_lives_by serial k (find (is_object serial) objects) refl lives
 
   module _ (next_serial : ℕ) (fit : ObjectsFit next_serial objects) where
     -- what lives isn't serial 0
@@ -43,7 +50,8 @@ module _ (objects : List ObjectRow) where
         ]
 
     -- and was made
-    pub lives_made : (serial : ℕ) (k : Kind) → IsTrue (lives_as objects serial k) → serial < next_serial
+    pub lives_made : (serial : ℕ) (k : Kind) → IsTrue (lives_as objects serial k)
+        → serial < next_serial
     lives_made serial k lives =
         elim (cases_lt serial next_serial) as (λ _. serial < next_serial) [
           | inl made ↦ made

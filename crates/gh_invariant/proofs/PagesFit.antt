@@ -73,7 +73,7 @@ module _ (first count : ℕ) (holder : Serial) (holders : List Serial) (extents 
           | inr was ↦ fit.held rooted page x was
         ]
 
-    moved_fit : first + count ≤ length holders → PagesFit (move_pages first count holder holders) extents
+    pub moved_fit : first + count ≤ length holders → PagesFit (move_pages first count holder holders) extents
     moved_fit some =
         let same : length (move_pages first count holder holders) ≡ length holders = moved_length some in
         record {

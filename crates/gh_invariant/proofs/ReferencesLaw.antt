@@ -65,14 +65,16 @@ module _ (last : ℕ) (s : State) (valid : IsValidTo last s) (object : ℕ) wher
   put_moves row = omega (arith, caps_put object s.caps row)
 
   drop_moves : (cspace : Serial) (slot : ℕ) → Moves s (DropCapability cspace slot) object
-  drop_moves cspace slot = omega (arith, caps_dropped object s.caps cspace.0 slot (valid.slots.once cspace.0 slot))
+  drop_moves cspace slot =
+      omega (arith, caps_dropped object s.caps cspace.0 slot (valid.slots.once cspace.0 slot))
 
   revoke_moves : (cspace : Serial) (slot : ℕ) → Moves s (RevokeCapability cspace slot) object
   revoke_moves cspace slot = omega (arith, caps_revoked object s.caps cspace.0 slot)
 
   add_moves : (row : ObjectRow) → MayAdd s row → Moves s (AddObject row) object
   add_moves row may =
-      let home : 0 < row.partition.0 = lives_some s.objects s.next_serial valid.objects row.partition.0 kind.Partition may.partition in
+      let home : 0 < row.partition.0 =
+      lives_some s.objects s.next_serial valid.objects row.partition.0 kind.Partition may.partition in
       omega (arith, home_put object s.objects row, boot_added object s.partitions row.kind row.serial row.partition (grind (arith, nat_tests)))
 
   stage_moves : (serial : Serial) (stage : Stage) → Moves s (SetStage serial stage) object
@@ -90,15 +92,19 @@ module _ (last : ℕ) (s : State) (valid : IsValidTo last s) (object : ℕ) wher
   span_moves : 0 < object → (row : ExtentRow) → Moves s (AddExtent row) object
   span_moves some row = omega (arith, extents_put object some s.extents row)
 
-  cost_moves : (queue : Serial) (depth size cost : ℕ) → Moves s (ConfigureQueue queue depth size cost) object
+  cost_moves : (queue : Serial) (depth size cost : ℕ)
+      → Moves s (ConfigureQueue queue depth size cost) object
   cost_moves queue depth size cost =
       omega (arith, count_change_kept (is_inhabitant_of object) (is_object queue.0) (with_cost cost) s.objects (λ row. refl))
 
-  reclaim_moves : 0 < object → (serial : Serial) → MayReclaim s serial.0 → Moves s (Reclaim serial) object
+  reclaim_moves : 0 < object → (serial : Serial) → MayReclaim s serial.0
+      → Moves s (Reclaim serial) object
   reclaim_moves some serial may =
       let none : IsUnreferenced s serial.0 = unreferenced s serial.0 may.doomed in
-      let caps : without (is_in_cspace serial.0) s.caps ≡ s.caps = without_none (is_slot_of serial.0) s.caps none.slots in
-      let mappings : without (is_mapping_of serial.0) s.mappings ≡ s.mappings = without_none (is_mapping_of serial.0) s.mappings none.mappings in
+      let caps : without (is_in_cspace serial.0) s.caps ≡ s.caps =
+      without_none (is_slot_of serial.0) s.caps none.slots in
+      let mappings : without (is_mapping_of serial.0) s.mappings ≡ s.mappings =
+      without_none (is_mapping_of serial.0) s.mappings none.mappings in
       let once : count_by (is_extent serial.0) s.extents ≤ 1 = one_span in
       omega (
         arith,
@@ -116,13 +122,17 @@ module _ (last : ℕ) (s : State) (valid : IsValidTo last s) (object : ℕ) wher
       one_most false = omega arith
 
       one_span : count_by (is_extent serial.0) s.extents ≤ 1
-      one_span = omega (arith, valid.rows.extents serial.0, one_most (lives_as s.objects serial.0 kind.Extent))
+      one_span =
+          omega (arith, valid.rows.extents serial.0, one_most (lives_as s.objects serial.0 kind.Extent))
 
   map_moves : (row : MappingRow) → MayMap s row → Moves s (PutMapping row) object
   map_moves row may =
       omega (arith, mappings_put object s.mappings row (mapping_apart s.objects s.extents row may.stands))
 
-  unmap_moves : (row : MappingRow) → find (is_mapping row.space.0 row.extent.0 row.base row.offset row.count) s.mappings ≡ Some row → Moves s (DropMapping row) object
+  unmap_moves : (row : MappingRow)
+      → find (is_mapping row.space.0 row.extent.0 row.base row.offset row.count) s.mappings
+      ≡ Some row
+      → Moves s (DropMapping row) object
   unmap_moves row found =
       omega (
         arith,
@@ -132,10 +142,13 @@ module _ (last : ℕ) (s : State) (valid : IsValidTo last s) (object : ℕ) wher
       )
 
   -- a CPU that hasn't exited is attached to two objects
-  attached_apart : (row : CpuRow) → IsTrue (cpu_fits s.objects row) → row.exited ≡ false → (row.cspace.0 == row.space.0) ≡ false
+  attached_apart : (row : CpuRow) → IsTrue (cpu_fits s.objects row) → row.exited ≡ false
+      → (row.cspace.0 == row.space.0) ≡ false
   attached_apart row fits runs =
-      let both : (lives_as s.objects row.cspace.0 kind.Cspace && lives_as s.objects row.space.0 kind.Space) ≡ true = rw runs at fits in
-      let parts : (lives_as s.objects row.cspace.0 kind.Cspace ≡ true) × (lives_as s.objects row.space.0 kind.Space ≡ true) = and_parts _ _ both in
+      let both : (lives_as s.objects row.cspace.0 kind.Cspace && lives_as s.objects row.space.0 kind.Space) ≡ true =
+      rw runs at fits in
+      let parts : (lives_as s.objects row.cspace.0 kind.Cspace ≡ true) × (lives_as s.objects row.space.0 kind.Space ≡ true) =
+      and_parts _ _ both in
       kinds_apart s.objects row.cspace.0 row.space.0 kind.Cspace kind.Space parts.0 parts.1 refl
 
   exit_moves : (cpu : CpuNo) → Moves s (Exit cpu) object

@@ -2,7 +2,6 @@
 use Rattle.std.proofs.Common.{◌≡◌, ◌+◌, ◌<◌, ◌∙◌, ℕ, refl, arith, Option, Some, None, IsTrue, find, is_some, ◌++◌, ◌∷◌, []}
 use Rattle.std.proofs.lemmas.Bool.{lt-ltb}
 use Rattle.gh_base.specs.declared.ids.Serial.{Serial}
-use Rattle.gh_base.specs.declared.kind.Kind.TheVariants as kind
 use Rattle.gh_model.specs.Changes.{changed, with_stage, with_counters, with_cost}
 use Rattle.gh_model.specs.Rows.{change_row, fills, is_object}
 use Rattle.gh_model.specs.declared.change.Change.{Change}
@@ -37,12 +36,14 @@ module _ (last : ℕ) (s : State) (valid : IsValidTo last s) where
   })
 
   -- a slot that is filled has a row
-  filled_row : {P : Type 0} (found : Option CapabilityRow) → IsTrue (is_some found) → ((row : CapabilityRow) → found ≡ Some row → P) → P
+  filled_row : {P : Type 0} (found : Option CapabilityRow) → IsTrue (is_some found)
+      → ((row : CapabilityRow) → found ≡ Some row → P) → P
   filled_row None filled then_is = absurd (let never : ⊥ = cc in never)
   filled_row (Some row) filled then_is = then_is row refl
 
   -- objects whose rows change in place live on
-  slots_in_place : (object : ℕ) (change : ObjectRow → ObjectRow) → KeepsPlace change → SlotsFit s.next_serial last (change_row (is_object object) change s.objects) s.caps s.set_at
+  slots_in_place : (object : ℕ) (change : ObjectRow → ObjectRow) → KeepsPlace change
+      → SlotsFit s.next_serial last (change_row (is_object object) change s.objects) s.caps s.set_at
   slots_in_place object change keeps =
       slots_live_on s.next_serial s.next_serial last s.objects (change_row (is_object object) change s.objects) s.caps s.set_at (omega arith)
       (λ serial k lives. lives_kept (is_object object) change keeps s.objects serial k ∙ lives) valid.slots
@@ -52,12 +53,14 @@ module _ (last : ℕ) (s : State) (valid : IsValidTo last s) where
     put_stays row may =
         put_keeps_slots s.next_serial last s.objects s.caps s.set_at valid.slots (s.entries + 1) (omega arith) (omega (arith, room)) row may.free may.master (put_fits row may)
 
-    drop_stays : (cspace : Serial) (slot : ℕ) → IsFilled s cspace slot → SlotsStay last s (DropCapability cspace slot)
+    drop_stays : (cspace : Serial) (slot : ℕ) → IsFilled s cspace slot
+        → SlotsStay last s (DropCapability cspace slot)
     drop_stays cspace slot filled =
         filled_row (find (fills cspace.0 slot) s.caps) filled
         (λ row found. drop_keeps_slots s.next_serial last s.objects s.caps s.set_at valid.slots (s.entries + 1) (omega arith) (omega (arith, room)) cspace slot row found)
 
-    revoke_stays : (cspace : Serial) (slot : ℕ) → IsFilled s cspace slot → SlotsStay last s (RevokeCapability cspace slot)
+    revoke_stays : (cspace : Serial) (slot : ℕ) → IsFilled s cspace slot
+        → SlotsStay last s (RevokeCapability cspace slot)
     revoke_stays cspace slot filled =
         filled_row (find (fills cspace.0 slot) s.caps) filled
         (λ row found. revoke_keeps_slots s.next_serial last s.objects s.caps s.set_at valid.slots (s.entries + 1) (omega arith) (omega (arith, room)) cspace slot row found)
@@ -70,8 +73,10 @@ module _ (last : ℕ) (s : State) (valid : IsValidTo last s) where
     slots_kept (AddObject row) may =
         slots_live_on s.next_serial (s.next_serial + 1) last s.objects (s.objects ++ row ∷ []) s.caps s.set_at (omega arith)
         (λ serial k lives. lives_beside s.objects row serial k lives) valid.slots
-    slots_kept (SetStage object stage) may = slots_in_place object.0 (with_stage stage) (stage_keeps stage)
-    slots_kept (Retire object seen) may = slots_in_place object.0 (with_counters seen) (counters_keep seen)
+    slots_kept (SetStage object stage) may =
+        slots_in_place object.0 (with_stage stage) (stage_keeps stage)
+    slots_kept (Retire object seen) may =
+        slots_in_place object.0 (with_counters seen) (counters_keep seen)
     slots_kept (Reclaim object) may =
         reclaim_keeps_slots s.next_serial last s.objects s.caps s.set_at valid.slots object.0 (unreferenced s object.0 may.doomed).capabilities
     slots_kept (GiveQuota partition quota) may = valid.slots
@@ -80,7 +85,8 @@ module _ (last : ℕ) (s : State) (valid : IsValidTo last s) where
     slots_kept (PutMapping row) may = valid.slots
     slots_kept (DropMapping row) may = valid.slots
     slots_kept (SetBell row) may = valid.slots
-    slots_kept (ConfigureQueue queue depth size cost) may = slots_in_place queue.0 (with_cost cost) (cost_keeps cost)
+    slots_kept (ConfigureQueue queue depth size cost) may =
+        slots_in_place queue.0 (with_cost cost) (cost_keeps cost)
     slots_kept (PutMessage queue message) may = valid.slots
     slots_kept (DropMessage queue) may = valid.slots
     slots_kept (EmptyQueue queue) may = valid.slots

@@ -17,14 +17,17 @@ pub fn entry_begins()
 
 /// The changes of an act that may be made leave a valid state, once the entry is counted.
 pub fn act_keeps_valid()
-    ensures { (s : State) (changes : List Change) → IsValid s → MayChangeAll s changes → IsValid (counted (changed_all s changes)) }
+    ensures { (s : State) (changes : List Change) → IsValid s → MayChangeAll s changes
+        → IsValid (counted (changed_all s changes)) }
 {}
 
-/// So does a part of a revoke, a retirement and a reclaim, allowed or not, and an entry that changes
-/// only its number.
+/// So does a part of a revoke, a retirement and a reclaim, allowed or not, and an entry that
+/// changes only the number of entries.
 pub fn entries_keep_valid()
-    ensures part { (s : State) (space : Serial) (slot : ℕ) → IsValid s → IsValid (parted s space slot) }
-    ensures retirement { (s : State) (serial : Serial) (seen : List ℕ) → IsValid s → IsValid (retired s serial seen) }
+    ensures part { (s : State) (space : Serial) (slot : ℕ) → IsValid s
+        → IsValid (parted s space slot) }
+    ensures retirement { (s : State) (serial : Serial) (seen : List ℕ) → IsValid s
+        → IsValid (retired s serial seen) }
     ensures reclaim { (s : State) (serial : Serial) → IsValid s → IsValid (reclaimed s serial) }
     ensures number { (s : State) → IsValid s → IsValid (numbered s) }
 {}

@@ -2,6 +2,7 @@
 //! units and words.
 #![tactic(auto)]
 
+mod boot;
 mod decision;
 mod entries;
 mod references;
@@ -9,6 +10,7 @@ mod units;
 mod validity;
 mod words;
 
+pub use boot::boot_is_valid;
 pub use decision::{decisions_give_to_referred, decisions_may_be_made};
 pub use entries::{act_keeps_valid, entries_keep_valid, entry_begins};
 pub use references::{

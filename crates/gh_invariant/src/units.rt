@@ -1,4 +1,5 @@
-//! What a partition uses and gives, behind each change. The function does nothing; its clause is a law.
+//! What a partition uses and gives, behind each change. The functions do nothing; their clauses
+//! are laws.
 
 ghost use Rattle.std.specs.Prelude.{◌≡◌, ◌+◌, ◌≤◌, ℕ, List};
 ghost use Rattle.gh_invariant.specs.Effects.{takes, returns, takes_all, returns_all, units_of};
@@ -19,9 +20,11 @@ pub fn change_moves_units()
 
 /// And behind changes in order by what all of them take and return.
 pub fn changes_move_units()
-    ensures { (last : ℕ) (s : State) (changes : List Change) (partition : ℕ) → s.entries + 1 ≤ last → IsValidTo last s
-        → MayChangeAll s changes
-        → used_units (changed_all s changes) partition + given_units (changed_all s changes) partition
+    ensures { (last : ℕ) (s : State) (changes : List Change) (partition : ℕ) → s.entries + 1 ≤ last
+        → IsValidTo last s → MayChangeAll s changes
+        → used_units (changed_all s changes) partition
+        + given_units (changed_all s changes) partition
         + units_of partition (returns_all s changes)
-        ≡ used_units s partition + given_units s partition + units_of partition (takes_all s changes) }
+        ≡ used_units s partition + given_units s partition
+        + units_of partition (takes_all s changes) }
 {}

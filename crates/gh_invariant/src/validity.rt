@@ -15,6 +15,6 @@ pub fn change_keeps_valid()
 
 /// And so do changes in order.
 pub fn changes_keep_valid()
-    ensures { (last : ℕ) (s : State) (changes : List Change) → s.entries + 1 ≤ last → IsValidTo last s → MayChangeAll s changes
-        → IsValidTo last (changed_all s changes) }
+    ensures { (last : ℕ) (s : State) (changes : List Change) → s.entries + 1 ≤ last
+        → IsValidTo last s → MayChangeAll s changes → IsValidTo last (changed_all s changes) }
 {}
