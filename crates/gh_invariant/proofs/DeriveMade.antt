@@ -18,7 +18,7 @@ use Rattle.gh_model.specs.Rows.{is_extent, object_row}
 use Rattle.gh_model.specs.declared.rows.ExtentRow.{ExtentRow}
 use Rattle.gh_model.specs.declared.rows.ObjectRow.{ObjectRow}
 use Rattle.gh_model.specs.declared.state.State.{State}
-use Rattle.gh_invariant.specs.Grants.{MayMake}
+use Rattle.gh_invariant.specs.Grants.{MayMake, is_referred}
 use Rattle.gh_invariant.specs.Lives.{is_part_of, is_root, lives_as, span_fits}
 use Rattle.gh_invariant.specs.Premises.{MayMove, MaySpan}
 use Rattle.gh_invariant.specs.Valid.{IsValid}
@@ -26,6 +26,7 @@ use Rattle.gh_invariant.proofs.ConfigureMade.{extent_new, init_found, new_object
 use Rattle.gh_invariant.proofs.Counting.{find_push_new, found_all, found_one}
 use Rattle.gh_invariant.proofs.MayMake.{at_most_by, itself, not_false, unless}
 use Rattle.gh_invariant.proofs.ObjectsMade.{or_none}
+use Rattle.gh_invariant.proofs.Referred.{may_refer, refer_staged}
 
 -- numbers are at most themselves
 at_most_itself : (n : ℕ) → IsTrue (nat_le n n)
@@ -56,9 +57,9 @@ module _ (s : State) (valid : IsValid s) where
 
   derived_at_made : (child parent : Serial) (row : ExtentRow) (offset count access : ℕ)
       → find (is_extent parent.0) s.extents ≡ Some row → IsTrue (nat_lt 0 count)
-      → IsTrue (is_init s child) → IsTrue (lives_as s.objects child.0 kind.Extent)
+      → IsTrue (is_init s child) → IsTrue (lives_as s.objects child.0 kind.Extent) → IsTrue (is_referred s parent)
       → MayMake s (derived_at s child parent row offset count access)
-  derived_at_made child parent row offset count access found some init is =
+  derived_at_made child parent row offset count access found some init is from_parent =
       unless s (nat_lt row.count (offset + count)) ArgSize _ (λ spans.
       unless s (not (holds_run s.holders parent (row.first.0 + offset) count) || not (access_fits access row.access.0)) Denied _ (λ allowed.
       let there : (o : ObjectRow) × (object_row s child.0 ≡ Some o) = init_found (object_row s child.0) init in
@@ -89,6 +90,7 @@ module _ (s : State) (valid : IsValid s) where
         parent = parent_some parent.0 row found;
         fits = and_from _ _ (and_from _ _ some (ends_by row.first.0 offset count row.count (length s.holders) few ends))
             (either_true (is_root (length s.holders) new) _ part);
+        from_child = refer_staged s child Ready parent.0 (may_refer s valid parent from_parent);
       } in
       let move : MayMove (add_extent new (ready s child)) (row.first.0 + offset) count child = record {
         row = new;
@@ -99,8 +101,8 @@ module _ (s : State) (valid : IsValid s) where
 
   pub derived_made : (child parent : Serial) (offset size access : ℕ) (row : Option ExtentRow)
       → find (is_extent parent.0) s.extents ≡ row → IsTrue (nat_lt 0 (page_of size))
-      → IsTrue (is_init s child) → IsTrue (lives_as s.objects child.0 kind.Extent)
+      → IsTrue (is_init s child) → IsTrue (lives_as s.objects child.0 kind.Extent) → IsTrue (is_referred s parent)
       → MayMake s (derived s child parent offset size access row)
-  derived_made child parent offset size access None found some init is = tt
-  derived_made child parent offset size access (Some row) found some init is =
-      derived_at_made child parent row (page_of offset) (page_of size) access found some init is
+  derived_made child parent offset size access None found some init is from_parent = tt
+  derived_made child parent offset size access (Some row) found some init is from_parent =
+      derived_at_made child parent row (page_of offset) (page_of size) access found some init is from_parent

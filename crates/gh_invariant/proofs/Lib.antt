@@ -18,6 +18,7 @@ pub mod DeriveMade
 pub mod EntriesKept
 pub mod EventsKept
 pub mod GivesMade
+pub mod GrantsReferred
 pub mod KindRowsFit
 pub mod Living
 pub mod MappingOnce

@@ -18,11 +18,12 @@ use Rattle.gh_model.specs.declared.change.Decision.TheVariants.{Refuse, Make}
 use Rattle.gh_model.specs.declared.rows.ExtentRow.{ExtentRow}
 use Rattle.gh_model.specs.declared.rows.MappingRow.{MappingRow}
 use Rattle.gh_model.specs.declared.state.State.{State}
-use Rattle.gh_invariant.specs.Grants.{MayMake}
+use Rattle.gh_invariant.specs.Grants.{MayMake, is_referred}
 use Rattle.gh_invariant.specs.Lives.{lives_as, span_fits, spans_row}
 use Rattle.gh_invariant.specs.Premises.{MayMap, MayMove, MayUnmap}
 use Rattle.gh_invariant.specs.Valid.{IsValid}
 use Rattle.gh_invariant.proofs.Counting.{found_all, found_passes}
+use Rattle.gh_invariant.proofs.Referred.{may_refer}
 use Rattle.gh_invariant.proofs.MayMake.{at_most_by, below_by, not_false, one, unless}
 
 -- the pages that map means are some: the extent's, or with PARTIAL those of a size that isn't 0
@@ -43,8 +44,9 @@ module _ (s : State) (valid : IsValid s) where
   mapped_at_made : (space extent : Serial) (row : ExtentRow) (base offset count access : ℕ)
       → find (is_extent extent.0) s.extents ≡ Some row → IsTrue (nat_lt 0 count)
       → IsTrue (lives_as s.objects space.0 kind.Space) → IsTrue (lives_as s.objects extent.0 kind.Extent)
+      → IsTrue (is_referred s space) → IsTrue (is_referred s extent)
       → MayMake s (mapped_at s space extent row base offset count access)
-  mapped_at_made space extent row base offset count access found some home pages =
+  mapped_at_made space extent row base offset count access found some home pages from_space from_extent =
       unless s (nat_lt 4096 (base + count)) AddrOvfl _ (λ within.
       unless s (nat_lt row.count (offset + count)) ArgSize _ (λ spans.
       unless s (not (access_fits access row.access.0)) Denied _ (λ allowed.
@@ -58,17 +60,20 @@ module _ (s : State) (valid : IsValid s) where
         stands = and_from _ _ (and_from _ _ (and_from _ _ (and_from _ _ home pages) some) (at_most_by 4096 (base + count) within)) covered;
         apart = apart;
         few = below_by 64 (count_by (is_row_of space.0) s.mappings) few;
+        from_space = may_refer s valid space from_space;
+        from_extent = may_refer s valid extent from_extent;
       } in
       one s (PutMapping new) done may)))))
 
   pub mapped_made : (space extent : Serial) (base access flags offset size : ℕ) (row : Option ExtentRow)
       → find (is_extent extent.0) s.extents ≡ row → (has_partial flags ≡ true → IsTrue (nat_lt 0 (page_of size)))
       → IsTrue (lives_as s.objects space.0 kind.Space) → IsTrue (lives_as s.objects extent.0 kind.Extent)
+      → IsTrue (is_referred s space) → IsTrue (is_referred s extent)
       → MayMake s (mapped s space extent base access flags offset size row)
-  mapped_made space extent base access flags offset size None found part home pages = tt
-  mapped_made space extent base access flags offset size (Some row) found part home pages =
+  mapped_made space extent base access flags offset size None found part home pages from_space from_extent = tt
+  mapped_made space extent base access flags offset size (Some row) found part home pages from_space from_extent =
       mapped_at_made space extent row (page_of base) (meant_offset flags offset) (meant_count row flags size) access found
-      (meant_some_by (has_partial flags) row.count size (span_some extent.0 row found) part) home pages
+      (meant_some_by (has_partial flags) row.count size (span_some extent.0 row found) part) home pages from_space from_extent
 
 -- the row that is found names its own place
 unmapped_row_made : (s : State) (space extent : Serial) (base offset count : ℕ) (row : Option MappingRow)

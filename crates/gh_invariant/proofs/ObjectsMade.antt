@@ -1,19 +1,22 @@
 -- The changes of the calls on objects, and of derive, may be made.
 use Rattle.std.proofs.Common.{◌≡◌, ◌+◌, ◌-◌, ◌<◌, ◌≤◌, ◌∙◌, ℕ, Bool, true, false, not, List, [], ◌∷◌, ◌++◌, length, refl, subst, sym, ap, arith, Option, Some, None, IsTrue, find, eqb, if◌then◌else◌}
-use Rattle.std.specs.Prelude.{◌&&◌, ◌||◌, ◌==◌, is_some, nat_lt, nat_le, count_by}
+use Rattle.std.specs.Prelude.{◌&&◌, ◌||◌, ◌==◌, bit_and, is_some, nat_lt, nat_le, count_by}
+use Rattle.std.specs.List.{list_all}
 use Rattle.std.proofs.lemmas.Bool.{and_parts, and_from, eqb-true, leb-true}
 use Rattle.std.proofs.lemmas.Bool.Decides.{nat_tests}
-use Rattle.gh_base.specs.Kind.{kind_cost, kind_number, kind_numbered, kind_stage}
+use Rattle.gh_base.specs.Kind.{kind_cost, kind_number, kind_numbered, kind_rights, kind_stage}
 use Rattle.gh_base.specs.declared.errno.Errno.TheVariants.{ArgInval, CspaceFull, Nomem, ObjConfig, ObjState}
 use Rattle.gh_base.specs.declared.ids.Serial.{Serial}
 use Rattle.gh_base.specs.declared.kind.Kind.{Kind}
 use Rattle.gh_base.specs.declared.kind.Kind.TheVariants as kind
 use Rattle.gh_base.specs.declared.kind.Stage.{Stage}
 use Rattle.gh_base.specs.declared.kind.Stage.TheVariants.{Init, Ready, Active}
-use Rattle.gh_model.specs.Boot.{is_of_kind}
+use Rattle.gh_model.specs.Boot.{is_master_of, is_of_kind}
+use Rattle.gh_model.specs.History.{is_retired}
+use Rattle.gh_model.specs.QueueCalls.{one_if}
 use Rattle.gh_model.specs.Changes.{add_object, changed, set_stage, with_stage}
 use Rattle.gh_model.specs.Decisions.{done, done_with, is_init_stage}
-use Rattle.gh_model.specs.ObjectCalls.{activate, activated, create, created, created_in, is_full, lacks_room, new_master, new_object}
+use Rattle.gh_model.specs.ObjectCalls.{activate, activated, create, created, created_in, is_full, lacks_room, master_rights, new_master, new_object}
 use Rattle.gh_model.specs.CapabilityCalls.{free_slot}
 use Rattle.gh_model.specs.Rows.{is_object, object_row}
 use Rattle.gh_model.specs.Units.{free_units}
@@ -23,11 +26,12 @@ use Rattle.gh_model.specs.declared.rows.CapabilityRow.{CapabilityRow}
 use Rattle.gh_model.specs.declared.rows.ObjectRow.{ObjectRow}
 use Rattle.gh_model.specs.declared.state.State.{State}
 use Rattle.gh_invariant.specs.Grants.{MayMake, is_referred}
-use Rattle.gh_invariant.specs.Lives.{lives_as}
+use Rattle.gh_invariant.specs.Lives.{lives_as, slot_fits}
 use Rattle.gh_invariant.specs.Premises.{MayAdd, MayPut}
 use Rattle.gh_invariant.specs.Valid.{IsValid}
 use Rattle.gh_invariant.proofs.CapabilityMade.{IsFree, free_slot_is}
-use Rattle.gh_invariant.proofs.Counting.{find_push_found, find_push_new, unfound}
+use Rattle.gh_invariant.proofs.Counting.{all_by, count_cons, find_push_found, find_push_new, one_false, unfound}
+use Rattle.gh_invariant.proofs.SlotsFit.{slot_parts}
 use Rattle.gh_invariant.proofs.MayMake.{at_most_by, itself, one, unless}
 use Rattle.gh_invariant.proofs.Referred.{may_refer, refer_push}
 
@@ -85,8 +89,23 @@ names_other_by s row true true is fits =
   where
     not_below : (n : ℕ) → nat_lt n n ≡ false
     not_below n = grind (arith, nat_tests)
+
     made : (s : State) (row : CapabilityRow) → IsTrue (slot_fits s.next_serial s.objects row) → nat_lt row.serial.0 s.next_serial ≡ true
-    made s row fits = lt-ltb row.serial.0 s.next_serial (slot_parts s.next_serial s.objects row fits).within
+    made s row fits = (slot_parts s.next_serial s.objects row fits).made
+
+-- what all fail, none is counted of
+none_by : {R : Type 0} (p : R → Bool) (rows : List R) → IsTrue (list_all (λ (row : R). not (p row)) rows) → count_by p rows ≡ 0
+none_by p [] all = refl
+none_by {R = R} p (row ∷ rows) all =
+    let both : (not (p row) ≡ true) × (list_all (λ (one : R). not (p one)) rows ≡ true) = and_parts (not (p row)) (list_all (λ (one : R). not (p one)) rows) all in
+    let first : count_by p (row ∷ rows) ≡ one_if (p row) + count_by p rows = count_cons p row rows in
+    let zero : one_if (p row) ≡ 0 = one_false (p row) (fails (p row) both.0) in
+    let others : count_by p rows ≡ 0 = none_by p rows both.1 in
+    omega arith
+  where
+    fails : (b : Bool) → not b ≡ true → b ≡ false
+    fails true is = absurd (let never : ⊥ = cc in never)
+    fails false is = refl
 
 no_master : (s : State) → IsValid s → count_by (is_master_of s.next_serial) s.caps ≡ 0
 no_master s valid =

@@ -130,13 +130,14 @@ may_refer s valid object is = by_row (is_retired (object_row s object.0)) refl
     later_by : (doomed later : Bool) → doomed ≡ true → (not doomed || later) ≡ true → later ≡ true
     later_by true later is both = both
     later_by false later is both = absurd (let never : ⊥ = cc in never)
+
     by_row : (retired : Bool) → is_retired (object_row s object.0) ≡ retired → retired ≡ false
     by_row false row = refl
     by_row true row =
         let doomed : is_doomed s object.0 ≡ true = ap (λ (n : ℕ). n == 0) (valid.retired object.0 row) in
         let later : nat_le s.next_serial object.0 ≡ true = later_by (is_doomed s object.0) (nat_le s.next_serial object.0) doomed is in
         let none : find (is_object object.0) s.objects ≡ None =
-            unfound (is_object object.0) s.objects (valid.objects.later object.0 (leb-true s.next_serial object.0 later)) in
+        unfound (is_object object.0) s.objects (valid.objects.later object.0 (leb-true s.next_serial object.0 later)) in
         absurd (let never : false ≡ true = ap is_retired (sym none) ∙ row in cc)
 
 -- nor does it become so where an object that isn't retired is added, or one comes to another stage
