@@ -70,7 +70,8 @@ fn acted(
 {
     let count = needs(call).len();
     let grants = grants(alloc, looked.words.as_slice(), count)?;
-    match plain.act(alloc, c.cpu, frame, call, grants.as_slice())? {
+    let words = looked.words.as_slice();
+    match plain.judge(alloc, c.cpu, frame, call, words, grants.as_slice())? {
         Judged::Done(reply) => {
             let number = plain.entries();
             Ok(mark(c, looked, End::Entry { number }, reply))

@@ -1,25 +1,134 @@
--- What an act keeps, and what a refused act answers.
-use Rattle.std.proofs.Common.{◌<◌, ◌≤◌, arith, length, ◌≡◌, ◌≢◌, ◌==◌, ◌+◌, ℕ, Bool, true, false, List, [], Option, Some, None, refl, subst, sym, ap, ◌∙◌, map, slice_get, slice_index, not, if◌then◌else◌}
-use Rattle.std.specs.List.{position_or_len}
+-- What acts keep, and what a refused act of a call that is built answers.
+use Rattle.std.proofs.Common.{arith, ◌≡◌, ◌≢◌, ◌==◌, ◌+◌, ◌||◌, ◌⊎◌, inl, inr, ℕ, Bool, true, false, List, [], Option, Some, None, Result, Ok, Err, IfOk, OnErr, refl, subst, sym, ap, ◌∙◌, map, find, slice_get, slice_index, not, if◌then◌else◌}
+use Rattle.std.specs.Bool.{⊤}
+use Rattle.std.specs.List.{list_any, position_or_len}
+use Rattle.std.proofs.lemmas.Bool.{eqb-true}
 use Rattle.std.proofs.lemmas.Option.{get_or_from_slice_get}
 use Rattle.std.proofs.Math.Seq.{map-set_same}
 use Rattle.gh_base.specs.Reply.{refusal}
 use Rattle.gh_base.specs.declared.call.Call.{Call}
 use Rattle.gh_base.specs.declared.call.Call.TheVariants.{Identify, Exit, BellSend, Create, ConfigurePartition, ConfigureQueue}
-use Rattle.gh_base.specs.declared.errno.Errno.TheVariants.{Unimplemented, CapRevoked, ObjState}
+use Rattle.gh_base.specs.declared.errno.Errno.{Errno}
+use Rattle.gh_base.specs.declared.errno.Errno.TheVariants.{ArgInval, CapRevoked, ObjState, Retry, Unimplemented}
+use Rattle.gh_base.specs.declared.frame.Frame.{Frame}
 use Rattle.gh_base.specs.declared.frame.Reply.{Reply}
+use Rattle.gh_base.specs.declared.ids.NoMemory.{NoMemory}
 use Rattle.gh_base.specs.declared.ids.Serial.{Serial}
+use Rattle.gh_model.specs.declared.change.Change.{Change}
+use Rattle.gh_model.specs.declared.change.Decision.{Decision}
+use Rattle.gh_model.specs.declared.change.Decision.TheVariants.{Refuse, Unfinished, Make}
 use Rattle.gh_model.specs.declared.plain.Judged.{Judged}
 use Rattle.gh_model.specs.declared.plain.Judged.TheVariants as says
+use Rattle.gh_model.specs.declared.rows.BellRow.{BellRow}
 use Rattle.gh_model.specs.declared.rows.CpuRow.{CpuRow}
-use Rattle.gh_model.specs.declared.rows.ObjectRow.{ObjectRow}
-use Rattle.gh_model.specs.declared.rows.PartitionRow.{PartitionRow}
-use Rattle.gh_model.specs.Small.{IsKept}
-use Rattle.gh_model.specs.Units.{used_by, given_by}
 use Rattle.gh_model.specs.declared.state.State.{State}
-use Rattle.gh_model.specs.Rows.{is_cpu, put_row}
-use Rattle.gh_model.specs.Act.{Judges, Verdict, Done, Refused, act, effect, counted, any_doomed, all_active, with_bell_flags, with_exit, first_grant, as_exited}
+use Rattle.gh_model.specs.declared.word.Word.{Word}
+use Rattle.gh_model.specs.Act.{Judges, Verdict, Done, Refused, counted, grants_of}
+use Rattle.gh_model.specs.BellCalls.{bell_row, sent}
+use Rattle.gh_model.specs.Changes.{as_exited, changed_all}
+use Rattle.gh_model.specs.Decide.{decided, decision, has_moved, is_at_end, judge, stages_fit, verdict}
+use Rattle.gh_model.specs.Decisions.{done, grant_at}
 use Rattle.gh_model.specs.Legal.{is_short}
+use Rattle.gh_model.specs.ManagerCalls.{exit_changes}
+use Rattle.gh_model.specs.Registers.{built, call_of, function_number, functions, read_function, shape_of, shaped}
+use Rattle.gh_model.specs.Rows.{is_cpu, put_row}
+use Rattle.gh_model.specs.Small.{IsKept}
+use Rattle.gh_model.proofs.DecideLemmas.{MayDecide, MayMake, decision_may, small_kept}
+use Rattle.gh_model.proofs.KeptLemmas.{AreSmall, changes_small}
+use Rattle.gh_model.proofs.RoomLemmas.{CountsAll, changes_count}
+
+-- every act
+
+-- an act that is done makes one entry
+pub verdict_counts : (s : State) (d : Decision) (new : State) (reply : Reply) → verdict s d ≡ Done new reply → new.entries ≡ s.entries + 1
+verdict_counts s (Refuse errno) new reply is = absurd (let never : ⊥ = cc in never)
+verdict_counts s Unfinished new reply is = absurd (let never : ⊥ = cc in never)
+verdict_counts s (Make changes its_reply) new reply is =
+    let same : counted (changed_all s changes) ≡ new = cc in
+    ap (λ (t : State). t.entries) (sym same) ∙ ap (λ (n : ℕ). n + 1) (changes_count s changes).entries
+
+made_kept : (s : State) (changes : List Change) → MayMake s changes → IsKept s → IsKept (counted (changed_all s changes))
+made_kept s changes may kept =
+    let small : AreSmall (changed_all s changes) = changes_small s changes may.modest (small_kept s kept) in
+    let counts : CountsAll s (changed_all s changes) changes = changes_count s changes in
+    record {
+      small = record { used = small.small.used; given = small.small.given; pages = small.small.pages };
+      quotas = small.quotas;
+      costs = small.costs;
+      rings = omega (arith, counts.entries, counts.rings, may.rings, kept.rings);
+      serials = omega (arith, counts.entries, counts.serials, may.serials, kept.serials);
+    }
+
+verdict_kept : (s new : State) (d : Decision) (judged : Judged) → MayDecide s d → Judges s new judged (verdict s d) → IsKept s → IsKept new
+verdict_kept s new (Refuse errno) (says.Done reply) may is kept = absurd (let never : ⊥ = cc in never)
+verdict_kept s new (Refuse errno) (says.Refused reply) may is kept = subst (λ (t : State). IsKept t) (sym is.1) kept
+verdict_kept s new Unfinished (says.Done reply) may is kept = absurd (let never : ⊥ = cc in never)
+verdict_kept s new Unfinished (says.Refused reply) may is kept = subst (λ (t : State). IsKept t) (sym is.1) kept
+verdict_kept s new (Make changes its_reply) (says.Done reply) may is kept =
+    let same : counted (changed_all s changes) ≡ new = cc in
+    subst (λ (t : State). IsKept t) same (made_kept s changes may kept)
+verdict_kept s new (Make changes its_reply) (says.Refused reply) may is kept = absurd (let wrong : Done (counted (changed_all s changes)) its_reply ≡ Refused reply = is.0 in let never : ⊥ = cc in never)
+
+-- an act keeps the sums of units and the pages small, and rings and gives a serial at most once
+pub judged_kept : (s new : State) (judged : Judged) (moved : Bool) (cpu : ℕ) (call : Call) (bytes : List ℕ) (grants : List Serial) → Judges s new judged (verdict s (decision moved s cpu call bytes grants)) → IsKept s → IsKept new
+judged_kept s new judged moved cpu call bytes grants is kept =
+    verdict_kept s new (decision moved s cpu call bytes grants) judged (decision_may s (small_kept s kept) moved cpu call bytes grants).is is kept
+
+-- and so it does with its answer, if it has one
+pub act_kept : (s new : State) (moved : Bool) (cpu : ℕ) (call : Call) (bytes : List ℕ) (grants : List Serial) (result : Result Judged NoMemory) → IfOk result (λ judged. Judges s new judged (verdict s (decision moved s cpu call bytes grants))) → OnErr result (new ≡ s) → IsKept s → IsKept new
+act_kept s new moved cpu call bytes grants (Ok judged) is same kept = judged_kept s new judged moved cpu call bytes grants is kept
+act_kept s new moved cpu call bytes grants (Err none) is same kept = subst (λ (t : State). IsKept t) (sym same) kept
+
+-- the calls that are built
+
+abbrev pub is_built : Call → Bool
+is_built Identify = true
+is_built (BellSend cap flags) = true
+is_built Exit = true
+is_built _ = false
+
+read_is : (breaks : Bool) (made call : Call) (refused : Option Errno) → (if breaks then Err ArgInval else shaped made refused) ≡ Ok call → made ≡ call
+read_is true made call refused is = absurd (let never : ⊥ = cc in never)
+read_is false made call None is = cc
+read_is false made call (Some errno) is = absurd (let never : ⊥ = cc in never)
+
+one_of : (a b c : Bool) → (a || (b || (c || false))) ≡ true → (a ≡ true) ⊎ ((b ≡ true) ⊎ (c ≡ true))
+one_of true b c is = inl refl
+one_of false true c is = inr (inl refl)
+one_of false false true is = inr (inr refl)
+one_of false false false is = absurd (let never : ⊥ = cc in never)
+
+-- the function of a frame, by its number
+shape_by : (frame : Frame) (call : Call) (number : ℕ) → number ≡ function_number frame → shape_of frame ≡ Ok call → read_function frame (find (λ row. row.number == number) functions) ≡ Ok call
+shape_by frame call number is shape =
+    ap (λ (n : ℕ). read_function frame (find (λ row. row.number == n) functions)) is ∙ shape
+
+shape_built : (frame : Frame) (call : Call) → list_any (λ number. number == function_number frame) built ≡ true → shape_of frame ≡ Ok call → is_built call ≡ true
+shape_built frame call listed shape =
+    elim (one_of (0x8000 == function_number frame) (0x8012 == function_number frame) (0x8240 == function_number frame) listed) as (λ _. is_built call ≡ true) [
+      | inl identify ↦ ap is_built (sym (read_is false Identify call None (shape_by frame call 0x8000 (eqb-true 0x8000 (function_number frame) identify) shape)))
+      | inr others ↦ elim others as (λ _. is_built call ≡ true) [
+        | inl send ↦ ap is_built (sym (read_is _ (BellSend (slice_index frame.x 1) (slice_index frame.x 2)) call _ (shape_by frame call 0x8012 (eqb-true 0x8012 (function_number frame) send) shape)))
+        | inr exit ↦ ap is_built (sym (read_is false Exit call None (shape_by frame call 0x8240 (eqb-true 0x8240 (function_number frame) exit) shape)))
+      ]
+    ]
+
+-- the call of a frame that is well formed is built
+pub call_built : (frame : Frame) (call : Call) → call_of frame ≡ Ok call → is_built call ≡ true
+call_built frame call = by_list (list_any (λ number. number == function_number frame) built) refl
+  where
+    by_list : (listed : Bool) → list_any (λ number. number == function_number frame) built ≡ listed → (if listed then shape_of frame else Err Unimplemented) ≡ Ok call → is_built call ≡ true
+    by_list true listed shape = shape_built frame call listed shape
+    by_list false listed shape = absurd (let never : ⊥ = cc in never)
+
+-- a decision is one of three refusals, or what the call comes to
+choose : (P : Decision → Type 0) (here : Bool) (a b : Decision) → P a → P b → P (if here then a else b)
+choose P true a b first second = first
+choose P false a b first second = second
+
+decision_is : (P : Decision → Type 0) (moved : Bool) (s : State) (cpu : ℕ) (call : Call) (bytes : List ℕ) (grants : List Serial) → P (Refuse CapRevoked) → P (Refuse ObjState) → P (Refuse Retry) → P (decided s cpu call bytes grants) → P (decision moved s cpu call bytes grants)
+decision_is P moved s cpu call bytes grants revoked stage retry others =
+    choose P (is_at_end s call grants) _ _ revoked (choose P (not (stages_fit s call grants)) _ _ stage (choose P moved _ _ retry others))
 
 abbrev pub row_number : CpuRow → ℕ
 row_number row = row.cpu.0
@@ -37,37 +146,30 @@ pub record Keeps (s new : State) : Type 0 where
   pub caps : new.caps ≡ s.caps
   pub set_at : new.set_at ≡ s.set_at
   pub cpus : map row_number new.cpus ≡ map row_number s.cpus
-  pub objects : new.objects ≡ s.objects
-  pub partitions : new.partitions ≡ s.partitions
-  pub holders : new.holders ≡ s.holders
-  pub rings : new.rings ≤ s.rings + 1
 
-one_ring : (manager : Bool) → (if manager then 0 else 1) ≤ 1
-one_ring true = omega arith
-one_ring false = omega arith
+abbrev KeepsDone : State → Verdict → Type 0
+KeepsDone s (Done new reply) = Keeps s new
+KeepsDone s (Refused reply) = ⊤
 
-pub effect_keeps : (s : State) (cpu : ℕ) (call : Call) (bytes : List ℕ) (grants : List Serial) (new : State) (reply : Reply) → effect s cpu call bytes grants ≡ Done new reply → Keeps s new
-effect_keeps s cpu Identify bytes grants new reply is =
-    let same : counted s ≡ new = cc in
-    subst (λ (t : State). Keeps s t) same (record { entries = refl; taken = refl; caps = refl; set_at = refl; cpus = refl; objects = refl; partitions = refl; holders = refl; rings = omega arith })
-effect_keeps s cpu (BellSend bell flags) bytes grants new reply is =
-    let same : counted (with_bell_flags s (first_grant grants) flags) ≡ new = cc in
-    subst (λ (t : State). Keeps s t) same (record { entries = refl; taken = refl; caps = refl; set_at = refl; cpus = refl; objects = refl; partitions = refl; holders = refl; rings = omega arith })
-effect_keeps s cpu Exit bytes grants new reply is =
-    let same : counted (with_exit s cpu) ≡ new = cc in
-    subst (λ (t : State). Keeps s t) same (record { entries = refl; taken = refl; caps = refl; set_at = refl; cpus = put_keeps row_number as_exited s.cpus (position_or_len (is_cpu cpu) s.cpus) (slice_get s.cpus (position_or_len (is_cpu cpu) s.cpus)) (λ row. refl) refl; objects = refl; partitions = refl; holders = refl; rings = (let one : (if cpu == 0 then 0 else 1) ≤ 1 = one_ring (cpu == 0) in omega arith) })
-effect_keeps s cpu _ bytes grants new reply is = absurd (let never : ⊥ = cc in never)
+sent_keeps : (s : State) (flags : ℕ) (row : Option BellRow) → KeepsDone s (verdict s (sent flags row))
+sent_keeps s flags None = record { entries = refl; taken = refl; caps = refl; set_at = refl; cpus = refl }
+sent_keeps s flags (Some row) = record { entries = refl; taken = refl; caps = refl; set_at = refl; cpus = refl }
 
--- the effect comes to what two refusals before it don't forestall
-pub unless_two : (a b : Bool) (first second : Reply) (others : Verdict) (new : State) (reply : Reply) → (if a then Refused first else (if not b then Refused second else others)) ≡ Done new reply → others ≡ Done new reply
-unless_two true b first second others new reply is = absurd (let never : ⊥ = cc in never)
-unless_two false true first second others new reply is = is
-unless_two false false first second others new reply is = absurd (let never : ⊥ = cc in never)
+exit_keeps : (s : State) (cpu : ℕ) (is_manager : Bool) → KeepsDone s (verdict s (Make (exit_changes (record { 0 = cpu }) is_manager) done))
+exit_keeps s cpu true = record { entries = refl; taken = refl; caps = refl; set_at = refl; cpus = put_keeps row_number as_exited s.cpus (position_or_len (is_cpu cpu) s.cpus) (slice_get s.cpus (position_or_len (is_cpu cpu) s.cpus)) (λ row. refl) refl }
+exit_keeps s cpu false = record { entries = refl; taken = refl; caps = refl; set_at = refl; cpus = put_keeps row_number as_exited s.cpus (position_or_len (is_cpu cpu) s.cpus) (slice_get s.cpus (position_or_len (is_cpu cpu) s.cpus)) (λ row. refl) refl }
 
--- an act that is done makes one entry and sets no slot
-pub act_keeps : (s : State) (cpu : ℕ) (call : Call) (bytes : List ℕ) (grants : List Serial) (new : State) (reply : Reply) → act s cpu call bytes grants ≡ Done new reply → Keeps s new
-act_keeps s cpu call bytes grants new reply is =
-    effect_keeps s cpu call bytes grants new reply (unless_two (any_doomed s grants) (all_active s grants) (refusal CapRevoked) (refusal ObjState) (effect s cpu call bytes grants) new reply is)
+decided_keeps : (s : State) (cpu : ℕ) (call : Call) (bytes : List ℕ) (grants : List Serial) → is_built call ≡ true → KeepsDone s (verdict s (decided s cpu call bytes grants))
+decided_keeps s cpu Identify bytes grants is = record { entries = refl; taken = refl; caps = refl; set_at = refl; cpus = refl }
+decided_keeps s cpu (BellSend cap flags) bytes grants is = sent_keeps s flags (bell_row s (grant_at grants 0))
+decided_keeps s cpu Exit bytes grants is = exit_keeps s cpu (cpu == 0)
+decided_keeps s cpu _ bytes grants is = absurd (let never : ⊥ = cc in never)
+
+-- an act of a call that is built makes one entry and sets no slot
+pub act_keeps : (s : State) (cpu : ℕ) (call : Call) (bytes : List ℕ) (words : List Word) (new : State) (reply : Reply) → is_built call ≡ true → judge s cpu call bytes words ≡ Done new reply → Keeps s new
+act_keeps s cpu call bytes words new reply is_one is =
+    subst (KeepsDone s) is
+    (decision_is (λ (d : Decision). KeepsDone s (verdict s d)) (has_moved s cpu call words) s cpu call bytes (grants_of call words) tt tt tt (decided_keeps s cpu call bytes (grants_of call words) is_one))
 
 -- a refusal: x0 isn't 0, and no want of units
 pub record IsRefusal (call : Call) (reply : Reply) : Type 0 where
@@ -80,50 +182,31 @@ short_by_number (ConfigurePartition cap quota) reply is = is
 short_by_number (ConfigureQueue cap depth size) reply is = is
 short_by_number _ reply is = refl
 
-pub revoked_refuses : (call : Call) → IsRefusal call (refusal CapRevoked)
+revoked_refuses : (call : Call) → IsRefusal call (refusal CapRevoked)
 revoked_refuses call = record { number = λ (e : 51 ≡ 0). cc; not_short = short_by_number call (refusal CapRevoked) refl }
 
-pub stage_refuses : (call : Call) → IsRefusal call (refusal ObjState)
+stage_refuses : (call : Call) → IsRefusal call (refusal ObjState)
 stage_refuses call = record { number = λ (e : 33 ≡ 0). cc; not_short = short_by_number call (refusal ObjState) refl }
 
-pub unbuilt_refuses : (call : Call) → IsRefusal call (refusal Unimplemented)
-unbuilt_refuses call = record { number = λ (e : 0xffff_ffff_ffff_ffff ≡ 0). cc; not_short = short_by_number call (refusal Unimplemented) refl }
+retry_refuses : (call : Call) → IsRefusal call (refusal Retry)
+retry_refuses call = record { number = λ (e : 0xffff_ffff_ffff_fffe ≡ 0). cc; not_short = short_by_number call (refusal Retry) refl }
 
-pub effect_refuses : (s : State) (cpu : ℕ) (call : Call) (bytes : List ℕ) (grants : List Serial) (reply : Reply) → effect s cpu call bytes grants ≡ Refused reply → IsRefusal call reply
-effect_refuses s cpu Identify bytes grants reply is = absurd (let never : ⊥ = cc in never)
-effect_refuses s cpu (BellSend bell flags) bytes grants reply is = absurd (let never : ⊥ = cc in never)
-effect_refuses s cpu Exit bytes grants reply is = absurd (let never : ⊥ = cc in never)
-effect_refuses s cpu call bytes grants reply is =
-    let same : refusal Unimplemented ≡ reply = cc in
-    subst (λ (r : Reply). IsRefusal call r) same (unbuilt_refuses call)
+abbrev RefusesWell : Call → Verdict → Type 0
+RefusesWell call (Done new reply) = ⊤
+RefusesWell call (Refused reply) = IsRefusal call reply
 
-pub refused_by : (call : Call) (a b : Bool) (others : Verdict) (reply : Reply) → (others ≡ Refused reply → IsRefusal call reply) → (if a then Refused (refusal CapRevoked) else (if not b then Refused (refusal ObjState) else others)) ≡ Refused reply → IsRefusal call reply
-refused_by call true b others reply other is =
-    let same : refusal CapRevoked ≡ reply = cc in subst (λ (r : Reply). IsRefusal call r) same (revoked_refuses call)
-refused_by call false true others reply other is = other is
-refused_by call false false others reply other is =
-    let same : refusal ObjState ≡ reply = cc in subst (λ (r : Reply). IsRefusal call r) same (stage_refuses call)
+sent_done : (s : State) (call : Call) (flags : ℕ) (row : Option BellRow) → RefusesWell call (verdict s (sent flags row))
+sent_done s call flags None = tt
+sent_done s call flags (Some row) = tt
 
--- an act that is refused answers a refusal
-pub act_refuses : (s : State) (cpu : ℕ) (call : Call) (bytes : List ℕ) (grants : List Serial) (reply : Reply) → act s cpu call bytes grants ≡ Refused reply → IsRefusal call reply
-act_refuses s cpu call bytes grants reply is =
-    refused_by call (any_doomed s grants) (all_active s grants) (effect s cpu call bytes grants) reply (effect_refuses s cpu call bytes grants reply) is
+decided_done : (s : State) (cpu : ℕ) (call : Call) (bytes : List ℕ) (grants : List Serial) → is_built call ≡ true → RefusesWell call (verdict s (decided s cpu call bytes grants))
+decided_done s cpu Identify bytes grants is = tt
+decided_done s cpu (BellSend cap flags) bytes grants is = sent_done s (BellSend cap flags) flags (bell_row s (grant_at grants 0))
+decided_done s cpu Exit bytes grants is = tt
+decided_done s cpu _ bytes grants is = absurd (let never : ⊥ = cc in never)
 
--- an act keeps the sums of units and the pages, and rings at most once
-kept_by : (s new : State) → Keeps s new → IsKept s → IsKept new
-kept_by s new keeps kept =
-    let rings : s.rings ≤ s.entries = kept.rings in
-    let more : new.rings ≤ s.rings + 1 = keeps.rings in
-    let entries : new.entries ≡ s.entries + 1 = keeps.entries in
-    record {
-      small = record {
-        used = λ p. subst (λ (rows : List ObjectRow). used_by rows p < 65536) (sym keeps.objects) (kept.small.used p);
-        given = λ p. subst (λ (rows : List PartitionRow). given_by rows p < 65536) (sym keeps.partitions) (kept.small.given p);
-        pages = subst (λ (pages : List Serial). length pages < 65536) (sym keeps.holders) kept.small.pages;
-      };
-      rings = omega arith;
-    }
-
-pub judged_kept : (s new : State) (judged : Judged) (cpu : ℕ) (call : Call) (bytes : List ℕ) (grants : List Serial) → Judges s new judged (act s cpu call bytes grants) → IsKept s → IsKept new
-judged_kept s new (says.Done reply) cpu call bytes grants is kept = kept_by s new (act_keeps s cpu call bytes grants new reply is) kept
-judged_kept s new (says.Refused reply) cpu call bytes grants is kept = subst (λ (t : State). IsKept t) (sym is.1) kept
+-- such an act that is refused answers a refusal
+pub act_refuses : (s : State) (cpu : ℕ) (call : Call) (bytes : List ℕ) (words : List Word) (reply : Reply) → is_built call ≡ true → judge s cpu call bytes words ≡ Refused reply → IsRefusal call reply
+act_refuses s cpu call bytes words reply is_one is =
+    subst (RefusesWell call) is
+    (decision_is (λ (d : Decision). RefusesWell call (verdict s d)) (has_moved s cpu call words) s cpu call bytes (grants_of call words) (revoked_refuses call) (stage_refuses call) (retry_refuses call) (decided_done s cpu call bytes (grants_of call words) is_one))

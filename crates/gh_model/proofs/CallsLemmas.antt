@@ -9,10 +9,11 @@ use Rattle.gh_model.specs.declared.running.CpuRun.{CpuRun}
 use Rattle.gh_model.specs.declared.running.Looked.{Looked}
 use Rattle.gh_model.specs.declared.running.Running.{Running}
 use Rattle.gh_model.specs.declared.state.State.{State}
-use Rattle.gh_model.specs.Act.{Verdict, Done, Refused, judge, grants_of}
+use Rattle.gh_model.specs.Act.{Verdict, Done, Refused, grants_of}
+use Rattle.gh_model.specs.Decide.{decision, has_moved, judge}
 use Rattle.gh_model.specs.Registers.{call_of, needs_of}
 use Rattle.gh_model.specs.Calls.{by_verdict, by_looks, by_shape, call_with, look_all, no_looks, turn, turns, round, rounds}
-use Rattle.gh_model.proofs.ActLemmas.{act_keeps}
+use Rattle.gh_model.proofs.ActLemmas.{verdict_counts}
 
 -- a call makes at most one entry
 pub verdict_entries : (s : State) (c : CpuRun) (frame : Frame) (call : Call) (looked : Looked) (v : Verdict) → ((new : State) (reply : Reply) → v ≡ Done new reply → new.entries ≡ s.entries + 1) → (by_verdict s c frame call looked v).after.entries ≤ s.entries + 1
@@ -22,7 +23,7 @@ verdict_entries s c frame call looked (Refused reply) made = omega arith
 pub looks_entries : (s : State) (c : CpuRun) (frame : Frame) (call : Call) (looked : Looked) (refused : Option Errno) → (by_looks s c frame call looked refused).after.entries ≤ s.entries + 1
 looks_entries s c frame call looked (Some errno) = omega arith
 looks_entries s c frame call looked None =
-    verdict_entries s c frame call looked (judge s c.cpu.0 call frame.bytes looked.words) (λ new reply is. (act_keeps s c.cpu.0 call frame.bytes (grants_of call looked.words) new reply is).entries)
+    verdict_entries s c frame call looked (judge s c.cpu.0 call frame.bytes looked.words) (verdict_counts s (decision (has_moved s c.cpu.0 call looked.words) s c.cpu.0 call frame.bytes (grants_of call looked.words)))
 
 pub shape_entries : (s : State) (c : CpuRun) (frame : Frame) (shape : Result Call Errno) → (by_shape s c frame shape).after.entries ≤ s.entries + 1
 shape_entries s c frame (Err errno) = omega arith

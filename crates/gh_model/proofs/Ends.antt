@@ -17,12 +17,13 @@ use Rattle.gh_model.specs.declared.state.State.{State}
 use Rattle.gh_model.specs.declared.word.Word.{Word}
 use Rattle.gh_model.specs.Rows.{cpu_row}
 use Rattle.gh_model.specs.Registers.{needs_of}
-use Rattle.gh_model.specs.Act.{Verdict, Done, Refused, judge, grants_of}
+use Rattle.gh_model.specs.Act.{Verdict, Done, Refused}
+use Rattle.gh_model.specs.Decide.{judge}
 use Rattle.gh_model.specs.Marks.{Seen, Made, InTurn, look_of, word_of, place_after_looks, place_after_call}
 use Rattle.gh_model.specs.History.{Event, event_of, acted, after_event, grants_fit, reclaims, replay, state_at, word_for}
 use Rattle.gh_model.specs.Legal.{LookIs, KeepsGrants, FrameIs, is_short}
 use Rattle.gh_model.specs.Calls.{Called, call_mark, entries_of, unmade, by_verdict, by_looks, by_shape, no_looks}
-use Rattle.gh_model.proofs.ActLemmas.{Keeps, act_keeps, act_refuses}
+use Rattle.gh_model.proofs.ActLemmas.{Keeps, act_keeps, act_refuses, is_built}
 use Rattle.gh_model.proofs.Looks.{Sees, looked, looks_kept, refusal_in, look_all_is, looked_ends, looked_fails, looked_within, looked_is, grants_are, words_for}
 use Rattle.gh_model.proofs.RunLists.{slice_get_seam, snoc_cases, take_all}
 use Rattle.gh_model.proofs.Stays.{IsFront, front_more, front_state, look_stays}
@@ -107,7 +108,7 @@ module _ (boot : State) (history : List Event) (s : State) (c : CpuRun) (here : 
     entry = inl (record { entries = refl; same = refl; frame = record { end = refl; no_looks = refl; reply = refl }; within = here.within });
   }
 
-  module _ (frame : Frame) (call : Call) where
+  module _ (frame : Frame) (call : Call) (is_one : is_built call ≡ true) where
     abbrev its_seen : List Seen
     its_seen = looked s c.cspace.0 c.place (needs_of call)
 
@@ -139,7 +140,7 @@ module _ (boot : State) (history : List Event) (s : State) (c : CpuRun) (here : 
     -- an act that was refused
     whole_act : (reply : Reply) → refusal_in (needs_of call) its_seen ≡ None → judge s c.cpu.0 call frame.bytes (map word_of its_seen) ≡ Refused reply → IsWhole boot history s c frame (Ok call) its_seen (unmade s c frame (its_looked None) (ends.Act s.entries) reply)
     whole_act reply open_ judged =
-        let refuses = act_refuses s c.cpu.0 call frame.bytes (grants_of call (map word_of its_seen)) reply judged in
+        let refuses = act_refuses s c.cpu.0 call frame.bytes (map word_of its_seen) reply is_one judged in
         let within : place_after_looks c.place its_seen ≤ length history = looks_within in
         let counted : s.entries ≡ length history = here.counted in
         record {
@@ -216,7 +217,7 @@ module _ (boot : State) (history : List Event) (s : State) (c : CpuRun) (here : 
 
     whole_done : (new : State) (reply : Reply) → refusal_in (needs_of call) its_seen ≡ None → judge s c.cpu.0 call frame.bytes (map word_of its_seen) ≡ Done new reply → IsWhole boot history s c frame (Ok call) its_seen (done_call new reply)
     whole_done new reply open_ judged =
-        let keeps : Keeps s new = act_keeps s c.cpu.0 call frame.bytes (grants_of call (map word_of its_seen)) new reply judged in
+        let keeps : Keeps s new = act_keeps s c.cpu.0 call frame.bytes (map word_of its_seen) new reply is_one judged in
         let count : new.entries ≡ length history + 1 = keeps.entries ∙ ap (λ (n : ℕ). n + 1) here.counted in
         let event : Event = done_event new reply in
         let longer : List Event = history ++ done_event new reply ∷ [] in
@@ -258,7 +259,7 @@ module _ (boot : State) (history : List Event) (s : State) (c : CpuRun) (here : 
     whole_verdict : (verdict : Verdict) → refusal_in (needs_of call) its_seen ≡ None → judge s c.cpu.0 call frame.bytes (map word_of its_seen) ≡ verdict → IsWhole boot history s c frame (Ok call) its_seen (by_verdict s c frame call (its_looked None) verdict)
     whole_verdict (Done new reply) open_ judged = whole_done new reply open_ judged
     whole_verdict (Refused reply) open_ judged =
-        let not_short : is_short call reply ≡ false = (act_refuses s c.cpu.0 call frame.bytes (grants_of call (map word_of its_seen)) reply judged).not_short in
+        let not_short : is_short call reply ≡ false = (act_refuses s c.cpu.0 call frame.bytes (map word_of its_seen) reply is_one judged).not_short in
         subst (λ (short : Bool). IsWhole boot history s c frame (Ok call) its_seen (unmade s c frame (its_looked None) (if short then ends.Short s.entries [] else ends.Act s.entries) reply)) (sym not_short)
         (whole_act reply open_ judged)
 
@@ -272,6 +273,6 @@ module _ (boot : State) (history : List Event) (s : State) (c : CpuRun) (here : 
         (whole_looks (refusal_in (needs_of call) its_seen) refl)
 
   -- a whole call is legal, and its entry, if it has one, is the next
-  pub whole_is : (frame : Frame) (shape : Result Call Errno) → IsWhole boot history s c frame shape (seen_by s c shape) (by_shape s c frame shape)
-  whole_is frame (Err errno) = whole_frame frame errno
-  whole_is frame (Ok call) = whole_call frame call
+  pub whole_is : (frame : Frame) (shape : Result Call Errno) → ((call : Call) → shape ≡ Ok call → is_built call ≡ true) → IsWhole boot history s c frame shape (seen_by s c shape) (by_shape s c frame shape)
+  whole_is frame (Err errno) built = whole_frame frame errno
+  whole_is frame (Ok call) built = whole_call frame call (built call refl)

@@ -40,7 +40,7 @@ cost_by true row = omega arith
 cost_by false row = refl
 
 -- an object more raises the units in use by its cost in its partition
-used_more : (objects : List ObjectRow) (row : ObjectRow) (p : ℕ) → used_by (objects ++ row ∷ []) p ≡ used_by objects p + (if lives_in p row then row.cost else 0)
+pub used_more : (objects : List ObjectRow) (row : ObjectRow) (p : ℕ) → used_by (objects ++ row ∷ []) p ≡ used_by objects p + (if lives_in p row then row.cost else 0)
 used_more objects row p =
     let split : filter (lives_in p) (objects ++ row ∷ []) ≡ filter (lives_in p) objects ++ filter (lives_in p) (row ∷ []) = filter-append (lives_in p) objects (row ∷ []) in
     let mapped : map object_cost (filter (lives_in p) objects ++ filter (lives_in p) (row ∷ [])) ≡ map object_cost (filter (lives_in p) objects) ++ map object_cost (filter (lives_in p) (row ∷ [])) = map-append object_cost (filter (lives_in p) objects) (filter (lives_in p) (row ∷ [])) in
@@ -68,7 +68,7 @@ quota_by : (here : Bool) (row : PartitionRow) → sum_by (λ x. x) (map partitio
 quota_by true row = omega arith
 quota_by false row = omega arith
 
-given_more : (partitions : List PartitionRow) (row : PartitionRow) (p : ℕ) → given_by (partitions ++ row ∷ []) p ≤ given_by partitions p + row.quota
+pub given_more : (partitions : List PartitionRow) (row : PartitionRow) (p : ℕ) → given_by (partitions ++ row ∷ []) p ≤ given_by partitions p + row.quota
 given_more partitions row p =
     let split : filter (is_given_by p) (partitions ++ row ∷ []) ≡ filter (is_given_by p) partitions ++ filter (is_given_by p) (row ∷ []) = filter-append (is_given_by p) partitions (row ∷ []) in
     let mapped : map partition_quota (filter (is_given_by p) partitions ++ filter (is_given_by p) (row ∷ [])) ≡ map partition_quota (filter (is_given_by p) partitions) ++ map partition_quota (filter (is_given_by p) (row ∷ [])) = map-append partition_quota (filter (is_given_by p) partitions) (filter (is_given_by p) (row ∷ [])) in
@@ -209,7 +209,7 @@ span_more extents row n pages old new =
     either (Some first) b old = old
 
 -- a run of pages changes its holder, and no page is lost
-moved_length : (first count : ℕ) (holder : Serial) (holders : List Serial) → first + count ≤ length holders → length (move_pages first count holder holders) ≡ length holders
+pub moved_length : (first count : ℕ) (holder : Serial) (holders : List Serial) → first + count ≤ length holders → length (move_pages first count holder holders) ≡ length holders
 moved_length first count holder holders within =
     let front : length (take first holders) ≡ first = length-take first holders ∙ (let least = within in omega arith) in
     let run : length (replicate count holder) ≡ count = length-replicate count holder in

@@ -22,7 +22,7 @@ use Rattle.gh_model.specs.Program.{is_exit, exit_frame, last_number}
 use Rattle.gh_model.specs.Programs.{asked}
 use Rattle.gh_model.specs.Run.{is_mark_of}
 use Rattle.gh_model.specs.Calls.{after_mark, seat_behind, seat_after, next_call, turn_of, turn, turns, round, rounds, with_call, entries_of, rows_in_order}
-use Rattle.gh_model.proofs.ActLemmas.{row_number}
+use Rattle.gh_model.proofs.ActLemmas.{call_built, row_number}
 use Rattle.gh_model.proofs.CallsLemmas.{rounds_none, rounds_more}
 use Rattle.gh_model.specs.Fitting.{IsNumbered as HaveNumbers}
 use Rattle.gh_model.proofs.CpuRows.{Stands, Comes, same_place, found_here, from_map, to_map, from_order, count_order}
@@ -109,7 +109,7 @@ module _ {P : Type 0} (answer : P → Option Reply → Step) (after : P → Opti
         its_row = is_known w at seat between.numbers here
 
         whole : IsCall boot answer after program between.history w.plain seat
-        whole = whole_is boot between.history w.plain seat.cpu (here_of boot answer after program between.history between.made calls w.plain seat unset its_row between.told its_own) seat.standing.frame (call_of seat.standing.frame)
+        whole = whole_is boot between.history w.plain seat.cpu (here_of boot answer after program between.history between.made calls w.plain seat unset its_row between.told its_own) seat.standing.frame (call_of seat.standing.frame) (call_built seat.standing.frame)
 
         grew : Grown boot answer after program between.history between.made w.plain seat
         grew = grown boot answer after program between.history between.made w.plain seat between.told whole

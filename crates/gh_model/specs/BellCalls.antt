@@ -1,5 +1,5 @@
 -- What the calls on doorbells come to. They have no refusals of their own.
-use Rattle.std.specs.Prelude.{◌-◌, ◌^◌, ℕ, Option, Some, None, [], find, bit_or, bit_and}
+use Rattle.std.specs.Prelude.{ℕ, Option, Some, None, [], find, bit_or, bit_and}
 use Rattle.std.specs.Int.{w64, bit_not}
 use Rattle.gh_base.specs.declared.ids.Serial.{Serial}
 use Rattle.gh_model.specs.declared.change.Decision.{Decision}

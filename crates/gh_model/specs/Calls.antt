@@ -27,7 +27,8 @@ use Rattle.gh_model.specs.declared.word.Word.{Word}
 use Rattle.gh_model.specs.Boot.{boot_state, is_vm}
 use Rattle.gh_model.specs.Word.{word_at, look_reply, bits_of}
 use Rattle.gh_model.specs.Registers.{call_of, needs_of}
-use Rattle.gh_model.specs.Act.{Verdict, Done, Refused, judge}
+use Rattle.gh_model.specs.Decide.{judge}
+use Rattle.gh_model.specs.Act.{Verdict, Done, Refused}
 use Rattle.gh_model.specs.Program.{is_exit, last_number}
 use Rattle.gh_model.specs.Programs.{asked}
 use Rattle.gh_model.specs.Marks.{number, place}

@@ -1,7 +1,6 @@
 -- What the calls on capabilities come to: their own refusals in order, and their changes.
-use Rattle.std.specs.Prelude.{◌==◌, ◌&&◌, ◌||◌, ◌+◌, not, ℕ, Bool, true, false, List, [], ◌∷◌, length, Option, Some, None, find, nat_lt, bit_and, if◌then◌else◌}
+use Rattle.std.specs.Prelude.{◌==◌, ◌&&◌, ◌||◌, not, ℕ, Bool, true, false, List, [], ◌∷◌, length, Option, Some, None, find, nat_lt, bit_and, if◌then◌else◌}
 use Rattle.std.specs.List.{list_any, list_all, range_with_len}
-use Rattle.gh_base.specs.Reply.{register_reply}
 use Rattle.gh_base.specs.declared.errno.Errno.TheVariants.{CapNull, CapRevoked, CspaceFull, InsufRights, Retry}
 use Rattle.gh_base.specs.declared.ids.Serial.{Serial}
 use Rattle.gh_model.specs.declared.change.Decision.{Decision}

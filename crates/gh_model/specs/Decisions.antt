@@ -8,7 +8,7 @@ use Rattle.gh_base.specs.declared.kind.Stage.{Stage}
 use Rattle.gh_base.specs.declared.kind.Stage.TheVariants.{Init, Ready, Active}
 use Rattle.gh_model.specs.declared.change.Change.{Change}
 use Rattle.gh_model.specs.declared.change.Decision.{Decision}
-use Rattle.gh_model.specs.declared.change.Decision.TheVariants.{Refuse, Make}
+use Rattle.gh_model.specs.declared.change.Decision.TheVariants.{Make}
 use Rattle.gh_model.specs.declared.rows.ObjectRow.{ObjectRow}
 
 -- the object that a call's look of this place granted

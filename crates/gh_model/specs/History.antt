@@ -1,28 +1,21 @@
 -- The history and what it makes of the boot state.
-use Rattle.std.specs.Prelude.{◌==◌, ◌&&◌, ◌+◌, not, ℕ, Bool, true, false, List, [], ◌∷◌, ◌++◌, take, Option, Some, None, fold, find, filter, map, is_some, nat_lt, if◌then◌else◌}
-use Rattle.std.specs.List.{list_any}
-use Rattle.std.specs.Option.{option_map_or}
+use Rattle.std.specs.Prelude.{◌&&◌, ◌+◌, not, ℕ, Bool, true, false, List, [], ◌∷◌, ◌++◌, take, Option, Some, None, fold, find, map, is_some, nat_lt, if◌then◌else◌}
 use Rattle.gh_base.specs.declared.call.Call.{Call}
 use Rattle.gh_base.specs.declared.cap_word.Need.{Need}
 use Rattle.gh_base.specs.declared.ids.Serial.{Serial}
 use Rattle.gh_model.specs.declared.entry.Entry.{Entry}
 use Rattle.gh_model.specs.declared.entry.Entry.TheVariants.{Acted, Part, Retired, Reclaimed}
 use Rattle.gh_model.specs.declared.rows.ObjectRow.{ObjectRow}
-use Rattle.gh_model.specs.declared.rows.PartitionRow.{PartitionRow}
-use Rattle.gh_model.specs.declared.rows.ExtentRow.{ExtentRow}
 use Rattle.gh_model.specs.declared.rows.CapabilityRow.{CapabilityRow}
-use Rattle.gh_model.specs.declared.rows.SetAtRow.{SetAtRow}
-use Rattle.gh_model.specs.declared.rows.MappingRow.{MappingRow}
-use Rattle.gh_model.specs.declared.rows.BellRow.{BellRow}
-use Rattle.gh_model.specs.declared.rows.QueueRow.{QueueRow}
 use Rattle.gh_model.specs.declared.state.State.{State}
 use Rattle.gh_model.specs.declared.word.Word.{Word}
-use Rattle.gh_model.specs.Rows.{change_row, is_object, is_partition, is_extent, is_bell, object_row, cpu_row, fills, tells_setting}
+use Rattle.gh_model.specs.Rows.{object_row, cpu_row, fills}
 use Rattle.gh_model.specs.Word.{kind_fits}
 use Rattle.gh_model.specs.Registers.{needs_of}
 use Rattle.gh_model.specs.Marks.{Seen, Made}
-use Rattle.gh_model.specs.References.{is_doomed, is_mapping_of}
-use Rattle.gh_model.specs.Act.{Verdict, Done, Refused, judge, counted}
+use Rattle.gh_model.specs.References.{is_doomed}
+use Rattle.gh_model.specs.Decide.{judge}
+use Rattle.gh_model.specs.Act.{Verdict, Done, Refused, counted}
 use Rattle.gh_model.specs.Changes.{changed}
 use Rattle.gh_model.specs.declared.change.Change.TheVariants as change
 

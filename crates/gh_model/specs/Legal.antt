@@ -22,7 +22,8 @@ use Rattle.gh_model.specs.declared.word.Word.{Word}
 use Rattle.gh_model.specs.Rows.{cpu_row, fills}
 use Rattle.gh_model.specs.Word.{word_at, Shows}
 use Rattle.gh_model.specs.Registers.{call_of, needs_of}
-use Rattle.gh_model.specs.Act.{Verdict, Done, Refused, judge, granted}
+use Rattle.gh_model.specs.Decide.{judge}
+use Rattle.gh_model.specs.Act.{Verdict, Done, Refused, granted}
 use Rattle.gh_model.specs.Marks.{Seen, Made, Outcome, Wants, Fails, Grants, InTurn, outcome, failure, look_of, word_of, words_of, has_looks, place_after, place_after_looks, section_after, cspace_of}
 use Rattle.gh_model.specs.History.{Event, event_of, state_at, may_part, caller, retires, reclaims}
 use Rattle.gh_model.specs.Program.{is_exit}

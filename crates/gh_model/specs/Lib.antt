@@ -22,6 +22,7 @@ pub mod QueueCalls
 pub mod Reads
 pub mod References
 pub mod Registers
+pub mod Room
 pub mod Rows
 pub mod Run
 pub mod Small

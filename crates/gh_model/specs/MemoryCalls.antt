@@ -1,7 +1,7 @@
 -- What the calls on memory come to: their own refusals in order, and their changes. Registers are in
 -- bytes, rows in pages of 4,096 bytes.
-use Rattle.std.specs.Prelude.{◌==◌, ◌&&◌, ◌||◌, ◌+◌, ◌-◌, ◌*◌, ◌/◌, ◌%◌, not, ℕ, Bool, true, false, List, [], ◌∷◌, length, Option, Some, None, nat_lt, nat_le, find, count_by, take, drop, if◌then◌else◌}
-use Rattle.std.specs.List.{list_any, list_all}
+use Rattle.std.specs.Prelude.{◌==◌, ◌&&◌, ◌||◌, ◌+◌, ◌*◌, ◌/◌, ◌%◌, not, ℕ, Bool, false, List, [], ◌∷◌, length, Option, Some, None, nat_lt, nat_le, find, count_by, if◌then◌else◌}
+use Rattle.std.specs.List.{list_any}
 use Rattle.gh_base.specs.Reply.{register_reply}
 use Rattle.gh_base.specs.declared.access.Access.{Access}
 use Rattle.gh_base.specs.declared.errno.Errno.TheVariants.{ArgInval, ArgSize, AddrInval, AddrOvfl, Busy, Denied, Nomem}

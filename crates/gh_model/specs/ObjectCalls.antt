@@ -1,5 +1,5 @@
 -- What the calls on objects come to: their own refusals in order, and their changes.
-use Rattle.std.specs.Prelude.{◌==◌, ◌&&◌, ◌||◌, ◌+◌, ◌*◌, ◌/◌, not, ℕ, Bool, true, false, List, [], ◌∷◌, Option, Some, None, nat_lt, nat_le, find, if◌then◌else◌}
+use Rattle.std.specs.Prelude.{◌||◌, ◌+◌, ◌*◌, ◌/◌, ℕ, Bool, true, false, [], ◌∷◌, Option, Some, None, nat_lt, nat_le, find, if◌then◌else◌}
 use Rattle.gh_base.specs.Kind.{kind_cost, kind_rights, kind_stage, kind_numbered}
 use Rattle.gh_base.specs.declared.errno.Errno.TheVariants.{ArgInval, Nomem, ObjConfig, ObjState, CspaceFull}
 use Rattle.gh_base.specs.declared.ids.Serial.{Serial}

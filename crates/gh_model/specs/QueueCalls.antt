@@ -1,5 +1,5 @@
 -- What the calls on message queues come to: their own refusals in order, and their changes.
-use Rattle.std.specs.Prelude.{◌==◌, ◌+◌, not, ℕ, Bool, true, false, List, [], ◌∷◌, length, min, Option, Some, None, find, nat_lt, nat_le, slice_get, if◌then◌else◌}
+use Rattle.std.specs.Prelude.{◌==◌, ◌+◌, ℕ, Bool, true, false, List, [], ◌∷◌, length, min, Option, Some, None, find, nat_lt, nat_le, slice_get, if◌then◌else◌}
 use Rattle.std.specs.List.{list_any}
 use Rattle.gh_base.specs.declared.errno.Errno.TheVariants.{ArgSize, QueueEmpty, QueueFull}
 use Rattle.gh_base.specs.declared.frame.Reply.{Reply}

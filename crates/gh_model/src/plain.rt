@@ -2,19 +2,19 @@
 
 ghost use Rattle.std.specs.Prelude.{◌≡◌, ◌<◌, IfOk, OnErr};
 ghost use Rattle.gh_base.specs.declared.limits.TheConstants.{HISTORY_ENTRIES};
-ghost use Rattle.gh_model.specs.Act.{Judges, act as act_of};
+ghost use Rattle.gh_model.specs.Act.{Judges, grants_of};
+ghost use Rattle.gh_model.specs.Decide.{act as act_of, judge as judge_of};
 ghost use Rattle.gh_model.specs.Access.{access_at};
 ghost use Rattle.gh_model.specs.Boot.{boot_state};
 ghost use Rattle.gh_model.specs.Small.{IsSmall};
 ghost use Rattle.gh_model.specs.Units.{used_units, free_units, given_units};
-ghost use Rattle.gh_model.specs.Word.{word_at, setting_number};
+ghost use Rattle.gh_model.specs.Word.{word_at};
 
 use crate::access::access;
-use crate::act::act;
+use crate::act::{act, has_moved};
 use crate::boot::{Boot, booted};
-use crate::lookup::{capability_row, setting_row};
-use crate::rows::SetAtRow;
 use crate::state::State;
+use crate::state_reads::StateReads;
 use crate::units::{free, given, used};
 use crate::word::Word;
 use gh_base::{Access, Call, CpuNo, Frame, NoMemory, PageNo, Reply, Serial};
@@ -47,15 +47,6 @@ impl Model for Plain {
     ghost invariant = { λ plain. IsKept plain.state };
 }
 
-fn setting_of(row: Option<SetAtRow>) -> u32
-    ensures { result ≡ setting_number row }
-{
-    match row {
-        None => 0,
-        Some(row) => row.number,
-    }
-}
-
 impl Plain {
     /// The state that the boot file makes.
     pub fn boot(alloc: Global, boot: &Boot) -> Result<Plain, NoMemory>
@@ -81,31 +72,37 @@ impl Plain {
             (act_of self.old cpu.0 call.now frame.now.bytes grants.now)) }
         ensures no_memory { OnErr result (self.new ≡ self.old) }
     {
-        Ok(act(
-            alloc,
-            &mut self.state,
-            cpu,
-            call,
-            frame.bytes.as_slice(),
-            grants,
-        ))
+        let bytes = frame.bytes.as_slice();
+        act(alloc, &mut self.state, false, cpu, call, bytes, grants)
+    }
+
+    /// The act of a call whose looks found these words, which granted these objects. A copy is refused
+    /// where the source's word is another now.
+    pub fn judge(
+        &mut self,
+        alloc: Global,
+        cpu: CpuNo,
+        frame: &Frame,
+        call: &Call,
+        words: &[Word],
+        grants: &[Serial],
+    ) -> Result<Judged, NoMemory>
+        requires entries { self.old.entries < HISTORY_ENTRIES }
+        requires granted { grants.now ≡ grants_of call.now words.now }
+        ensures judged { IfOk result (λ judged. Judges self.old self.new judged
+            (judge_of self.old cpu.0 call.now frame.now.bytes words.now)) }
+        ensures no_memory { OnErr result (self.new ≡ self.old) }
+    {
+        let moved = has_moved(&self.state, cpu, call, words);
+        let bytes = frame.bytes.as_slice();
+        act(alloc, &mut self.state, moved, cpu, call, bytes, grants)
     }
 
     /// What a slot holds. A number outside 1 to 127 is an empty slot that no entry set.
     pub fn word(&self, cspace: Serial, slot: u64) -> Word
         ensures { result ≡ word_at self.now cspace.0 slot }
     {
-        if slot < 1 || slot > 127 {
-            Word {
-                row: None,
-                set_at: 0,
-            }
-        } else {
-            Word {
-                row: capability_row(self.state.caps.as_slice(), cspace, slot),
-                set_at: setting_of(setting_row(self.state.set_at.as_slice(), cspace, slot)),
-            }
-        }
+        self.state.word(cspace, slot)
     }
 
     /// Entries of the history so far.

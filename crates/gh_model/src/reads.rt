@@ -3,15 +3,15 @@
 ghost use Rattle.std.specs.Prelude.{◌≡◌, Some};
 ghost use Rattle.gh_base.specs.declared.kind.Kind.TheVariants as kind;
 ghost use Rattle.gh_model.specs.Access.{access_at};
-ghost use Rattle.gh_model.specs.Boot.{is_kind, is_of_kind, cpu_cspace};
+ghost use Rattle.gh_model.specs.Boot.{is_kind, is_of_kind};
 ghost use Rattle.gh_model.specs.Reads.{last_serial, partition_units, look_word, plain_object, plain_cap, is_doomed_object, retired_counters};
 ghost use Rattle.gh_model.specs.Word.{look_reply};
 
-use crate::lookup::{capability_row, cpu_row, object_row};
+use crate::act::cspace_of;
+use crate::lookup::{capability_row, object_row};
 use crate::plain::Plain;
 use crate::references::doomed;
 use crate::rows::{CapabilityRow, ObjectRow};
-use crate::state::State;
 use crate::word::Word;
 use gh_base::{Access, CpuNo, Errno, Kind, Need, PageNo, Serial};
 
@@ -21,16 +21,6 @@ fn is_of_kind(row: Option<ObjectRow>, kind: Kind) -> bool
     match row {
         None => false,
         Some(row) => row.kind == kind,
-    }
-}
-
-/// The capability space of a CPU; serial 0 where there is no such CPU.
-fn cspace_of(state: &State, cpu: CpuNo) -> Serial
-    ensures { result.0 ≡ cpu_cspace state.now.cpus cpu.0 }
-{
-    match cpu_row(state.cpus.as_slice(), cpu) {
-        None => Serial(0),
-        Some(row) => row.cspace,
     }
 }
 

@@ -1,0 +1,12 @@
+-- There is room for the changes of a decision, and for the entry behind them.
+use Rattle.gh_model.proofs.DecideLemmas.{decided_room}
+use Rattle.gh_model.proofs.RoomLemmas.{made_entries}
+use Rattle.gh_model.proofs.act.act.Goals as goal
+
+pub make_all-requires : goal.make_all-requires
+make_all-requires c =
+    decided_room c.args.state.now c.args.moved c.args.cpu.0 c.args.call.now c.args.bytes.now c.args.grants.now _ _ _
+    c.requires.kept c.requires.entries c.in_ok-errno.ensures c.in-Make.is
+
+pub count-requires : goal.count-requires
+count-requires c = made_entries c.args.state.now _ c.in-Make.changes c.in_ok-make_all-in-Make.ensures.ok c.requires.entries

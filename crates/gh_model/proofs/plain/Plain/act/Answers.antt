@@ -1,0 +1,9 @@
+-- An act keeps the sums small, and rings and gives a serial at most once.
+use Rattle.std.proofs.Common.{false}
+use Rattle.gh_model.proofs.ActLemmas.{act_kept}
+use Rattle.gh_model.proofs.plain.Plain.act.Goals as goal
+
+pub invariant_of-self : goal.invariant_of-self
+invariant_of-self c =
+    act_kept _ c.act.new.state false c.args.cpu.0 c.args.call.now c.as_slice-bytes.result.now c.args.grants.now c.act.result
+    c.act.ensures.judged c.act.ensures.no_memory c.self.invariant
