@@ -109,7 +109,7 @@ either_valid : (b : Bool) (new old : State) → (b ≡ true → IsValid new) →
 either_valid true new old then_new is = then_new refl
 either_valid false new old then_new is = is
 
-part_filled : (found : Option CapabilityRow) → may_part found ≡ true → IsTrue (is_some found)
+pub part_filled : (found : Option CapabilityRow) → may_part found ≡ true → IsTrue (is_some found)
 part_filled None may = absurd (let never : ⊥ = cc in never)
 part_filled (Some row) may = refl
 

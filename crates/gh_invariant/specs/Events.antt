@@ -31,12 +31,16 @@ made_by (Refuse errno) = []
 made_by Unfinished = []
 made_by (Make changes reply) = changes
 
+-- what the act of an event comes to
+abbrev pub judged_by : State → ℕ → Event → Decision
+judged_by s cpu event =
+    decision (has_moved s cpu event.call event.words) s cpu event.call event.bytes (grants_of event.call event.words)
+
 -- the changes of an entry: none where its state doesn't allow it
 abbrev pub entry_changes : State → Event → Entry → List Change
 entry_changes s event (Acted cpu number) =
     if may_act s cpu.0 event.call event.words
-    then made_by (decision (has_moved s cpu.0 event.call event.words) s cpu.0 event.call event.bytes (grants_of event.call event.words))
-    else []
+    then made_by (judged_by s cpu.0 event) else []
 entry_changes s event (Part cpu number space slot) =
     if may_part (find (fills space.0 slot) s.caps) then RevokeCapability space slot ∷ [] else []
 entry_changes s event (Retired serial seen) =
