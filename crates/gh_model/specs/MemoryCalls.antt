@@ -118,8 +118,8 @@ abbrev pub derived_at : State → Serial → Serial → ExtentRow → ℕ → �
 derived_at s child parent row offset count access =
     if nat_lt row.count (offset + count) then Refuse ArgSize
     else (if not (holds_run s.holders parent (row.first.0 + offset) count) || not (access_fits access row.access.0) then Refuse Denied
-    else Make (AddExtent (derived_row child parent row offset count access) ∷ MovePages (row.first.0 + offset) count child
-    ∷ SetStage child Ready ∷ []) done)
+    else Make (SetStage child Ready ∷ AddExtent (derived_row child parent row offset count access)
+    ∷ MovePages (row.first.0 + offset) count child ∷ []) done)
 
 abbrev pub derived : State → Serial → Serial → ℕ → ℕ → ℕ → Option ExtentRow → Decision
 derived s child parent offset size access None = Refuse ArgSize

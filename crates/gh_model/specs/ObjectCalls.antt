@@ -82,7 +82,7 @@ abbrev pub quota_given : State → Serial → ℕ → Option PartitionRow → De
 quota_given s partition quota None = Refuse Nomem
 quota_given s partition quota (Some row) =
     if nat_lt (free_units s row.parent.0) quota then Refuse Nomem
-    else Make (GiveQuota partition quota ∷ SetStage partition Ready ∷ []) done
+    else Make (SetStage partition Ready ∷ GiveQuota partition quota ∷ []) done
 
 -- a quota above 128 comes from no frame
 abbrev pub configure_partition : State → Serial → ℕ → Decision
@@ -98,7 +98,7 @@ abbrev pub room_given : State → Serial → ℕ → ℕ → Option ObjectRow �
 room_given s queue depth size None = Refuse Nomem
 room_given s queue depth size (Some row) =
     if nat_lt (free_units s row.partition.0) (room_cost depth size) then Refuse Nomem
-    else Make (ConfigureQueue queue depth size (queue_cost depth size) ∷ SetStage queue Ready ∷ []) done
+    else Make (SetStage queue Ready ∷ ConfigureQueue queue depth size (queue_cost depth size) ∷ []) done
 
 -- a depth above 64 or a size above 1,024 comes from no frame
 abbrev pub configure_queue : State → Serial → ℕ → ℕ → Decision

@@ -197,18 +197,18 @@ pub(crate) fn unmap<R: StateReads>(
 
 /// The changes of a derive.
 fn derive_changes(alloc: Global, child: Serial, row: ExtentRow) -> Result<Decision, NoMemory>
-    ensures { IfOk result (λ decision. decision ≡ Decision.Make (Change.AddExtent row ∷ Change.MovePages row.first.0 row.count child ∷ Change.SetStage child Stage.Ready ∷ []) done) }
+    ensures { IfOk result (λ decision. decision ≡ Decision.Make (Change.SetStage child Stage.Ready ∷ Change.AddExtent row ∷ Change.MovePages row.first.0 row.count child ∷ []) done) }
 {
     let mut changes = Sequence::new(alloc);
+    changes.push(Change::SetStage {
+        object: child,
+        stage: Stage::Ready,
+    })?;
     changes.push(Change::AddExtent { row })?;
     changes.push(Change::MovePages {
         first: row.first.0,
         count: row.count,
         holder: child,
-    })?;
-    changes.push(Change::SetStage {
-        object: child,
-        stage: Stage::Ready,
     })?;
     let reply = done();
     Ok(Decision::Make { changes, reply })

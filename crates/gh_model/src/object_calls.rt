@@ -160,7 +160,7 @@ fn quota_given<R: StateReads>(
                 object: partition,
                 stage: Stage::Ready,
             };
-            make_two(alloc, given, ready, done())
+            make_two(alloc, ready, given, done())
         }
         _ => Ok(Decision::Refuse {
             errno: Errno::Nomem,
@@ -224,7 +224,7 @@ fn room_given<R: StateReads>(
                 object: queue,
                 stage: Stage::Ready,
             };
-            make_two(alloc, room, ready, done())
+            make_two(alloc, ready, room, done())
         }
         _ => Ok(Decision::Refuse {
             errno: Errno::Nomem,

@@ -1,0 +1,23 @@
+//! What every state of the machine keeps, and what each change of the state does to references,
+//! units and words.
+#![tactic(auto)]
+
+mod boot;
+mod decision;
+mod entries;
+mod events;
+mod references;
+mod units;
+mod validity;
+mod words;
+
+pub use boot::boot_is_valid;
+pub use decision::{decisions_give_to_referred, decisions_may_be_made};
+pub use entries::{act_keeps_valid, entries_keep_valid, entry_begins};
+pub use events::{doomed_stays_doomed, events_keep_valid};
+pub use references::{
+    change_moves_references, changes_move_references, doomed_stays, only_living_referenced,
+};
+pub use units::{change_moves_units, changes_move_units};
+pub use validity::{change_keeps_valid, changes_keep_valid};
+pub use words::{change_sets_word, words_stay};
