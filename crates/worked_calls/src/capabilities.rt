@@ -1,0 +1,26 @@
+//! Capabilities: copied, and revoked one by one and all at once.
+
+use crate::boots::{shared_doorbell, three_copies};
+use crate::session::{answer, boot};
+use gh_base::Serial;
+use std::test::Fail;
+
+#[test]
+fn a_copy_goes_to_the_least_free_slot(rt: HostRuntime) -> Result<(), Fail> {
+    let alloc = rt.alloc();
+    let text = shared_doorbell(alloc)?;
+    let mut plain = boot(alloc, text.as_str())?;
+    for (cpu, call, reply) in [
+        (2, "c6008210 2 7 1", "0 1 0 0"),
+        (1, "c6008212 6 7", "0 0 0 0"),
+        (2, "c6008012 7 1", "33 0 0 0"),
+        (2, "c6008012 1 1", "0 0 0 0"),
+        (1, "c6008211 6 9", "32 0 0 0"),
+        (1, "c6008211 6 7", "0 0 0 0"),
+        (2, "c6008012 7 1", "32 0 0 0"),
+    ] {
+        let got = answer(alloc, &mut plain, cpu, call)?;
+        assert_eq!(rt; got.as_str(), reply, "{call}");
+    }
+    Ok(())
+}
