@@ -23,12 +23,18 @@ counted_true n true some most = refl
 counted_true n false some most = absurd (let none : one_if false ≡ 0 = refl in omega arith)
 
 -- an extent with a span lives
-span_lives : (s : State) (extent : ℕ) (row : ExtentRow) → IsValidTo 0 s → find (is_extent extent) s.extents ≡ Some row → IsTrue (lives_as s.objects extent kind.Extent)
+span_lives : (s : State) (extent : ℕ) (row : ExtentRow) → IsValidTo 0 s
+    → find (is_extent extent) s.extents ≡ Some row → IsTrue (lives_as s.objects extent kind.Extent)
 span_lives s extent row valid found =
     counted_true (count_by (is_extent extent) s.extents) (lives_as s.objects extent kind.Extent) (found_one (is_extent extent) s.extents row found) (valid.rows.extents extent)
 
-map_found : (s : State) (space extent : Serial) (base offset count : ℕ) (access : Access) → IsValidTo 0 s → NoneRetired s → IsTrue (is_kind s space.0 kind.Space) → (found : Option ExtentRow) → find (is_extent extent.0) s.extents ≡ found → IsTrue (mapping_fits s space.0 base offset count access.0 found) → IsValidTo 0 (after_line s (Map space extent base offset count access))
-map_found s space extent base offset count access valid fresh home None is fits = absurd (let never : ⊥ = cc in never)
+map_found : (s : State) (space extent : Serial) (base offset count : ℕ) (access : Access)
+    → IsValidTo 0 s → NoneRetired s → IsTrue (is_kind s space.0 kind.Space)
+    → (found : Option ExtentRow) → find (is_extent extent.0) s.extents ≡ found
+    → IsTrue (mapping_fits s space.0 base offset count access.0 found)
+    → IsValidTo 0 (after_line s (Map space extent base offset count access))
+map_found s space extent base offset count access valid fresh home None is fits =
+    absurd (let never : ⊥ = cc in never)
 map_found s space extent base offset count access valid fresh home (Some row) is fits =
     let few = and_parts _ (nat_lt (count_by (is_row_of space.0) s.mappings) 64) fits in
     let free = and_parts _ (not (list_any (overlaps space.0 base count) s.mappings)) few.0 in
@@ -43,7 +49,8 @@ map_found s space extent base offset count access valid fresh home (Some row) is
       rows = valid.rows;
       units = valid.units;
       pages = valid.pages;
-      mappings = put_keeps_mappings s.objects s.extents s.mappings valid.mappings (record { space = space; extent = extent; base = base; offset = offset; count = count; access = access; handle = 0 })
+      mappings =
+          put_keeps_mappings s.objects s.extents s.mappings valid.mappings (record { space = space; extent = extent; base = base; offset = offset; count = count; access = access; handle = 0 })
           (and_from _ _ (and_from _ _ (and_from _ _ (and_from _ _ home (span_lives s extent.0 row valid is)) (lt-ltb 0 count (omega arith))) low.1)
           (ap (spans_row (record { space = space; extent = extent; base = base; offset = offset; count = count; access = access; handle = 0 })) is ∙ and_from _ _ within.1 narrow.1))
           (not-true (list_any (overlaps space.0 base count) s.mappings) free.1) (ltb-true (count_by (is_row_of space.0) s.mappings) 64 few.1);
@@ -53,7 +60,11 @@ map_found s space extent base offset count access valid fresh home (Some row) is
       parcels = valid.parcels;
     }
 
-pub map_valid : (s : State) (space extent : Serial) (base offset count : ℕ) (access : Access) → IsValidTo 0 s → NoneRetired s → IsTrue (line_fits s (Map space extent base offset count access)) → IsValidTo 0 (after_line s (Map space extent base offset count access))
+pub map_valid : (s : State) (space extent : Serial) (base offset count : ℕ) (access : Access)
+    → IsValidTo 0 s → NoneRetired s
+    → IsTrue (line_fits s (Map space extent base offset count access))
+    → IsValidTo 0 (after_line s (Map space extent base offset count access))
 map_valid s space extent base offset count access valid fresh fits =
-    let parts : (is_kind s space.0 kind.Space ≡ true) × (mapping_fits s space.0 base offset count access.0 (find (is_extent extent.0) s.extents) ≡ true) = and_parts _ _ fits in
+    let parts : (is_kind s space.0 kind.Space ≡ true) × (mapping_fits s space.0 base offset count access.0 (find (is_extent extent.0) s.extents) ≡ true) =
+    and_parts _ _ fits in
     map_found s space extent base offset count access valid fresh parts.0 (find (is_extent extent.0) s.extents) refl parts.1

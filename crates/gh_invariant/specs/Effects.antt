@@ -1,6 +1,6 @@
--- What each change does to references: the objects that it gives a reference, and those that it takes
--- one from, each named once for each reference. And the units that it takes
--- from partitions or returns to them, and the slot that it sets.
+-- What each change does to references: the objects that it gives a reference, and those that it
+-- takes one from, each named once for each reference. And the units that it takes from partitions
+-- or returns to them, and the slot that it sets.
 use Rattle.std.specs.Prelude.{◌==◌, ◌&&◌, not, ℕ, Bool, false, List, [], ◌∷◌, ◌++◌, Option, Some, None, find, count_by, sum_by, if◌then◌else◌, option_map}
 use Rattle.gh_base.specs.declared.ids.Serial.{Serial}
 use Rattle.gh_model.specs.Changes.{changed, as_revoked}
@@ -114,7 +114,8 @@ quota_instead quota (Some row) = record { partition = row.parent; units = quota 
 -- the units that a change takes from partitions
 abbrev pub takes : State → Change → List Share
 takes s (AddObject row) = cost_of (Some row)
-takes s (GiveQuota partition quota) = quota_instead quota (find (is_partition partition.0) s.partitions)
+takes s (GiveQuota partition quota) =
+    quota_instead quota (find (is_partition partition.0) s.partitions)
 takes s (ConfigureQueue queue depth size cost) = cost_instead cost (object_row s queue.0)
 takes s _ = []
 
@@ -145,7 +146,8 @@ sets _ = None
 -- the capability in the slot that a change sets, once it is made
 abbrev pub leaves_in : State → Change → Option CapabilityRow
 leaves_in s (PutCapability row) = Some row
-leaves_in s (RevokeCapability cspace slot) = option_map as_revoked (find (fills cspace.0 slot) s.caps)
+leaves_in s (RevokeCapability cspace slot) =
+    option_map as_revoked (find (fills cspace.0 slot) s.caps)
 leaves_in s _ = None
 
 -- the change sets this slot
@@ -156,7 +158,8 @@ is_place cspace slot (Some place) = (place.0 == cspace) && (place.1 == slot)
 abbrev pub sets_slot : ℕ → ℕ → Change → Bool
 sets_slot cspace slot change = is_place cspace slot (sets change)
 
--- the change leaves the slot as it is: it sets another or none, and the slot's capability space stays
+-- the change leaves the slot as it is: it sets another or none, and the slot's capability space
+-- stays
 abbrev pub leaves : ℕ → ℕ → Change → Bool
 leaves cspace slot (Reclaim object) = not (object.0 == cspace)
 leaves cspace slot change = not (sets_slot cspace slot change)

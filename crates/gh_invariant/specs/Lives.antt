@@ -42,8 +42,8 @@ is_housed objects row = lives_as objects row.partition.0 kind.Partition
 abbrev pub has_kind_rights : CapabilityRow → Bool
 has_kind_rights row = bit_and row.rights.0 (kind_rights row.kind) == row.rights.0
 
--- the slot is one of a capability space that lives, and its object was made; where the capability is
--- valid, the object lives and is of its kind
+-- the slot is one of a capability space that lives, its rights are within those of its kind, and its
+-- object was made; where the capability is valid, the object lives and is of its kind
 abbrev pub slot_fits : ℕ → List ObjectRow → CapabilityRow → Bool
 slot_fits next_serial objects row =
     lives_as objects row.cspace.0 kind.Cspace && is_slot row.slot && has_kind_rights row
@@ -95,10 +95,11 @@ mapping_stands objects extents row =
     && nat_lt 0 row.count && nat_le (row.base + row.count) 4096
     && spans_row row (find (is_extent row.extent.0) extents)
 
--- no two rows of one address space have a page in common
+-- the row has a page in common with one of these
 abbrev pub meets : MappingRow → List MappingRow → Bool
 meets row rows = list_any (overlaps row.space.0 row.base row.count) rows
 
+-- no two rows of one address space have a page in common
 abbrev pub are_apart : List MappingRow → Bool
 are_apart [] = true
 are_apart (row ∷ rows) = not (meets row rows) && are_apart rows
@@ -136,7 +137,8 @@ cost_fits partitions extents row =
 -- a CPU that hasn't exited has a capability space and an address space that live
 abbrev pub cpu_fits : List ObjectRow → CpuRow → Bool
 cpu_fits objects row =
-    row.exited || (lives_as objects row.cspace.0 kind.Cspace && lives_as objects row.space.0 kind.Space)
+    row.exited
+    || (lives_as objects row.cspace.0 kind.Cspace && lives_as objects row.space.0 kind.Space)
 
 -- a linked VM has its CPU, whose address space lives, and an extent and two queues that live
 abbrev pub space_lives : List ObjectRow → Option CpuRow → Bool
@@ -152,8 +154,8 @@ link_stands objects cpus row =
 abbrev pub is_short : ℕ → List ℕ → Bool
 is_short size message = nat_le (length message) size
 
--- a queue has a depth of at most 64 and a size of at most 1,024 bytes, and no more messages than its
--- depth, each short enough
+-- a queue has a depth of at most 64 and a size of at most 1,024 bytes, and no more messages than
+-- its depth, each short enough
 abbrev pub queue_fits : QueueRow → Bool
 queue_fits row =
     nat_le row.depth QUEUE_DEPTH && nat_le row.size MESSAGE_BYTES

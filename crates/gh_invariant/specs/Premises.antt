@@ -1,5 +1,5 @@
--- When a change may be made: what the state before it must have, so that the state after it is valid
--- and references change as the change tells.
+-- When a change may be made: what the state before it must have, so that the state after it is
+-- valid and references change as the change tells.
 use Rattle.std.specs.Prelude.{◌≡◌, ◌+◌, ◌≤◌, ◌<◌, ℕ, true, false, List, [], ◌∷◌, length, Some, None, IsTrue, ⊤, find, is_some, count_by}
 use Rattle.gh_base.specs.declared.ids.Serial.{Serial}
 use Rattle.gh_base.specs.declared.kind.Kind.TheVariants as kind
@@ -39,6 +39,7 @@ pub record MayPut (s : State) (row : CapabilityRow) : Type 0 where
   pub valid : row.valid ≡ true
   pub rights : IsTrue (has_kind_rights row)
   pub master : row.master ≡ true → count_by (is_master_of row.serial.0) s.caps ≡ 0
+  -- the slot's references
   pub from_slot : MayRefer s row.cspace.0
   pub from_capability : MayRefer s row.serial.0
 
@@ -46,8 +47,8 @@ pub record MayPut (s : State) (row : CapabilityRow) : Type 0 where
 abbrev pub IsFilled : State → Serial → ℕ → Type 0
 IsFilled s cspace slot = IsTrue (is_some (find (fills cspace.0 slot) s.caps))
 
--- the object has the next serial and isn't retired, and its partition has the units and room for its kind. One that is
--- to be configured costs one unit by now
+-- the object has the next serial and isn't retired, its partition has the units, and there is room
+-- for its kind. One that is to be configured costs one unit by now
 pub record MayAdd (s : State) (row : ObjectRow) : Type 0 where
   pub serial : row.serial.0 ≡ s.next_serial
   pub partition : IsTrue (is_kind s row.partition.0 kind.Partition)
@@ -78,7 +79,8 @@ pub record MayGive (s : State) (partition quota : ℕ) : Type 0 where
   pub small : quota ≤ PARTITION_UNITS
   pub units : quota ≤ free_units s row.parent.0
   -- it was configured, or is about to be
-  pub stage : (object : ObjectRow) → object_row s partition ≡ Some object → is_init_stage object.stage ≡ false
+  pub stage : (object : ObjectRow) → object_row s partition ≡ Some object
+      → is_init_stage object.stage ≡ false
 
 -- the extent lives, is no longer new and has no span yet; the span is a part of its parent's
 pub record MaySpan (s : State) (row : ExtentRow) : Type 0 where
@@ -159,4 +161,5 @@ pub record Together (First Others : Type 0) : Type 0 where
 
 abbrev pub MayChangeAll : State → List Change → Type 0
 MayChangeAll s [] = ⊤
-MayChangeAll s (change ∷ changes) = Together (MayChange s change) (MayChangeAll (changed s change) changes)
+MayChangeAll s (change ∷ changes) =
+    Together (MayChange s change) (MayChangeAll (changed s change) changes)

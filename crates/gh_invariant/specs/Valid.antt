@@ -64,7 +64,8 @@ pub record KindRowsFit (objects : List ObjectRow) (partition_rows : List Partiti
   pub queues : HasOneEach objects kind.Queue is_queue queue_rows
   pub extents : HasOneAtMost objects kind.Extent is_extent extent_rows
 
--- units: what a partition uses and gives is within its quota. The boot's quotas are given by none, 0
+-- units: what a partition uses and gives is within its quota. The boot's quotas have the parent 0,
+-- which is no partition
 pub record UnitsFit (objects : List ObjectRow) (partitions : List PartitionRow)
     (extents : List ExtentRow) : Type 0 where
   pub within : (partition : ℕ) → 0 < partition
@@ -92,7 +93,8 @@ pub record MappingsFit (objects : List ObjectRow) (extents : List ExtentRow)
   pub apart : IsTrue (are_apart mappings)
 
 -- CPUs: at most one of a number; what those that haven't exited and the links name lives
-pub record CpusFit (objects : List ObjectRow) (cpus : List CpuRow) (links : List LinkRow) : Type 0 where
+pub record CpusFit (objects : List ObjectRow) (cpus : List CpuRow)
+    (links : List LinkRow) : Type 0 where
   pub once : (cpu : ℕ) → count_by (is_cpu cpu) cpus ≤ 1
   pub attached : IsTrue (list_all (cpu_fits objects) cpus)
   pub linked : IsTrue (list_all (link_stands objects cpus) links)
