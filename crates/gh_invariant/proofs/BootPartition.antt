@@ -42,7 +42,8 @@ not_given n quota above = not_by (0 == n) (grind (arith, nat_tests))
     not_by true is = absurd (let never : ⊥ = cc in never)
     not_by false is = refl
 
-module _ (s : State) (quota : ℕ) (valid : IsValidTo 0 s) (some : 1 ≤ quota) (small : quota ≤ PARTITION_UNITS) where
+module _ (s : State) (quota : ℕ) (valid : IsValidTo 0 s) (some : 1 ≤ quota)
+    (small : quota ≤ PARTITION_UNITS) where
   -- the partition as an object, and its row
   abbrev object : ObjectRow
   object = boot_object s kind.Partition s.next_serial 1
@@ -51,40 +52,74 @@ module _ (s : State) (quota : ℕ) (valid : IsValidTo 0 s) (some : 1 ≤ quota) 
   row = record { serial = serial_of s.next_serial; parent = serial_of 0; quota = quota }
 
   unmade : find (is_object s.next_serial) s.objects ≡ None
-  unmade = unfound (is_object s.next_serial) s.objects (valid.objects.later s.next_serial (omega arith))
+  unmade = unfound (is_object s.next_serial) s.objects
+      (valid.objects.later s.next_serial (omega arith))
 
   no_row : find (is_partition s.next_serial) s.partitions ≡ None
   no_row =
-      no_row_by (is_partition s.next_serial) s.partitions (find (is_object s.next_serial) s.objects) kind.Partition unmade (let each : count_by (is_partition s.next_serial) s.partitions ≡ one_if (lives_as s.objects s.next_serial kind.Partition) = valid.rows.partitions s.next_serial in omega arith)
+      no_row_by (is_partition s.next_serial) s.partitions (find (is_object s.next_serial) s.objects)
+      kind.Partition unmade
+      (let each : count_by (is_partition s.next_serial) s.partitions
+      ≡ one_if (lives_as s.objects s.next_serial kind.Partition) =
+      valid.rows.partitions s.next_serial in omega arith)
 
   made : find (is_object s.next_serial) (s.objects ++ object ∷ []) ≡ Some object
-  made = find_push_new (is_object s.next_serial) s.objects object unmade (eq-eqb s.next_serial s.next_serial refl)
+  made = find_push_new (is_object s.next_serial) s.objects object unmade
+      (eq-eqb s.next_serial s.next_serial refl)
 
   given_now : (n : ℕ) → 0 < n → given_by (s.partitions ++ row ∷ []) n ≡ given_by s.partitions n
   given_now n above =
-      omega (arith, given_sum (s.partitions ++ row ∷ []) n, given_sum s.partitions n, sum_by_push (quota_in n) s.partitions row, not_given n quota above)
+      omega (
+        arith,
+        given_sum (s.partitions ++ row ∷ []) n,
+        given_sum s.partitions n,
+        sum_by_push
+            (quota_in n) s.partitions row,
+        not_given n quota above,
+      )
 
-  quota_within : (n : ℕ) (here : Bool) → 0 < n → (s.next_serial == n) ≡ here → used_by s.objects n + (if here then 1 else 0) + given_by s.partitions n ≤ row_quota (find (is_partition n) (s.partitions ++ row ∷ []))
+  quota_within : (n : ℕ) (here : Bool) → 0 < n → (s.next_serial == n) ≡ here
+      → used_by s.objects n + (if here then 1 else 0) + given_by s.partitions n
+      ≤ row_quota (find (is_partition n) (s.partitions ++ row ∷ []))
   quota_within n true above is =
       let same : s.next_serial ≡ n = eqb-true s.next_serial n is in
-      let none : find (is_partition n) s.partitions ≡ None = subst (λ (m : ℕ). find (is_partition m) s.partitions ≡ None) same no_row in
+      let none : find (is_partition n) s.partitions ≡ None =
+      subst (λ (m : ℕ). find (is_partition m) s.partitions ≡ None) same no_row in
       let old : row_quota (find (is_partition n) s.partitions) ≡ 0 = ap row_quota none in
-      let new : row_quota (find (is_partition n) (s.partitions ++ row ∷ [])) ≡ quota = ap row_quota (find_push_new (is_partition n) s.partitions row none is) in
+      let new : row_quota (find (is_partition n) (s.partitions ++ row ∷ [])) ≡ quota =
+      ap row_quota (find_push_new (is_partition n) s.partitions row none is) in
       omega (arith, valid.units.within n above)
   quota_within n false above is =
-      let same : row_quota (find (is_partition n) (s.partitions ++ row ∷ [])) ≡ row_quota (find (is_partition n) s.partitions) = ap row_quota (find_push_other (is_partition n) s.partitions row is) in
+      let same : row_quota (find (is_partition n) (s.partitions ++ row ∷ []))
+      ≡ row_quota (find (is_partition n) s.partitions) =
+      ap row_quota (find_push_other (is_partition n) s.partitions row is) in
       omega (arith, valid.units.within n above)
 
   units_now : UnitsFit (s.objects ++ object ∷ []) (s.partitions ++ row ∷ []) s.extents
   units_now = record {
-    within = λ n above. omega (arith, used_push s.objects object n, given_now n above, quota_within n (s.next_serial == n) above refl);
+    within = λ n above.
+        omega (
+          arith,
+          used_push s.objects object n,
+          given_now n above,
+          quota_within n
+              (s.next_serial == n) above refl,
+        );
     quotas = all_push (quota_fits (s.objects ++ object ∷ [])) s.partitions row
-        (all_by (quota_fits s.objects) (quota_fits (s.objects ++ object ∷ [])) s.partitions (quota_stays s.objects object) valid.units.quotas)
-        (and_from _ _ small_test (ap (lives_under s.next_serial) made ∙ eq-eqb s.next_serial s.next_serial refl));
+        (all_by (quota_fits s.objects) (quota_fits (s.objects ++ object ∷ [])) s.partitions
+        (quota_stays s.objects object) valid.units.quotas)
+        (and_from _ _ small_test
+        (ap (lives_under s.next_serial) made ∙ eq-eqb s.next_serial s.next_serial refl));
     costs = all_push (cost_fits (s.partitions ++ row ∷ []) s.extents) s.objects object
-        (all_pinned (cost_fits s.partitions s.extents) (cost_fits (s.partitions ++ row ∷ []) s.extents) (is_object s.next_serial) s.objects (valid.objects.once s.next_serial)
-        (λ one is fits. absurd (let none : find (is_object s.next_serial) s.objects ≡ None = unmade in let never : ⊥ = cc in never))
-        (λ one other fits. rw (find_push_other (is_partition one.serial.0) s.partitions row (turned one.serial.0 other)) fits) valid.units.costs)
+        (all_pinned (cost_fits s.partitions s.extents)
+        (cost_fits (s.partitions ++ row ∷ []) s.extents) (is_object s.next_serial) s.objects
+        (valid.objects.once s.next_serial)
+        (λ one is fits.
+        absurd (let none : find (is_object s.next_serial) s.objects ≡ None =
+        unmade in let never : ⊥ = cc in never))
+        (λ one other fits.
+        rw (find_push_other (is_partition one.serial.0) s.partitions row
+        (turned one.serial.0 other)) fits) valid.units.costs)
         (cost_staged (s.partitions ++ row ∷ []) s.extents object (omega arith) refl);
   }
     where
@@ -94,25 +129,38 @@ module _ (s : State) (quota : ℕ) (valid : IsValidTo 0 s) (some : 1 ≤ quota) 
       turned : (n : ℕ) → (n == s.next_serial) ≡ false → (s.next_serial == n) ≡ false
       turned n other = grind (arith, nat_tests)
 
-  partition_made : NoneRetired s → kind_count s kind.Partition < PARTITIONS → IsValidTo 0 (after_line s (Partition quota))
+  partition_made : NoneRetired s → kind_count s kind.Partition < PARTITIONS
+      → IsValidTo 0 (after_line s (Partition quota))
   partition_made fresh fewer = record {
-    objects = add_keeps_objects s.next_serial s.objects object refl valid.objects (ap (is_of_kind kind.Partition) made)
-        (few_partitions s kind.Partition (lt-leb PARTITIONS (kind_count s kind.Partition) fewer) valid.objects.partitions)
-        (few_cspaces s kind.Partition (lt-leb PARTITIONS (kind_count s kind.Partition) fewer) valid.objects.cspaces);
-    slots = slots_live_on s.next_serial (s.next_serial + 1) 0 s.objects (s.objects ++ object ∷ []) s.caps s.set_at (omega arith) (lives_beside s.objects object) valid.slots;
-    rows = rows_now s.next_serial s.objects object s.partitions (s.partitions ++ row ∷ []) s.bells s.bells s.queues s.queues s.extents refl valid.objects
-        (λ n. one_now (is_partition n) s.partitions row) (λ n. none_now (count_by (is_bell n) s.bells) (s.next_serial == n)) (λ n. none_now (count_by (is_queue n) s.queues) (s.next_serial == n)) valid.rows;
+    objects = add_keeps_objects s.next_serial s.objects object refl valid.objects
+        (ap (is_of_kind kind.Partition) made)
+        (few_partitions s kind.Partition (lt-leb PARTITIONS (kind_count s kind.Partition) fewer)
+        valid.objects.partitions)
+        (few_cspaces s kind.Partition (lt-leb PARTITIONS (kind_count s kind.Partition) fewer)
+        valid.objects.cspaces);
+    slots = slots_live_on s.next_serial (s.next_serial + 1) 0 s.objects (s.objects ++ object ∷ [])
+        s.caps s.set_at (omega arith) (lives_beside s.objects object) valid.slots;
+    rows = rows_now s.next_serial s.objects object s.partitions (s.partitions ++ row ∷ []) s.bells
+        s.bells s.queues s.queues s.extents refl valid.objects
+        (λ n. one_now (is_partition n) s.partitions row)
+        (λ n. none_now (count_by (is_bell n) s.bells) (s.next_serial == n))
+        (λ n. none_now (count_by (is_queue n) s.queues) (s.next_serial == n)) valid.rows;
     units = units_now;
     pages = valid.pages;
-    mappings = lives_keep_mappings s.objects (s.objects ++ object ∷ []) s.extents s.mappings (lives_beside s.objects object) valid.mappings;
-    cpus = cpus_live_on s.objects (s.objects ++ object ∷ []) s.cpus s.links (lives_beside s.objects object) valid.cpus;
+    mappings = lives_keep_mappings s.objects (s.objects ++ object ∷ []) s.extents s.mappings
+        (lives_beside s.objects object) valid.mappings;
+    cpus = cpus_live_on s.objects (s.objects ++ object ∷ []) s.cpus s.links
+        (lives_beside s.objects object) valid.cpus;
     queues = valid.queues;
     retired = λ n is. absurd (both_ways _ (unretired_beside s.objects object refl n (fresh n)) is);
     parcels = valid.parcels;
   }
 
-pub partition_valid : (s : State) (quota : ℕ) → IsValidTo 0 s → NoneRetired s → IsTrue (line_fits s (Partition quota)) → IsValidTo 0 (after_line s (Partition quota))
+pub partition_valid : (s : State) (quota : ℕ) → IsValidTo 0 s → NoneRetired s
+    → IsTrue (line_fits s (Partition quota)) → IsValidTo 0 (after_line s (Partition quota))
 partition_valid s quota valid fresh fits =
     let last : _ × (nat_lt (kind_count s kind.Partition) PARTITIONS ≡ true) = and_parts _ _ fits in
-    let first : (nat_le 1 quota ≡ true) × (nat_le quota PARTITION_UNITS ≡ true) = and_parts _ _ last.0 in
-    partition_made s quota valid (leb-true 1 quota first.0) (leb-true quota PARTITION_UNITS first.1) fresh (ltb-true (kind_count s kind.Partition) PARTITIONS last.1)
+    let first : (nat_le 1 quota ≡ true) × (nat_le quota PARTITION_UNITS ≡ true) =
+    and_parts _ _ last.0 in
+    partition_made s quota valid (leb-true 1 quota first.0) (leb-true quota PARTITION_UNITS first.1)
+    fresh (ltb-true (kind_count s kind.Partition) PARTITIONS last.1)

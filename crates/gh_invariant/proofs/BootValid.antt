@@ -32,24 +32,34 @@ record IsBooted (s : State) : Type 0 where
   pub running : AllRunning s
 
 -- each line but the pages
-line_valid : (s : State) (line : BootLine) → 0 < length s.holders → IsTrue (line_fits s line) → IsBooted s → IsValidTo 0 (after_line s line)
+line_valid : (s : State) (line : BootLine) → 0 < length s.holders → IsTrue (line_fits s line)
+    → IsBooted s → IsValidTo 0 (after_line s line)
 line_valid s (Pages count) some fits booted = absurd (let never : ⊥ = cc in never)
-line_valid s (Partition quota) some fits booted = partition_valid s quota booted.valid booted.fresh fits
-line_valid s (Cspace partition) some fits booted = cspace_valid s partition booted.valid booted.fresh fits
-line_valid s (Addrspace partition) some fits booted = space_valid s partition booted.valid booted.fresh fits
-line_valid s (Doorbell partition) some fits booted = bell_valid s partition booted.valid booted.fresh fits
-line_valid s (RootExtent partition) some fits booted = root_valid s partition booted.valid booted.fresh some fits
+line_valid s (Partition quota) some fits booted =
+    partition_valid s quota booted.valid booted.fresh fits
+line_valid s (Cspace partition) some fits booted =
+    cspace_valid s partition booted.valid booted.fresh fits
+line_valid s (Addrspace partition) some fits booted =
+    space_valid s partition booted.valid booted.fresh fits
+line_valid s (Doorbell partition) some fits booted =
+    bell_valid s partition booted.valid booted.fresh fits
+line_valid s (RootExtent partition) some fits booted =
+    root_valid s partition booted.valid booted.fresh some fits
 line_valid s (Extent partition parent offset count access held_offset held_count) some fits booted =
-    extent_valid s partition parent offset count access held_offset held_count booted.valid booted.fresh fits
+    extent_valid s partition parent offset count access held_offset held_count booted.valid
+    booted.fresh fits
 line_valid s (Msgqueue partition depth size) some fits booted =
     queue_valid s partition depth size booted.valid booted.fresh fits
 line_valid s (Map space extent base offset count access) some fits booted =
     map_valid s space extent base offset count access booted.valid booted.fresh fits
 line_valid s (Cap cspace slot object rights master) some fits booted =
     cap_valid s booted.valid cspace slot object rights master booted.fresh fits
-line_valid s (Vm cspace space) some fits booted = vm_valid s booted.valid booted.fresh cspace space (line_numbered s (Vm cspace space) fits booted.numbered).once fits
+line_valid s (Vm cspace space) some fits booted =
+    vm_valid s booted.valid booted.fresh cspace space
+    (line_numbered s (Vm cspace space) fits booted.numbered).once fits
 line_valid s (Rm cspace space partition) some fits booted =
-    rm_valid s booted.valid booted.fresh cspace space partition (line_numbered s (Rm cspace space partition) fits booted.numbered).once fits
+    rm_valid s booted.valid booted.fresh cspace space partition
+    (line_numbered s (Rm cspace space partition) fits booted.numbered).once fits
 line_valid s (Link vm extent request reply) some fits booted =
     link_valid s booted.valid booted.fresh booted.running vm extent request reply fits
 
@@ -70,20 +80,28 @@ line_runs s (Link vm extent request reply) running = running
 
 line_fresh : (s : State) (line : BootLine) → NoneRetired s → NoneRetired (after_line s line)
 line_fresh s (Pages count) fresh = fresh
-line_fresh s (Partition quota) fresh = λ object. unretired_beside s.objects _ refl object (fresh object)
-line_fresh s (Cspace partition) fresh = λ object. unretired_beside s.objects _ refl object (fresh object)
-line_fresh s (Addrspace partition) fresh = λ object. unretired_beside s.objects _ refl object (fresh object)
-line_fresh s (Doorbell partition) fresh = λ object. unretired_beside s.objects _ refl object (fresh object)
-line_fresh s (RootExtent partition) fresh = λ object. unretired_beside s.objects _ refl object (fresh object)
-line_fresh s (Extent partition parent offset count access held_offset held_count) fresh = λ object. unretired_beside s.objects _ refl object (fresh object)
-line_fresh s (Msgqueue partition depth size) fresh = λ object. unretired_beside s.objects _ refl object (fresh object)
+line_fresh s (Partition quota) fresh =
+    λ object. unretired_beside s.objects _ refl object (fresh object)
+line_fresh s (Cspace partition) fresh =
+    λ object. unretired_beside s.objects _ refl object (fresh object)
+line_fresh s (Addrspace partition) fresh =
+    λ object. unretired_beside s.objects _ refl object (fresh object)
+line_fresh s (Doorbell partition) fresh =
+    λ object. unretired_beside s.objects _ refl object (fresh object)
+line_fresh s (RootExtent partition) fresh =
+    λ object. unretired_beside s.objects _ refl object (fresh object)
+line_fresh s (Extent partition parent offset count access held_offset held_count) fresh =
+    λ object. unretired_beside s.objects _ refl object (fresh object)
+line_fresh s (Msgqueue partition depth size) fresh =
+    λ object. unretired_beside s.objects _ refl object (fresh object)
 line_fresh s (Map space extent base offset count access) fresh = fresh
 line_fresh s (Cap cspace slot object rights master) fresh = fresh
 line_fresh s (Vm cspace space) fresh = fresh
 line_fresh s (Rm cspace space partition) fresh = fresh
 line_fresh s (Link vm extent request reply) fresh = fresh
 
-line_booted : (s : State) (line : BootLine) → 0 < length s.holders → IsTrue (line_fits s line) → IsBooted s → IsBooted (after_line s line)
+line_booted : (s : State) (line : BootLine) → 0 < length s.holders → IsTrue (line_fits s line)
+    → IsBooted s → IsBooted (after_line s line)
 line_booted s line some fits booted = record {
   valid = line_valid s line some fits booted;
   numbered = line_numbered s line fits booted.numbered;
@@ -92,13 +110,29 @@ line_booted s line some fits booted = record {
 }
 
 -- a move of pages leaves a page
-moved_some : (first count : ℕ) (holder : Serial) (holders : List Serial) → 0 < length holders → 0 < length (move_pages first count holder holders)
+moved_some : (first count : ℕ) (holder : Serial) (holders : List Serial) → 0 < length holders
+    → 0 < length (move_pages first count holder holders)
 moved_some first count holder holders some =
-    let all : length (move_pages first count holder holders) ≡ length (take first holders ++ replicate count holder) + length (drop (first + count) holders) = length-append (take first holders ++ replicate count holder) (drop (first + count) holders) in
-    let more : length (take first holders ++ replicate count holder) ≡ length (take first holders) + length (replicate count holder) = length-append (take first holders) (replicate count holder) in
-    omega (arith, all, more, length-take first holders, length-replicate count holder, length-drop (first + count) holders)
+    let all : length (move_pages first count holder holders)
+    ≡ length (take first holders ++ replicate count holder)
+    + length (drop (first + count) holders) =
+    length-append (take first holders ++ replicate count holder)
+    (drop (first + count) holders) in
+    let more : length (take first holders ++ replicate count holder)
+    ≡ length (take first holders) + length (replicate count holder) =
+    length-append (take first holders) (replicate count holder) in
+    omega (
+      arith,
+      all,
+      more,
+      length-take first holders,
+      length-replicate count holder,
+      length-drop
+          (first + count) holders,
+    )
 
-line_pages : (s : State) (line : BootLine) → IsTrue (line_fits s line) → 0 < length s.holders → 0 < length (after_line s line).holders
+line_pages : (s : State) (line : BootLine) → IsTrue (line_fits s line) → 0 < length s.holders
+    → 0 < length (after_line s line).holders
 line_pages s (Pages count) fits some = absurd (let never : ⊥ = cc in never)
 line_pages s (Partition quota) fits some = some
 line_pages s (Cspace partition) fits some = some
@@ -107,7 +141,8 @@ line_pages s (Doorbell partition) fits some = some
 line_pages s (RootExtent partition) fits some =
     omega (arith, length-replicate (length s.holders) (serial_of s.next_serial))
 line_pages s (Extent partition parent offset count access held_offset held_count) fits some =
-    moved_some (first_page s parent.0 + offset + held_offset) held_count (serial_of s.next_serial) s.holders some
+    moved_some (first_page s parent.0 + offset + held_offset) held_count (serial_of s.next_serial)
+    s.holders some
 line_pages s (Msgqueue partition depth size) fits some = some
 line_pages s (Map space extent base offset count access) fits some = some
 line_pages s (Cap cspace slot object rights master) fits some = some
@@ -115,11 +150,14 @@ line_pages s (Vm cspace space) fits some = some
 line_pages s (Rm cspace space partition) fits some = some
 line_pages s (Link vm extent request reply) fits some = some
 
-lines_booted : (s : State) (lines : List BootLine) → 0 < length s.holders → IsTrue (lines_fit s lines) → IsBooted s → IsBooted (fold after_line s lines)
+lines_booted : (s : State) (lines : List BootLine) → 0 < length s.holders
+    → IsTrue (lines_fit s lines) → IsBooted s → IsBooted (fold after_line s lines)
 lines_booted s [] some fit booted = booted
 lines_booted s (line ∷ lines) some fit booted =
-    let parts : (line_fits s line ≡ true) × (lines_fit (after_line s line) lines ≡ true) = and_parts (line_fits s line) (lines_fit (after_line s line) lines) fit in
-    lines_booted (after_line s line) lines (line_pages s line parts.0 some) parts.1 (line_booted s line some parts.0 booted)
+    let parts : (line_fits s line ≡ true) × (lines_fit (after_line s line) lines ≡ true) =
+    and_parts (line_fits s line) (lines_fit (after_line s line) lines) fit in
+    lines_booted (after_line s line) lines (line_pages s line parts.0 some) parts.1
+    (line_booted s line some parts.0 booted)
 
 -- a machine of pages alone
 pages_booted : (count : ℕ) → count ≤ MACHINE_PAGES → IsBooted (after_line empty_state (Pages count))
@@ -148,7 +186,9 @@ pages_booted count few = record {
       extents = λ n. (let none : count_by (is_extent n) [] ≡ 0 = refl in omega arith);
     };
     units = record {
-      within = λ n above. (let used : used_by [] n ≡ 0 = refl in let given : given_by [] n ≡ 0 = refl in omega arith);
+      within = λ n above.
+          (let used : used_by [] n ≡ 0 = refl in let given : given_by [] n ≡ 0 =
+          refl in omega arith);
       quotas = refl;
       costs = refl;
     };
@@ -158,8 +198,18 @@ pages_booted count few = record {
       root = (let none : count_by is_parentless [] ≡ 0 = refl in omega arith);
       held = λ some page holder is. absurd (omega arith);
     };
-    mappings = record { stand = refl; few = λ n. (let none : count_by (is_row_of n) [] ≡ 0 = refl in omega arith); apart = refl };
-    cpus = record { once = λ n. (let none : count_by (is_cpu n) [] ≡ 0 = refl in omega arith); attached = refl; linked = refl };
+    mappings = record {
+      stand = refl;
+      few =
+          λ n. (let none : count_by (is_row_of n) [] ≡ 0 = refl in omega arith);
+      apart = refl;
+    };
+    cpus = record {
+      once = λ n. (let none : count_by (is_cpu n) [] ≡ 0 = refl in omega arith);
+      attached =
+          refl;
+      linked = refl;
+    };
     queues = refl;
     retired = λ object is. absurd (let never : ⊥ = cc in never);
     parcels = refl;
@@ -173,10 +223,17 @@ pages_booted count few = record {
 pub boot_valid : (lines : List BootLine) → IsTrue (boot_fits lines) → IsValid (boot_state lines)
 boot_valid [] fit = absurd (let never : ⊥ = cc in never)
 boot_valid (Pages count ∷ lines) fit =
-    let last = and_parts _ (is_complete (fold after_line (after_line empty_state (Pages count)) lines)) fit in
-    let first = and_parts (nat_le 1 count && nat_le count MACHINE_PAGES) (lines_fit (after_line empty_state (Pages count)) lines) last.0 in
-    let bounds : (nat_le 1 count ≡ true) × (nat_le count MACHINE_PAGES ≡ true) = and_parts _ _ first.0 in
+    let last = and_parts _
+    (is_complete (fold after_line (after_line empty_state (Pages count)) lines)) fit in
+    let first =
+    and_parts (nat_le 1 count && nat_le count MACHINE_PAGES)
+    (lines_fit (after_line empty_state (Pages count)) lines) last.0 in
+    let bounds : (nat_le 1 count ≡ true) × (nat_le count MACHINE_PAGES ≡ true) =
+    and_parts _ _ first.0 in
     let some : 1 ≤ count = leb-true 1 count bounds.0 in
-    valid_more 0 (boot_state (Pages count ∷ lines)).entries (boot_state (Pages count ∷ lines)) (omega arith)
-    (lines_booted (after_line empty_state (Pages count)) lines (omega (arith, length-replicate count (serial_of 0))) first.1 (pages_booted count (leb-true count MACHINE_PAGES bounds.1))).valid
+    valid_more 0 (boot_state (Pages count ∷ lines)).entries (boot_state (Pages count ∷ lines))
+    (omega arith)
+    (lines_booted (after_line empty_state (Pages count)) lines
+    (omega (arith, length-replicate count (serial_of 0))) first.1
+    (pages_booted count (leb-true count MACHINE_PAGES bounds.1))).valid
 boot_valid (_ ∷ lines) fit = absurd (let never : ⊥ = cc in never)

@@ -226,13 +226,6 @@ count_same p q [] same = refl
 count_same p q (row ∷ rows) same =
     count_cons p row rows ∙ ap (λ (b : Bool). one_if b + count_by p rows) (same row) ∙ ap (λ (n : ℕ). one_if (q row) + n) (count_same p q rows same) ∙ sym (count_cons q row rows)
 
--- and find alike
-pub find_same : {R : Type 0} (p q : R → Bool) (rows : List R) → ((row : R) → p row ≡ q row)
-    → find p rows ≡ find q rows
-find_same p q [] same = refl
-find_same {R = R} p q (row ∷ rows) same =
-    rw (same row) (ap (λ (o : Option R). if q row then Some row else o) (find_same p q rows same))
-
 one_most : (b c : Bool) → (b ≡ true → c ≡ true) → one_if b ≤ one_if c
 one_most false c follows = let none : one_if false ≡ 0 = refl in omega arith
 one_most true c follows = let one : one_if true ≡ 1 = refl in let also : one_if c ≡ 1 = one_true c (follows refl) in omega arith

@@ -1,4 +1,5 @@
--- A change that may be made keeps what is said of objects, of rows of their kinds, of units, of pages
+-- A change that may be made keeps what is said of objects, of rows of their kinds, of units, of
+-- pages
 -- and of mapping rows.
 use Rattle.std.proofs.Common.{◌≡◌, ◌+◌, ◌≤◌, ◌<◌, ◌∙◌, ◌==◌, ◌++◌, ℕ, zero, suc, Bool, true, false, List, [], ◌∷◌, refl, sym, ap, arith, IsTrue, Option, Some, None, find, nat_le}
 use Rattle.std.specs.Prelude.{count_by}
@@ -59,15 +60,26 @@ room_for most total room =
 room_as : (most total : ℕ) → total ≤ most → total + one_if false ≤ most
 room_as most total within = (let none : one_if false ≡ 0 = refl in omega arith)
 
-pub few_partitions : (s : State) (k : Kind) → is_full s k ≡ false → kind_total s.objects kind.Partition ≤ PARTITIONS → kind_total s.objects kind.Partition + one_if (kind_number k == kind_number kind.Partition) ≤ PARTITIONS
-few_partitions s kind.Partition room within = room_for PARTITIONS (kind_total s.objects kind.Partition) room
-few_partitions s kind.Cspace room within = room_as PARTITIONS (kind_total s.objects kind.Partition) within
-few_partitions s kind.Space room within = room_as PARTITIONS (kind_total s.objects kind.Partition) within
-few_partitions s kind.Extent room within = room_as PARTITIONS (kind_total s.objects kind.Partition) within
-few_partitions s kind.Bell room within = room_as PARTITIONS (kind_total s.objects kind.Partition) within
-few_partitions s kind.Queue room within = room_as PARTITIONS (kind_total s.objects kind.Partition) within
+pub few_partitions : (s : State) (k : Kind) → is_full s k ≡ false
+    → kind_total s.objects kind.Partition ≤ PARTITIONS
+    → kind_total s.objects kind.Partition + one_if (kind_number k == kind_number kind.Partition)
+    ≤ PARTITIONS
+few_partitions s kind.Partition room within =
+    room_for PARTITIONS (kind_total s.objects kind.Partition) room
+few_partitions s kind.Cspace room within =
+    room_as PARTITIONS (kind_total s.objects kind.Partition) within
+few_partitions s kind.Space room within =
+    room_as PARTITIONS (kind_total s.objects kind.Partition) within
+few_partitions s kind.Extent room within =
+    room_as PARTITIONS (kind_total s.objects kind.Partition) within
+few_partitions s kind.Bell room within =
+    room_as PARTITIONS (kind_total s.objects kind.Partition) within
+few_partitions s kind.Queue room within =
+    room_as PARTITIONS (kind_total s.objects kind.Partition) within
 
-pub few_cspaces : (s : State) (k : Kind) → is_full s k ≡ false → kind_total s.objects kind.Cspace ≤ CSPACES → kind_total s.objects kind.Cspace + one_if (kind_number k == kind_number kind.Cspace) ≤ CSPACES
+pub few_cspaces : (s : State) (k : Kind) → is_full s k ≡ false
+    → kind_total s.objects kind.Cspace ≤ CSPACES
+    → kind_total s.objects kind.Cspace + one_if (kind_number k == kind_number kind.Cspace) ≤ CSPACES
 few_cspaces s kind.Cspace room within = room_for CSPACES (kind_total s.objects kind.Cspace) room
 few_cspaces s kind.Partition room within = room_as CSPACES (kind_total s.objects kind.Cspace) within
 few_cspaces s kind.Space room within = room_as CSPACES (kind_total s.objects kind.Cspace) within
@@ -76,18 +88,25 @@ few_cspaces s kind.Bell room within = room_as CSPACES (kind_total s.objects kind
 few_cspaces s kind.Queue room within = room_as CSPACES (kind_total s.objects kind.Cspace) within
 
 -- objects
-pub objects_kept : (last : ℕ) (s : State) (change : Change) → IsValidTo last s → MayChange s change → ObjectsFit (changed s change).next_serial (changed s change).objects
+pub objects_kept : (last : ℕ) (s : State) (change : Change) → IsValidTo last s → MayChange s change
+    → ObjectsFit (changed s change).next_serial (changed s change).objects
 objects_kept last s (PutCapability row) valid may = valid.objects
 objects_kept last s (DropCapability cspace slot) valid may = valid.objects
 objects_kept last s (RevokeCapability cspace slot) valid may = valid.objects
 objects_kept last s (AddObject row) valid may =
-    add_keeps_objects s.next_serial s.objects row may.serial valid.objects (lives_beside s.objects row row.partition.0 kind.Partition may.partition) (few_partitions s row.kind may.room valid.objects.partitions) (few_cspaces s row.kind may.room valid.objects.cspaces)
+    add_keeps_objects s.next_serial s.objects row may.serial valid.objects
+    (lives_beside s.objects row row.partition.0 kind.Partition may.partition)
+    (few_partitions s row.kind may.room valid.objects.partitions)
+    (few_cspaces s row.kind may.room valid.objects.cspaces)
 objects_kept last s (SetStage object stage) valid may =
-    change_keeps_objects (is_object object.0) (with_stage stage) (stage_keeps stage) s.objects s.next_serial valid.objects
+    change_keeps_objects (is_object object.0) (with_stage stage) (stage_keeps stage) s.objects
+    s.next_serial valid.objects
 objects_kept last s (Retire object seen) valid may =
-    change_keeps_objects (is_object object.0) (with_counters seen) (counters_keep seen) s.objects s.next_serial valid.objects
+    change_keeps_objects (is_object object.0) (with_counters seen) (counters_keep seen) s.objects
+    s.next_serial valid.objects
 objects_kept last s (Reclaim object) valid may =
-    reclaim_keeps_objects s.next_serial s.objects object.0 (unreferenced s object.0 may.doomed).inhabitants valid.objects
+    reclaim_keeps_objects s.next_serial s.objects object.0
+    (unreferenced s object.0 may.doomed).inhabitants valid.objects
 objects_kept last s (GiveQuota partition quota) valid may = valid.objects
 objects_kept last s (AddExtent row) valid may = valid.objects
 objects_kept last s (MovePages first count holder) valid may = valid.objects
@@ -95,7 +114,8 @@ objects_kept last s (PutMapping row) valid may = valid.objects
 objects_kept last s (DropMapping row) valid may = valid.objects
 objects_kept last s (SetBell row) valid may = valid.objects
 objects_kept last s (ConfigureQueue queue depth size cost) valid may =
-    change_keeps_objects (is_object queue.0) (with_cost cost) (cost_keeps cost) s.objects s.next_serial valid.objects
+    change_keeps_objects (is_object queue.0) (with_cost cost) (cost_keeps cost) s.objects
+    s.next_serial valid.objects
 objects_kept last s (PutMessage queue message) valid may = valid.objects
 objects_kept last s (DropMessage queue) valid may = valid.objects
 objects_kept last s (EmptyQueue queue) valid may = valid.objects
@@ -104,79 +124,129 @@ objects_kept last s Ring valid may = valid.objects
 
 -- the rows of each kind
 
-stay_rows : (s : State) (new : List ObjectRow) → ((n : ℕ) (k : Kind) → lives_as new n k ≡ lives_as s.objects n k) → KindRowsFit s.objects s.partitions s.bells s.queues s.extents → KindRowsFit new s.partitions s.bells s.queues s.extents
+stay_rows : (s : State) (new : List ObjectRow)
+    → ((n : ℕ) (k : Kind) → lives_as new n k ≡ lives_as s.objects n k)
+    → KindRowsFit s.objects s.partitions s.bells s.queues s.extents
+    → KindRowsFit new s.partitions s.bells s.queues s.extents
 stay_rows s new lives rows =
-    same_rows s.objects new s.partitions s.partitions s.bells s.bells s.queues s.queues s.extents lives (λ n. refl) (λ n. refl) (λ n. refl) rows
+    same_rows s.objects new s.partitions s.partitions s.bells s.bells s.queues s.queues s.extents
+    lives (λ n. refl) (λ n. refl) (λ n. refl) rows
 
-queue_rows : (s : State) (queue : ℕ) (change : QueueRow → QueueRow) → ((row : QueueRow) → (change row).serial ≡ row.serial) → KindRowsFit s.objects s.partitions s.bells s.queues s.extents → KindRowsFit s.objects s.partitions s.bells (change_row (is_queue queue) change s.queues) s.extents
+queue_rows : (s : State) (queue : ℕ) (change : QueueRow → QueueRow)
+    → ((row : QueueRow) → (change row).serial ≡ row.serial)
+    → KindRowsFit s.objects s.partitions s.bells s.queues s.extents
+    → KindRowsFit s.objects s.partitions s.bells (change_row (is_queue queue) change s.queues)
+    s.extents
 queue_rows s queue change serial rows =
-    same_rows s.objects s.objects s.partitions s.partitions s.bells s.bells s.queues (change_row (is_queue queue) change s.queues) s.extents (λ n k. refl) (λ n. refl) (λ n. refl) (λ n. count_change_kept (is_queue n) (is_queue queue) change s.queues (λ row. ap (λ (one : Serial). one.0 == n) (serial row))) rows
+    same_rows s.objects s.objects s.partitions s.partitions s.bells s.bells s.queues
+    (change_row (is_queue queue) change s.queues) s.extents (λ n k. refl) (λ n. refl)
+    (λ n. refl)
+    (λ n. count_change_kept (is_queue n) (is_queue queue) change s.queues
+    (λ row. ap (λ (one : Serial). one.0 == n) (serial row))) rows
 
-pub rows_kept : (last : ℕ) (s : State) (change : Change) → IsValidTo last s → MayChange s change → KindRowsFit (changed s change).objects (changed s change).partitions (changed s change).bells (changed s change).queues (changed s change).extents
+pub rows_kept : (last : ℕ) (s : State) (change : Change) → IsValidTo last s → MayChange s change
+    → KindRowsFit (changed s change).objects (changed s change).partitions (changed s change).bells
+    (changed s change).queues (changed s change).extents
 rows_kept last s (PutCapability row) valid may = valid.rows
 rows_kept last s (DropCapability cspace slot) valid may = valid.rows
 rows_kept last s (RevokeCapability cspace slot) valid may = valid.rows
 rows_kept last s (AddObject row) valid may =
-    add_keeps_rows s.next_serial s.objects row may.serial valid.objects s.partitions s.bells s.queues s.extents valid.rows
+    add_keeps_rows s.next_serial s.objects row may.serial valid.objects s.partitions s.bells
+    s.queues s.extents valid.rows
 rows_kept last s (SetStage object stage) valid may =
-    stay_rows s (changed s (SetStage object stage)).objects (lives_kept (is_object object.0) (with_stage stage) (stage_keeps stage) s.objects) valid.rows
+    stay_rows s (changed s (SetStage object stage)).objects
+    (lives_kept (is_object object.0) (with_stage stage) (stage_keeps stage) s.objects)
+    valid.rows
 rows_kept last s (Retire object seen) valid may =
-    stay_rows s (changed s (Retire object seen)).objects (lives_kept (is_object object.0) (with_counters seen) (counters_keep seen) s.objects) valid.rows
+    stay_rows s (changed s (Retire object seen)).objects
+    (lives_kept (is_object object.0) (with_counters seen) (counters_keep seen) s.objects)
+    valid.rows
 rows_kept last s (Reclaim object) valid may =
     reclaim_keeps_rows s.objects object.0 s.partitions s.bells s.queues s.extents valid.rows
 rows_kept last s (GiveQuota partition quota) valid may =
-    same_rows s.objects s.objects s.partitions (changed s (GiveQuota partition quota)).partitions s.bells s.bells s.queues s.queues s.extents (λ n k. refl) (λ n. count_change_kept (is_partition n) (is_partition partition.0) (with_quota quota) s.partitions (λ row. refl)) (λ n. refl) (λ n. refl) valid.rows
+    same_rows s.objects s.objects s.partitions (changed s (GiveQuota partition quota)).partitions
+    s.bells s.bells s.queues s.queues s.extents (λ n k. refl)
+    (λ n. count_change_kept (is_partition n) (is_partition partition.0) (with_quota quota)
+    s.partitions (λ row. refl)) (λ n. refl) (λ n. refl) valid.rows
 rows_kept last s (AddExtent row) valid may =
-    span_keeps_rows s.objects s.partitions s.bells s.queues s.extents row may.kind may.none valid.rows
+    span_keeps_rows s.objects s.partitions s.bells s.queues s.extents row may.kind may.none
+    valid.rows
 rows_kept last s (MovePages first count holder) valid may = valid.rows
 rows_kept last s (PutMapping row) valid may = valid.rows
 rows_kept last s (DropMapping row) valid may = valid.rows
 rows_kept last s (SetBell row) valid may =
-    same_rows s.objects s.objects s.partitions s.partitions s.bells (changed s (SetBell row)).bells s.queues s.queues s.extents (λ n k. refl) (λ n. refl)
-    (λ n. count_change_where (is_bell n) (is_bell row.serial.0) (replaced row) s.bells (λ old is. ap (λ (m : ℕ). m == n) (sym (eqb-true old.serial.0 row.serial.0 is)))) (λ n. refl) valid.rows
+    same_rows s.objects s.objects s.partitions s.partitions s.bells (changed s (SetBell row)).bells
+    s.queues s.queues s.extents (λ n k. refl) (λ n. refl)
+    (λ n. count_change_where (is_bell n) (is_bell row.serial.0) (replaced row) s.bells
+    (λ old is. ap (λ (m : ℕ). m == n) (sym (eqb-true old.serial.0 row.serial.0 is))))
+    (λ n. refl) valid.rows
 rows_kept last s (ConfigureQueue queue depth size cost) valid may =
-    same_rows s.objects (changed s (ConfigureQueue queue depth size cost)).objects s.partitions s.partitions s.bells s.bells s.queues (changed s (ConfigureQueue queue depth size cost)).queues s.extents
-    (lives_kept (is_object queue.0) (with_cost cost) (cost_keeps cost) s.objects) (λ n. refl) (λ n. refl) (λ n. count_change_kept (is_queue n) (is_queue queue.0) (with_room depth size) s.queues (λ row. refl)) valid.rows
+    same_rows s.objects (changed s (ConfigureQueue queue depth size cost)).objects s.partitions
+    s.partitions s.bells s.bells s.queues
+    (changed s (ConfigureQueue queue depth size cost)).queues s.extents
+    (lives_kept (is_object queue.0) (with_cost cost) (cost_keeps cost) s.objects) (λ n. refl)
+    (λ n. refl)
+    (λ n. count_change_kept (is_queue n) (is_queue queue.0) (with_room depth size) s.queues
+    (λ row. refl)) valid.rows
 rows_kept last s (PutMessage queue message) valid may =
     queue_rows s queue.0 (with_message message) (λ row. refl) valid.rows
-rows_kept last s (DropMessage queue) valid may = queue_rows s queue.0 without_first (λ row. refl) valid.rows
-rows_kept last s (EmptyQueue queue) valid may = queue_rows s queue.0 without_messages (λ row. refl) valid.rows
+rows_kept last s (DropMessage queue) valid may =
+    queue_rows s queue.0 without_first (λ row. refl) valid.rows
+rows_kept last s (EmptyQueue queue) valid may =
+    queue_rows s queue.0 without_messages (λ row. refl) valid.rows
 rows_kept last s (Exit cpu) valid may = valid.rows
 rows_kept last s Ring valid may = valid.rows
 
 -- units
 
-pub no_row_by : {R : Type 0} (p : R → Bool) (rows : List R) (found : Option ObjectRow) (k : Kind) → found ≡ None → count_by p rows ≤ one_if (is_of_kind k found) → find p rows ≡ None
+pub no_row_by : {R : Type 0} (p : R → Bool) (rows : List R) (found : Option ObjectRow) (k : Kind)
+    → found ≡ None → count_by p rows ≤ one_if (is_of_kind k found) → find p rows ≡ None
 no_row_by p rows None k none few =
     unfound p rows (let zero : one_if (is_of_kind k None) ≡ 0 = refl in omega arith)
 no_row_by p rows (Some row) k none few = absurd (let never : ⊥ = cc in never)
 
-module _ (last : ℕ) (s : State) (row : ObjectRow) (valid : IsValidTo last s) (may : MayAdd s row) where
-  unmade : find (is_object row.serial.0) s.objects ≡ None
-  unmade =
-      unfound (is_object row.serial.0) s.objects (valid.objects.later row.serial.0 (let same : row.serial.0 ≡ s.next_serial = may.serial in omega arith))
+module _ (last : ℕ) (s : State) (row : ObjectRow) (valid : IsValidTo last s) (may : MayAdd s row)
+  where
+    unmade : find (is_object row.serial.0) s.objects ≡ None
+    unmade =
+        unfound (is_object row.serial.0) s.objects
+        (valid.objects.later row.serial.0
+        (let same : row.serial.0 ≡ s.next_serial = may.serial in omega arith))
 
-  housed_above : (row.partition.0 == 0) ≡ false
-  housed_above =
-      ne_eqb row.partition.0 0 (λ none. (let some : 0 < row.partition.0 = lives_some s.objects s.next_serial valid.objects row.partition.0 kind.Partition may.partition in omega arith))
+    housed_above : (row.partition.0 == 0) ≡ false
+    housed_above =
+        ne_eqb row.partition.0 0
+        (λ none. (let some : 0 < row.partition.0 =
+        lives_some s.objects s.next_serial valid.objects row.partition.0 kind.Partition
+        may.partition in omega arith))
 
-  added_units : UnitsFit (changed s (AddObject row)).objects (changed s (AddObject row)).partitions s.extents
-  added_units =
-      add_keeps_units s.objects s.partitions s.extents row valid.units unmade housed_above may.some may.units may.new
-      (no_row_by (is_partition row.serial.0) s.partitions (find (is_object row.serial.0) s.objects) kind.Partition unmade (let each : count_by (is_partition row.serial.0) s.partitions ≡ one_if (lives_as s.objects row.serial.0 kind.Partition) = valid.rows.partitions row.serial.0 in omega arith))
-      (no_row_by (is_extent row.serial.0) s.extents (find (is_object row.serial.0) s.objects) kind.Extent unmade (valid.rows.extents row.serial.0))
+    added_units : UnitsFit (changed s (AddObject row)).objects (changed s (AddObject row)).partitions
+        s.extents
+    added_units =
+        add_keeps_units s.objects s.partitions s.extents row valid.units unmade housed_above may.some
+        may.units may.new
+        (no_row_by (is_partition row.serial.0) s.partitions (find (is_object row.serial.0) s.objects)
+        kind.Partition unmade
+        (let each : count_by (is_partition row.serial.0) s.partitions
+        ≡ one_if (lives_as s.objects row.serial.0 kind.Partition) =
+        valid.rows.partitions row.serial.0 in omega arith))
+        (no_row_by (is_extent row.serial.0) s.extents (find (is_object row.serial.0) s.objects)
+        kind.Extent unmade (valid.rows.extents row.serial.0))
 
 retired_found : (found : Option ObjectRow) → found ≡ None → IsTrue (is_retired found) → ⊥
 retired_found None none retired = (let never : ⊥ = cc in never)
 retired_found (Some row) none retired = (let never : ⊥ = cc in never)
 
 -- an object that is retired has a serial above 0
-retired_some : (last : ℕ) (s : State) (object : ℕ) → IsValidTo last s → IsTrue (is_retired (object_row s object)) → 0 < object
+retired_some : (last : ℕ) (s : State) (object : ℕ) → IsValidTo last s
+    → IsTrue (is_retired (object_row s object)) → 0 < object
 retired_some last s zero valid retired =
-    absurd (retired_found (object_row s 0) (unfound (is_object 0) s.objects valid.objects.none) retired)
+    absurd (retired_found (object_row s 0) (unfound (is_object 0) s.objects valid.objects.none)
+    retired)
 retired_some last s (suc n) valid retired = omega arith
 
-pub units_kept : (last : ℕ) (s : State) (change : Change) → IsValidTo last s → MayChange s change → UnitsFit (changed s change).objects (changed s change).partitions (changed s change).extents
+pub units_kept : (last : ℕ) (s : State) (change : Change) → IsValidTo last s → MayChange s change
+    → UnitsFit (changed s change).objects (changed s change).partitions (changed s change).extents
 units_kept last s (PutCapability row) valid may = valid.units
 units_kept last s (DropCapability cspace slot) valid may = valid.units
 units_kept last s (RevokeCapability cspace slot) valid may = valid.units
@@ -186,17 +256,23 @@ units_kept last s (SetStage object stage) valid may =
 units_kept last s (Retire object seen) valid may =
     retire_keeps_units s.objects s.partitions s.extents valid.units (is_object object.0) seen
 units_kept last s (Reclaim object) valid may =
-    reclaim_keeps_units s.objects s.partitions s.extents object.0 (retired_some last s object.0 valid may.retired) (unreferenced s object.0 may.doomed).inhabitants valid.units (valid.objects.once object.0) (partition_once last s valid object.0)
+    reclaim_keeps_units s.objects s.partitions s.extents object.0
+    (retired_some last s object.0 valid may.retired)
+    (unreferenced s object.0 may.doomed).inhabitants valid.units (valid.objects.once object.0)
+    (partition_once last s valid object.0)
 units_kept last s (GiveQuota partition quota) valid may =
-    give_keeps_units s.objects s.partitions s.extents valid.units valid.objects.once may.row partition.0 quota may.found may.none may.small may.units may.stage
+    give_keeps_units s.objects s.partitions s.extents valid.units valid.objects.once may.row
+    partition.0 quota may.found may.none may.small may.units may.stage
 units_kept last s (AddExtent row) valid may =
-    span_keeps_units s.objects s.partitions s.extents row may.object valid.units valid.objects.once may.lives may.stage
+    span_keeps_units s.objects s.partitions s.extents row may.object valid.units valid.objects.once
+    may.lives may.stage
 units_kept last s (MovePages first count holder) valid may = valid.units
 units_kept last s (PutMapping row) valid may = valid.units
 units_kept last s (DropMapping row) valid may = valid.units
 units_kept last s (SetBell row) valid may = valid.units
 units_kept last s (ConfigureQueue queue depth size cost) valid may =
-    configure_keeps_units s.objects s.partitions s.extents valid.units may.row (is_object queue.0) may.found cost may.one may.some may.units may.stage
+    configure_keeps_units s.objects s.partitions s.extents valid.units may.row (is_object queue.0)
+    may.found cost may.one may.some may.units may.stage
 units_kept last s (PutMessage queue message) valid may = valid.units
 units_kept last s (DropMessage queue) valid may = valid.units
 units_kept last s (EmptyQueue queue) valid may = valid.units
@@ -204,7 +280,8 @@ units_kept last s (Exit cpu) valid may = valid.units
 units_kept last s Ring valid may = valid.units
 
 -- pages
-pub pages_kept : (last : ℕ) (s : State) (change : Change) → IsValidTo last s → MayChange s change → PagesFit (changed s change).holders (changed s change).extents
+pub pages_kept : (last : ℕ) (s : State) (change : Change) → IsValidTo last s → MayChange s change
+    → PagesFit (changed s change).holders (changed s change).extents
 pages_kept last s (PutCapability row) valid may = valid.pages
 pages_kept last s (DropCapability cspace slot) valid may = valid.pages
 pages_kept last s (RevokeCapability cspace slot) valid may = valid.pages
@@ -212,7 +289,8 @@ pages_kept last s (AddObject row) valid may = valid.pages
 pages_kept last s (SetStage object stage) valid may = valid.pages
 pages_kept last s (Retire object seen) valid may = valid.pages
 pages_kept last s (Reclaim object) valid may =
-    reclaim_keeps_pages object.0 s.holders s.extents (unreferenced s object.0 may.doomed).children (unreferenced s object.0 may.doomed).root valid.pages
+    reclaim_keeps_pages object.0 s.holders s.extents (unreferenced s object.0 may.doomed).children
+    (unreferenced s object.0 may.doomed).root valid.pages
 pages_kept last s (GiveQuota partition quota) valid may = valid.pages
 pages_kept last s (AddExtent row) valid may =
     add_keeps_pages s.holders s.extents row may.parent may.fits valid.pages
@@ -230,16 +308,22 @@ pages_kept last s Ring valid may = valid.pages
 
 -- mapping rows
 
-changed_mappings : (s : State) (object : ℕ) (change : ObjectRow → ObjectRow) → KeepsPlace change → MappingsFit s.objects s.extents s.mappings → MappingsFit (change_row (is_object object) change s.objects) s.extents s.mappings
+changed_mappings : (s : State) (object : ℕ) (change : ObjectRow → ObjectRow) → KeepsPlace change
+    → MappingsFit s.objects s.extents s.mappings
+    → MappingsFit (change_row (is_object object) change s.objects) s.extents s.mappings
 changed_mappings s object change keeps fit =
-    lives_keep_mappings s.objects (change_row (is_object object) change s.objects) s.extents s.mappings (λ serial k lives. lives_kept (is_object object) change keeps s.objects serial k ∙ lives) fit
+    lives_keep_mappings s.objects (change_row (is_object object) change s.objects) s.extents
+    s.mappings (λ serial k lives. lives_kept (is_object object) change keeps s.objects serial k
+    ∙ lives) fit
 
-pub mappings_kept : (last : ℕ) (s : State) (change : Change) → IsValidTo last s → MayChange s change → MappingsFit (changed s change).objects (changed s change).extents (changed s change).mappings
+pub mappings_kept : (last : ℕ) (s : State) (change : Change) → IsValidTo last s → MayChange s change
+    → MappingsFit (changed s change).objects (changed s change).extents (changed s change).mappings
 mappings_kept last s (PutCapability row) valid may = valid.mappings
 mappings_kept last s (DropCapability cspace slot) valid may = valid.mappings
 mappings_kept last s (RevokeCapability cspace slot) valid may = valid.mappings
 mappings_kept last s (AddObject row) valid may =
-    lives_keep_mappings s.objects (s.objects ++ row ∷ []) s.extents s.mappings (lives_beside s.objects row) valid.mappings
+    lives_keep_mappings s.objects (s.objects ++ row ∷ []) s.extents s.mappings
+    (lives_beside s.objects row) valid.mappings
 mappings_kept last s (SetStage object stage) valid may =
     changed_mappings s object.0 (with_stage stage) (stage_keeps stage) valid.mappings
 mappings_kept last s (Retire object seen) valid may =
@@ -251,9 +335,11 @@ mappings_kept last s (AddExtent row) valid may =
     span_keeps_mappings s.objects s.extents s.mappings row valid.mappings
 mappings_kept last s (MovePages first count holder) valid may = valid.mappings
 mappings_kept last s (PutMapping row) valid may =
-    put_keeps_mappings s.objects s.extents s.mappings valid.mappings row may.stands may.apart may.few
+    put_keeps_mappings s.objects s.extents s.mappings valid.mappings row may.stands may.apart
+    may.few
 mappings_kept last s (DropMapping row) valid may =
-    drop_keeps_mappings s.objects s.extents s.mappings valid.mappings (is_mapping row.space.0 row.extent.0 row.base row.offset row.count)
+    drop_keeps_mappings s.objects s.extents s.mappings valid.mappings
+    (is_mapping row.space.0 row.extent.0 row.base row.offset row.count)
 mappings_kept last s (SetBell row) valid may = valid.mappings
 mappings_kept last s (ConfigureQueue queue depth size cost) valid may =
     changed_mappings s queue.0 (with_cost cost) (cost_keeps cost) valid.mappings

@@ -33,7 +33,8 @@ pub queue_parts : (row : QueueRow) → IsTrue (queue_fits row) → QueueParts ro
 queue_parts row fits =
     let last : _ × (list_all (is_short row.size) row.messages ≡ true) = and_parts _ _ fits in
     let third : _ × (nat_le (length row.messages) row.depth ≡ true) = and_parts _ _ last.0 in
-    let first : (nat_le row.depth QUEUE_DEPTH ≡ true) × (nat_le row.size MESSAGE_BYTES ≡ true) = and_parts _ _ third.0 in
+    let first : (nat_le row.depth QUEUE_DEPTH ≡ true) × (nat_le row.size MESSAGE_BYTES ≡ true) =
+    and_parts _ _ third.0 in
     record {
       deep = leb-true row.depth QUEUE_DEPTH first.0;
       wide = leb-true row.size MESSAGE_BYTES first.1;
@@ -43,24 +44,33 @@ queue_parts row fits =
 
 pub queue_from : (row : QueueRow) → QueueParts row → IsTrue (queue_fits row)
 queue_from row parts =
-    and_from _ _ (and_from _ _ (and_from _ _ (le-leb row.depth QUEUE_DEPTH parts.deep) (le-leb row.size MESSAGE_BYTES parts.wide)) (le-leb (length row.messages) row.depth parts.few)) parts.short
+    and_from _ _
+    (and_from _ _
+    (and_from _ _ (le-leb row.depth QUEUE_DEPTH parts.deep)
+    (le-leb row.size MESSAGE_BYTES parts.wide))
+    (le-leb (length row.messages) row.depth parts.few)) parts.short
 
 -- a message more, where there is room for it
-sent_fits : (row : QueueRow) (message : List ℕ) → length row.messages < row.depth → length message ≤ row.size → IsTrue (queue_fits row) → IsTrue (queue_fits (with_message message row))
+sent_fits : (row : QueueRow) (message : List ℕ) → length row.messages < row.depth
+    → length message ≤ row.size → IsTrue (queue_fits row)
+    → IsTrue (queue_fits (with_message message row))
 sent_fits row message room short fits =
     let parts : QueueParts row = queue_parts row fits in
     queue_from (with_message message row) (record {
       deep = parts.deep;
       wide = parts.wide;
       few = omega (arith, length-append row.messages (message ∷ []), room);
-      short = all_push (is_short row.size) row.messages message parts.short (le-leb (length message) row.size short);
+      short = all_push (is_short row.size) row.messages message parts.short
+          (le-leb (length message) row.size short);
     })
 
-rest_short : (size : ℕ) (messages : List (List ℕ)) → IsTrue (list_all (is_short size) messages) → IsTrue (list_all (is_short size) (drop 1 messages))
+rest_short : (size : ℕ) (messages : List (List ℕ)) → IsTrue (list_all (is_short size) messages)
+    → IsTrue (list_all (is_short size) (drop 1 messages))
 rest_short size [] short = refl
 rest_short size (message ∷ messages) short = (and_parts _ _ short).1
 
-rest_few : (messages : List (List ℕ)) (depth : ℕ) → length messages ≤ depth → length (drop 1 messages) ≤ depth
+rest_few : (messages : List (List ℕ)) (depth : ℕ) → length messages ≤ depth
+    → length (drop 1 messages) ≤ depth
 rest_few [] depth few = omega arith
 rest_few (message ∷ messages) depth few = omega arith
 
@@ -76,10 +86,12 @@ received_fits row fits =
     })
 
 -- no message
-emptied_fits : (row : QueueRow) → IsTrue (queue_fits row) → IsTrue (queue_fits (without_messages row))
+emptied_fits : (row : QueueRow) → IsTrue (queue_fits row)
+    → IsTrue (queue_fits (without_messages row))
 emptied_fits row fits =
     let parts : QueueParts row = queue_parts row fits in
-    queue_from (without_messages row) (record { deep = parts.deep; wide = parts.wide; few = omega arith; short = refl })
+    queue_from (without_messages row)
+    (record { deep = parts.deep; wide = parts.wide; few = omega arith; short = refl })
 
 -- a new queue has no room
 new_fits : (k : Kind) (serial : Serial) → IsTrue (list_all queue_fits (new_queues k serial))
@@ -90,20 +102,28 @@ new_fits kind.Space serial = refl
 new_fits kind.Extent serial = refl
 new_fits kind.Bell serial = refl
 
-send_keeps : (s : State) (queue : ℕ) (message : List ℕ) → IsTrue (list_all queue_fits s.queues) → MaySend s queue message → (row : QueueRow) → find (is_queue queue) s.queues ≡ Some row → IsTrue (queue_fits row) → IsTrue (queue_fits (with_message message row))
+send_keeps : (s : State) (queue : ℕ) (message : List ℕ) → IsTrue (list_all queue_fits s.queues)
+    → MaySend s queue message → (row : QueueRow) → find (is_queue queue) s.queues ≡ Some row
+    → IsTrue (queue_fits row) → IsTrue (queue_fits (with_message message row))
 send_keeps s queue message fit may row is fits =
-    let same : may.row ≡ row = (let found : find (is_queue queue) s.queues ≡ Some may.row = may.found in cc) in
-    sent_fits row message (subst (λ (one : QueueRow). length one.messages < one.depth) same may.room) (subst (λ (one : QueueRow). length message ≤ one.size) same may.short) fits
+    let same : may.row ≡ row =
+    (let found : find (is_queue queue) s.queues ≡ Some may.row = may.found in cc) in
+    sent_fits row message
+    (subst (λ (one : QueueRow). length one.messages < one.depth) same may.room)
+    (subst (λ (one : QueueRow). length message ≤ one.size) same may.short) fits
 
-pub queues_kept : (last : ℕ) (s : State) (change : Change) → IsValidTo last s → MayChange s change → IsTrue (list_all queue_fits (changed s change).queues)
+pub queues_kept : (last : ℕ) (s : State) (change : Change) → IsValidTo last s → MayChange s change
+    → IsTrue (list_all queue_fits (changed s change).queues)
 queues_kept last s (PutCapability row) valid may = valid.queues
 queues_kept last s (DropCapability cspace slot) valid may = valid.queues
 queues_kept last s (RevokeCapability cspace slot) valid may = valid.queues
 queues_kept last s (AddObject row) valid may =
-    list_all-append queue_fits s.queues (new_queues row.kind row.serial) ∙ and_from _ _ valid.queues (new_fits row.kind row.serial)
+    list_all-append queue_fits s.queues (new_queues row.kind row.serial)
+    ∙ and_from _ _ valid.queues (new_fits row.kind row.serial)
 queues_kept last s (SetStage object stage) valid may = valid.queues
 queues_kept last s (Retire object seen) valid may = valid.queues
-queues_kept last s (Reclaim object) valid may = all_without queue_fits (is_queue object.0) s.queues valid.queues
+queues_kept last s (Reclaim object) valid may =
+    all_without queue_fits (is_queue object.0) s.queues valid.queues
 queues_kept last s (GiveQuota partition quota) valid may = valid.queues
 queues_kept last s (AddExtent row) valid may = valid.queues
 queues_kept last s (MovePages first count holder) valid may = valid.queues
@@ -112,12 +132,17 @@ queues_kept last s (DropMapping row) valid may = valid.queues
 queues_kept last s (SetBell row) valid may = valid.queues
 queues_kept last s (ConfigureQueue queue depth size cost) valid may =
     all_change queue_fits (is_queue queue.0) (with_room depth size) s.queues
-    (λ row is fits. queue_from (with_room depth size row) (record { deep = may.deep; wide = may.wide; few = omega arith; short = refl })) valid.queues
+    (λ row is fits.
+    queue_from (with_room depth size row)
+    (record { deep = may.deep; wide = may.wide; few = omega arith; short = refl })) valid.queues
 queues_kept last s (PutMessage queue message) valid may =
-    all_change_found queue_fits (is_queue queue.0) (with_message message) s.queues (send_keeps s queue.0 message valid.queues may) valid.queues
+    all_change_found queue_fits (is_queue queue.0) (with_message message) s.queues
+    (send_keeps s queue.0 message valid.queues may) valid.queues
 queues_kept last s (DropMessage queue) valid may =
-    all_change queue_fits (is_queue queue.0) without_first s.queues (λ row is fits. received_fits row fits) valid.queues
+    all_change queue_fits (is_queue queue.0) without_first s.queues
+    (λ row is fits. received_fits row fits) valid.queues
 queues_kept last s (EmptyQueue queue) valid may =
-    all_change queue_fits (is_queue queue.0) without_messages s.queues (λ row is fits. emptied_fits row fits) valid.queues
+    all_change queue_fits (is_queue queue.0) without_messages s.queues
+    (λ row is fits. emptied_fits row fits) valid.queues
 queues_kept last s (Exit cpu) valid may = valid.queues
 queues_kept last s Ring valid may = valid.queues

@@ -22,45 +22,93 @@ one_at_most true = (let one : one_if true ≡ 1 = refl in omega arith)
 one_at_most false = (let none : one_if false ≡ 0 = refl in omega arith)
 
 -- a serial has one partition's row at most
-pub partition_once : (last : ℕ) (s : State) → IsValidTo last s → (serial : ℕ) → count_by (is_partition serial) s.partitions ≤ 1
+pub partition_once : (last : ℕ) (s : State) → IsValidTo last s → (serial : ℕ)
+    → count_by (is_partition serial) s.partitions ≤ 1
 partition_once last s valid serial =
-    omega (arith, valid.rows.partitions serial, one_at_most (lives_as s.objects serial kind.Partition))
+    omega (
+      arith,
+      valid.rows.partitions serial,
+      one_at_most
+          (lives_as s.objects serial kind.Partition),
+    )
 
 -- the units before and after a change, with those that it returns and takes
 abbrev pub Moves : State → Change → ℕ → Type 0
 Moves s change partition =
-    used_units (changed s change) partition + given_units (changed s change) partition + units_of partition (returns s change)
+    used_units (changed s change) partition + given_units (changed s change) partition
+    + units_of partition (returns s change)
     ≡ used_units s partition + given_units s partition + units_of partition (takes s change)
 
 added : (s : State) (row : ObjectRow) (partition : ℕ) → Moves s (AddObject row) partition
 added s row partition =
     let none : units_of partition [] ≡ 0 = refl in
-    omega (arith, used_push s.objects row partition, given_push s.partitions row.kind row.serial row.partition partition, cost_share partition (Some row))
+    omega (
+      arith,
+      used_push s.objects row partition,
+      given_push s.partitions row.kind row.serial
+          row.partition partition,
+      cost_share partition (Some row),
+    )
 
 given : (s : State) (one : Serial) (quota partition : ℕ) → Moves s (GiveQuota one quota) partition
 given s one quota partition =
-    omega (arith, given_change (is_partition one.0) (with_quota quota) s.partitions partition, quota_share partition (find (is_partition one.0) s.partitions), quota_instead_share partition quota (find (is_partition one.0) s.partitions))
+    omega (
+      arith,
+      given_change (is_partition one.0) (with_quota quota) s.partitions partition,
+      quota_share partition (find (is_partition one.0) s.partitions),
+      quota_instead_share
+          partition quota (find (is_partition one.0) s.partitions),
+    )
 
-configured : (s : State) (queue : Serial) (depth size cost partition : ℕ) → Moves s (ConfigureQueue queue depth size cost) partition
+configured : (s : State) (queue : Serial) (depth size cost partition : ℕ)
+    → Moves s (ConfigureQueue queue depth size cost) partition
 configured s queue depth size cost partition =
-    omega (arith, used_change (is_object queue.0) (with_cost cost) s.objects partition, cost_share partition (object_row s queue.0), cost_instead_share partition cost (object_row s queue.0))
+    omega (
+      arith,
+      used_change (is_object queue.0) (with_cost cost) s.objects partition,
+      cost_share
+          partition (object_row s queue.0),
+      cost_instead_share partition cost (object_row s queue.0),
+    )
 
-reclaimed : (last : ℕ) (s : State) (object : Serial) (partition : ℕ) → IsValidTo last s → Moves s (Reclaim object) partition
+reclaimed : (last : ℕ) (s : State) (object : Serial) (partition : ℕ) → IsValidTo last s
+    → Moves s (Reclaim object) partition
 reclaimed last s object partition valid =
     let none : units_of partition [] ≡ 0 = refl in
-    let both : units_of partition (returns s (Reclaim object)) ≡ units_of partition (cost_of (object_row s object.0)) + units_of partition (quota_of (find (is_partition object.0) s.partitions)) = sum_by-append (share_for partition) (cost_of (object_row s object.0)) (quota_of (find (is_partition object.0) s.partitions)) in
-    omega (arith, used_without (is_object object.0) s.objects partition (valid.objects.once object.0), given_without (is_partition object.0) s.partitions partition (partition_once last s valid object.0), cost_share partition (object_row s object.0), quota_share partition (find (is_partition object.0) s.partitions))
+    let both : units_of partition (returns s (Reclaim object))
+    ≡ units_of partition (cost_of (object_row s object.0))
+    + units_of partition (quota_of (find (is_partition object.0) s.partitions)) =
+    sum_by-append (share_for partition) (cost_of (object_row s object.0))
+    (quota_of (find (is_partition object.0) s.partitions)) in
+    omega (
+      arith,
+      used_without (is_object object.0) s.objects partition
+          (valid.objects.once object.0),
+      given_without (is_partition object.0) s.partitions partition
+          (partition_once last s valid object.0),
+      cost_share partition (object_row s object.0),
+      quota_share partition (find (is_partition object.0) s.partitions),
+    )
 
 -- what a partition uses and gives changes by what a change takes and returns
-pub units_moved : (last : ℕ) (s : State) (change : Change) (partition : ℕ) → IsValidTo last s → Moves s change partition
+pub units_moved : (last : ℕ) (s : State) (change : Change) (partition : ℕ) → IsValidTo last s
+    → Moves s change partition
 units_moved last s (PutCapability row) partition valid = refl
 units_moved last s (DropCapability cspace slot) partition valid = refl
 units_moved last s (RevokeCapability cspace slot) partition valid = refl
 units_moved last s (AddObject row) partition valid = added s row partition
 units_moved last s (SetStage object stage) partition valid =
-    omega (arith, used_kept (is_object object.0) (with_stage stage) s.objects partition (λ row. refl))
+    omega (
+      arith,
+      used_kept (is_object object.0) (with_stage stage) s.objects partition
+          (λ row. refl),
+    )
 units_moved last s (Retire object seen) partition valid =
-    omega (arith, used_kept (is_object object.0) (with_counters seen) s.objects partition (λ row. refl))
+    omega (
+      arith,
+      used_kept (is_object object.0) (with_counters seen) s.objects partition
+          (λ row. refl),
+    )
 units_moved last s (Reclaim object) partition valid = reclaimed last s object partition valid
 units_moved last s (GiveQuota one quota) partition valid = given s one quota partition
 units_moved last s (AddExtent row) partition valid = refl

@@ -1,4 +1,5 @@
--- A change that may be made keeps a state valid, in the midst of an entry that is counted behind it.
+-- A change that may be made keeps a state valid, in the midst of an entry that is counted behind
+-- it.
 use Rattle.std.proofs.Common.{◌≡◌, ◌+◌, ◌≤◌, ◌∙◌, ℕ, refl, arith}
 use Rattle.gh_model.specs.Changes.{changed}
 use Rattle.gh_model.specs.declared.change.Change.{Change}
@@ -35,7 +36,8 @@ parcels_stay s (Exit cpu) = refl
 parcels_stay s Ring = refl
 
 -- all of it
-pub valid_kept : (last : ℕ) (s : State) (change : Change) → s.entries + 1 ≤ last → IsValidTo last s → MayChange s change → IsValidTo last (changed s change)
+pub valid_kept : (last : ℕ) (s : State) (change : Change) → s.entries + 1 ≤ last → IsValidTo last s
+    → MayChange s change → IsValidTo last (changed s change)
 valid_kept last s change within valid may = record {
   objects = objects_kept last s change valid may;
   slots = slots_kept last s valid (omega arith) change may;

@@ -42,8 +42,8 @@ is_housed objects row = lives_as objects row.partition.0 kind.Partition
 abbrev pub has_kind_rights : CapabilityRow → Bool
 has_kind_rights row = bit_and row.rights.0 (kind_rights row.kind) == row.rights.0
 
--- the slot is one of a capability space that lives, its rights are within those of its kind, and its
--- object was made; where the capability is valid, the object lives and is of its kind
+-- the slot is one of a capability space that lives, its rights are within those of its kind, and
+-- its object was made; where the capability is valid, the object lives and is of its kind
 abbrev pub slot_fits : ℕ → List ObjectRow → CapabilityRow → Bool
 slot_fits next_serial objects row =
     lives_as objects row.cspace.0 kind.Cspace && is_slot row.slot && has_kind_rights row
