@@ -8,7 +8,7 @@ use Rattle.std.proofs.lemmas.List.Folds.{list_any-append}
 use Rattle.gh_base.specs.declared.ids.Serial.{Serial}
 use Rattle.gh_base.specs.declared.ids.VmId.{VmId}
 use Rattle.gh_base.specs.declared.kind.Kind.TheVariants as kind
-use Rattle.gh_model.specs.Boot.{after_line, is_free_slot, is_kind, is_linked_queue, is_small_queue, link_fits, line_fits, manager_cspace, may_attach, serial_of, vm_count, with_capability, with_cpu}
+use Rattle.gh_model.specs.Boot.{after_line, is_free_slot, is_kind, is_linked_queue, is_small_queue, link_fits, queues_may_link, vm_may_link, line_fits, manager_cspace, may_attach, serial_of, vm_count, with_capability, with_cpu}
 use Rattle.gh_model.specs.Rows.{cpu_row, fills, is_cpu, is_object}
 use Rattle.gh_model.specs.declared.boot_line.BootLine.TheVariants.{Vm, Rm, Link}
 use Rattle.gh_model.specs.declared.rows.CpuRow.{CpuRow}
@@ -135,15 +135,15 @@ module _ (s : State) (valid : IsValidTo 0 s) (fresh : NoneRetired s) where
     link_asks vm extent request reply fits =
         let second : _ × _ = and_parts _ (is_free_slot s (manager_cspace s) (2 * vm + 1)) fits in
         let first : _ × _ = and_parts _ (is_free_slot s (manager_cspace s) (2 * vm)) second.0 in
-        let small : _ × _ = and_parts _ (list_any (is_small_queue request) s.queues) first.0 in
+        let queues : _ × _ = and_parts _ (queues_may_link s request reply) first.0 in
+        let spans : _ × _ = and_parts (vm_may_link s vm) (is_kind s extent kind.Extent) queues.0 in
+        let small : _ × _ = and_parts _ (list_any (is_small_queue request) s.queues) queues.1 in
         let unlinked : _ × _ =
         and_parts _ (not (list_any (is_linked_queue reply) s.links)) small.0 in
         let free : _ × _ =
         and_parts _ (not (list_any (is_linked_queue request) s.links)) unlinked.0 in
         let differ : _ × _ = and_parts _ (not (request == reply)) free.0 in
-        let sends : _ × _ = and_parts _ (is_kind s reply kind.Queue) differ.0 in
-        let receives : _ × _ = and_parts _ (is_kind s request kind.Queue) sends.0 in
-        let spans : _ × _ = and_parts _ (is_kind s extent kind.Extent) receives.0 in
+        let sends : _ × _ = and_parts (is_kind s request kind.Queue) (is_kind s reply kind.Queue) differ.0 in
         let alone : _ × _ =
         and_parts _ (not (list_any (λ (row : LinkRow). row.vm.0 == vm) s.links)) spans.0 in
         let there : _ × _ = and_parts _ (is_some (cpu_row s vm)) alone.0 in
@@ -152,7 +152,7 @@ module _ (s : State) (valid : IsValidTo 0 s) (fresh : NoneRetired s) where
           manager = manager.0;
           there = there.1;
           extent_lives = spans.1;
-          request_lives = receives.1;
+          request_lives = sends.0;
           reply_lives = sends.1;
           first_free = first.1;
           second_free = second.1;

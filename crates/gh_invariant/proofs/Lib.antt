@@ -19,6 +19,7 @@ pub mod EntriesKept
 pub mod EventsKept
 pub mod GivesMade
 pub mod GrantsReferred
+pub mod HistoriesKept
 pub mod KindRowsFit
 pub mod Living
 pub mod MappingOnce

@@ -3,7 +3,7 @@
 use Rattle.std.specs.Prelude.{◌==◌, ◌&&◌, ⊤, ℕ, Bool, true, false, List, [], ◌∷◌, length, Option, Some, None, find, if◌then◌else◌}
 use Rattle.gh_model.specs.Act.{grants_of}
 use Rattle.gh_model.specs.Decide.{decision, has_moved}
-use Rattle.gh_model.specs.History.{Event, is_retired, is_unretired, may_act, may_part}
+use Rattle.gh_model.specs.History.{Event, after_event, is_retired, is_unretired, may_act, may_part}
 use Rattle.gh_model.specs.References.{is_doomed}
 use Rattle.gh_model.specs.Rows.{fills, object_row}
 use Rattle.gh_model.specs.declared.change.Change.{Change}
@@ -14,6 +14,7 @@ use Rattle.gh_model.specs.declared.entry.Entry.{Entry}
 use Rattle.gh_model.specs.declared.entry.Entry.TheVariants.{Acted, Part, Retired, Reclaimed}
 use Rattle.gh_model.specs.declared.state.State.{State}
 use Rattle.gh_invariant.specs.Grants.{MayAct}
+use Rattle.gh_invariant.specs.Premises.{Together}
 
 abbrev pub EntryFits : State → Event → Entry → Type 0
 EntryFits s event (Acted cpu number) =
@@ -50,3 +51,8 @@ entry_changes s event (Reclaimed serial seen) =
 
 abbrev pub changes_of : State → Event → List Change
 changes_of s event = entry_changes s event event.entry
+
+-- each event of a history fits the state before it
+abbrev pub EventsFit : State → List Event → Type 0
+EventsFit s [] = ⊤
+EventsFit s (event ∷ events) = Together (EventFits s event) (EventsFit (after_event s event) events)

@@ -15,7 +15,6 @@ pub fn events_keep_valid()
 {}
 
 /// An object that was made and has no references has none behind an event: what is doomed stays doomed.
-#[tactic(auto, using(crate::proofs::EventsKept::event_doomed))]
 pub fn doomed_stays_doomed()
     ensures { (s : State) (event : Event) (object : ℕ) → IsValid s → EventFits s event → 0 < object → object < s.next_serial
         → references s object ≡ 0 → references (after_event s event) object ≡ 0 }

@@ -32,6 +32,7 @@ use Rattle.gh_model.specs.declared.state_reads.QueueFill.{QueueFill}
 use Rattle.gh_model.specs.BellCalls as bells
 use Rattle.gh_model.specs.Boot.{access_fits, cpu_cspace, is_row_of, overlaps, queue_cost}
 use Rattle.gh_model.specs.CapabilityCalls as capabilities
+use Rattle.gh_model.specs.Changes.{set_stage, with_stage}
 use Rattle.gh_model.specs.Decide.{decided, decision, is_at_end, stages_fit}
 use Rattle.gh_model.specs.Decisions.{done, done_with, grant_at, make_one}
 use Rattle.gh_model.specs.ManagerCalls as manager
@@ -44,6 +45,7 @@ use Rattle.gh_model.specs.Word.{word_at}
 use Rattle.gh_model.specs.Small.{IsKept, IsSmallQuota}
 use Rattle.gh_model.specs.Units.{free_units, given_units, row_quota, used_units}
 use Rattle.gh_model.proofs.KeptLemmas.{AreModest, AreSmall, IsModest}
+use Rattle.gh_model.proofs.ReadyLemmas.{staged_row, staged_units}
 use Rattle.gh_model.proofs.SumLemmas.{all_found}
 
 -- changes that give at most one serial and ring at most once, and keep the sums small
@@ -146,7 +148,7 @@ derived_at : (s : State) (child parent : Serial) (row : ExtentRow) (offset count
 derived_at s child parent row offset count access =
     unless_two (nat_lt row.count (offset + count)) (not (memory.holds_run s.holders parent (row.first.0 + offset) count) || not (access_fits access row.access.0))
     s ArgSize Denied
-    (Make (AddExtent (memory.derived_row child parent row offset count access) ∷ MovePages (row.first.0 + offset) count child ∷ SetStage child Ready ∷ []) done)
+    (Make (SetStage child Ready ∷ AddExtent (memory.derived_row child parent row offset count access) ∷ MovePages (row.first.0 + offset) count child ∷ []) done)
     (record { is = record { serials = omega arith; rings = omega arith; modest = (tt, (tt, (tt, tt))) } })
 
 derived : (s : State) (child parent : Serial) (offset size access : ℕ) (row : Option ExtentRow) → May s (memory.derived s child parent offset size access row)
@@ -259,7 +261,7 @@ module _ (s : State) (h : AreSmall s) where
   created partition cspace (Some k) = created_in partition cspace k _
 
   quota_room : (lacks : Bool) (partition : Serial) (quota : ℕ) (row : PartitionRow) (reply : Reply) → find (is_partition partition.0) s.partitions ≡ Some row → quota ≤ PARTITION_UNITS → nat_lt (free_units s row.parent.0) quota ≡ lacks
-      → May s (if lacks then Refuse Nomem else Make (GiveQuota partition quota ∷ SetStage partition Ready ∷ []) reply)
+      → May s (if lacks then Refuse Nomem else Make (SetStage partition Ready ∷ GiveQuota partition quota ∷ []) reply)
   quota_room true partition quota row reply found few is = record { is = tt }
   quota_room false partition quota row reply found few is =
       let room : quota ≤ free_units s row.parent.0 = enough (free_units s row.parent.0) quota is in
@@ -268,7 +270,7 @@ module _ (s : State) (h : AreSmall s) where
         is = record {
           serials = omega arith;
           rings = omega arith;
-          modest = ((few, λ other is. subst (λ (o : PartitionRow). given_units s o.parent.0 + quota < 65536) (same_Some row other (sym found ∙ is)) fits), (tt, tt));
+          modest = (tt, ((few, λ other is. subst (λ (o : PartitionRow). given_units s o.parent.0 + quota < 65536) (same_Some row other (sym found ∙ is)) fits), tt));
         };
       }
 
@@ -281,7 +283,7 @@ module _ (s : State) (h : AreSmall s) where
   quota_asked false partition quota is = quota_given partition quota (find (is_partition partition.0) s.partitions) refl (enough PARTITION_UNITS quota is)
 
   queue_room : (lacks : Bool) (queue : Serial) (depth size : ℕ) (row : ObjectRow) (reply : Reply) → object_row s queue.0 ≡ Some row → nat_lt (free_units s row.partition.0) (objects.room_cost depth size) ≡ lacks
-      → May s (if lacks then Refuse Nomem else Make (ConfigureQueue queue depth size (queue_cost depth size) ∷ SetStage queue Ready ∷ []) reply)
+      → May s (if lacks then Refuse Nomem else Make (SetStage queue Ready ∷ ConfigureQueue queue depth size (queue_cost depth size) ∷ []) reply)
   queue_room true queue depth size row reply found is = record { is = tt }
   queue_room false queue depth size row reply found is =
       let room : objects.room_cost depth size ≤ free_units s row.partition.0 = enough (free_units s row.partition.0) (objects.room_cost depth size) is in
@@ -291,7 +293,17 @@ module _ (s : State) (h : AreSmall s) where
         is = record {
           serials = omega arith;
           rings = omega arith;
-          modest = ((omega arith, λ other is. subst (λ (o : ObjectRow). used_units s o.partition.0 + queue_cost depth size ≤ 65536) (same_Some row other (sym found ∙ is)) fits), (tt, tt));
+          modest = (
+            tt,
+            (
+              (
+                omega arith,
+                λ other is. subst (λ (o : ObjectRow). used_units (set_stage queue Ready s) o.partition.0 + queue_cost depth size ≤ 65536)
+                    (same_Some (with_stage Ready row) other (sym (staged_row s queue Ready row found) ∙ is)) (omega (arith, fits, staged_units s queue Ready row.partition.0)),
+              ),
+              tt,
+            ),
+          );
         };
       }
 

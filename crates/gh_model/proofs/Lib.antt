@@ -11,6 +11,7 @@ pub mod KeptLemmas
 pub mod Looks
 pub mod NumeralLemmas
 pub mod PieceLemmas
+pub mod ReadyLemmas
 pub mod RoomLemmas
 pub mod RowLemmas
 pub mod RunLaw

@@ -10,6 +10,7 @@ use std::test::Fail;
 
 /// The numbers of a walk: each is the number before, times 1103515245, plus 12345, modulo 2^31, and
 /// then divided by 65,536.
+#[derive(Drop)]
 struct Numbers {
     last: u64,
 }
