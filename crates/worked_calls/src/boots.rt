@@ -27,11 +27,7 @@ pub(crate) fn doorbell(alloc: Global) -> Result<String, NoMemory> {
 
 /// A capability space whose 127 slots are filled.
 pub(crate) fn full(alloc: Global) -> Result<String, NoMemory> {
-    let mut text = joined(
-        alloc,
-        ONE,
-        "doorbell 1\ncap 2 1 1 1 0\ncap 2 2 2 15 0\n",
-    )?;
+    let mut text = joined(alloc, ONE, "doorbell 1\ncap 2 1 1 1 0\ncap 2 2 2 15 0\n")?;
     for slot in 3..128u8 {
         let line = format!(in alloc; "cap 2 {slot} 5 3 0\n")?;
         text.push_str(line.as_str())?;
@@ -60,11 +56,7 @@ pub(crate) fn three_copies(alloc: Global) -> Result<String, NoMemory> {
 
 /// One page that isn't mapped yet.
 pub(crate) fn one_page(alloc: Global) -> Result<String, NoMemory> {
-    joined(
-        alloc,
-        ONE,
-        "extent 1 4 3 1 7 0 1\ncap 2 4 5 7 1\nvm 2 3\n",
-    )
+    joined(alloc, ONE, "extent 1 4 3 1 7 0 1\ncap 2 4 5 7 1\nvm 2 3\n")
 }
 
 /// All pages mapped, and what is needed to make objects.

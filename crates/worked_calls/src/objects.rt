@@ -33,7 +33,10 @@ fn a_full_capability_space_takes_no_new_object(rt: HostRuntime) -> Result<(), Fa
     let alloc = rt.alloc();
     let text = full(alloc)?;
     let mut plain = boot(alloc, text.as_str())?;
-    for (call, reply) in [("c6008201 1 2 5", "36 0 0 0"), ("c6008012 80 1", "32 0 0 0")] {
+    for (call, reply) in [
+        ("c6008201 1 2 5", "36 0 0 0"),
+        ("c6008012 80 1", "32 0 0 0"),
+    ] {
         let got = answer(alloc, &mut plain, 1, call)?;
         assert_eq!(rt; got.as_str(), reply, "{call}");
     }

@@ -34,7 +34,12 @@ fn looked(
 }
 
 /// A call of a CPU, from its looks to its act, with nothing between.
-pub(crate) fn made(alloc: Global, plain: &mut Plain, cpu: CpuNo, frame: &Frame) -> Result<Reply, Fail> {
+pub(crate) fn made(
+    alloc: Global,
+    plain: &mut Plain,
+    cpu: CpuNo,
+    frame: &Frame,
+) -> Result<Reply, Fail> {
     let call = match read_shape(frame) {
         Ok(call) => call,
         Err(errno) => return Ok(Reply::refusal(errno)),
@@ -53,7 +58,10 @@ pub(crate) fn made(alloc: Global, plain: &mut Plain, cpu: CpuNo, frame: &Frame) 
 
 /// A reply as a history has it: four registers and the bytes that came.
 fn spelled(alloc: Global, reply: &Reply) -> Result<String, Fail> {
-    let mut text = format!(in alloc; "{:x} {:x} {:x} {:x}", reply.x[0], reply.x[1], reply.x[2], reply.x[3])?;
+    let mut text = format!(in alloc;
+        "{:x} {:x} {:x} {:x}",
+        reply.x[0], reply.x[1], reply.x[2], reply.x[3]
+    )?;
     let bytes = reply.bytes.as_slice();
     if !bytes.is_empty() {
         text.push_str(" : ")?;

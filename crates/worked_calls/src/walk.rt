@@ -116,11 +116,19 @@ fn references(state: &State, serial: Serial) -> usize {
     let extents = state.extents.as_slice();
     let mappings = state.mappings.as_slice();
     let counts = [
-        caps.iter().filter(|row| row.valid && row.serial == serial).count(),
+        caps.iter()
+            .filter(|row| row.valid && row.serial == serial)
+            .count(),
         caps.iter().filter(|row| row.cspace == serial).count(),
-        mappings.iter().filter(|row| row.space == serial || row.extent == serial).count(),
+        mappings
+            .iter()
+            .filter(|row| row.space == serial || row.extent == serial)
+            .count(),
         extents.iter().filter(|row| row.parent == serial).count(),
-        extents.iter().filter(|row| row.serial == serial && row.parent == Serial(0)).count(),
+        extents
+            .iter()
+            .filter(|row| row.serial == serial && row.parent == Serial(0))
+            .count(),
         state
             .objects
             .as_slice()
@@ -140,7 +148,9 @@ fn references(state: &State, serial: Serial) -> usize {
             .filter(|row| row.serial == serial && row.parent == Serial(0))
             .count(),
     ];
-    counts.iter().fold(0, |sum: usize, count| sum.saturating_add(*count))
+    counts
+        .iter()
+        .fold(0, |sum: usize, count| sum.saturating_add(*count))
 }
 
 /// Used units, and those given to partitions that were made by calls.
@@ -161,7 +171,12 @@ fn units(state: &State, partition: Serial) -> (u64, u64) {
 }
 
 fn extent(state: &State, serial: Serial) -> Option<ExtentRow> {
-    state.extents.as_slice().iter().copied().find(|row| row.serial == serial)
+    state
+        .extents
+        .as_slice()
+        .iter()
+        .copied()
+        .find(|row| row.serial == serial)
 }
 
 fn holder(state: &State, page: u64) -> Option<Serial> {
@@ -183,12 +198,9 @@ fn shown(state: &State, row: MappingRow, page: u64) -> Option<(u64, u8)> {
 }
 
 fn access(state: &State, space: Serial, page: u64) -> Option<(u64, u8)> {
-    let row = state
-        .mappings
-        .as_slice()
-        .iter()
-        .copied()
-        .find(|row| row.space == space && row.base <= page && page - row.base < row.count)?;
+    let row = state.mappings.as_slice().iter().copied().find(|row| row.space == space
+        && row.base <= page
+        && page - row.base < row.count)?;
     shown(state, row, page)
 }
 
@@ -217,14 +229,20 @@ fn object_agrees(plain: &Plain, row: ObjectRow) -> bool {
 }
 
 fn page_agrees(plain: &Plain, space: Serial, page: u16) -> bool {
-    let told = plain.access(space, page).map(|found| (found.0.0 as u64, found.1.0));
+    let told = plain
+        .access(space, page)
+        .map(|found| (found.0.0 as u64, found.1.0));
     told == access(plain.state(), space, page as u64)
 }
 
 fn agrees(plain: &Plain) -> bool {
     let state = plain.state();
     is_held(state)
-        && state.objects.as_slice().iter().all(|row| object_agrees(plain, *row))
+        && state
+            .objects
+            .as_slice()
+            .iter()
+            .all(|row| object_agrees(plain, *row))
         && (0..12).all(|page| page_agrees(plain, Serial(3), page))
 }
 
