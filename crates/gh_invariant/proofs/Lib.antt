@@ -17,6 +17,7 @@ pub mod DecisionMade
 pub mod DeriveMade
 pub mod EntriesKept
 pub mod EventsKept
+pub mod FactLemmas
 pub mod GivesMade
 pub mod GrantsReferred
 pub mod HistoriesKept

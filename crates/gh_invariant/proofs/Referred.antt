@@ -85,7 +85,7 @@ found_counted_by p q first rows row true found passes others =
 found_counted_by p q first rows row false found passes others =
     let more : 1 ≤ count_by q rows = others found in omega arith
 
-found_counted : {R : Type 0} (p q : R → Bool) (rows : List R) (row : R) → find p rows ≡ Some row → q row ≡ true → 1 ≤ count_by q rows
+pub found_counted : {R : Type 0} (p q : R → Bool) (rows : List R) (row : R) → find p rows ≡ Some row → q row ≡ true → 1 ≤ count_by q rows
 found_counted p q [] row found passes = absurd (let never : ⊥ = cc in never)
 found_counted p q (first ∷ rows) row found passes =
     subst (λ (n : ℕ). 1 ≤ n) (sym (count_cons q first rows))

@@ -6,6 +6,7 @@ mod boot;
 mod decision;
 mod entries;
 mod events;
+mod facts;
 mod histories;
 mod references;
 mod units;
@@ -16,6 +17,10 @@ pub use boot::boot_is_valid;
 pub use decision::{decisions_give_to_referred, decisions_may_be_made};
 pub use entries::{act_keeps_valid, entries_keep_valid, entry_begins};
 pub use events::{doomed_stays_doomed, events_keep_valid};
+pub use facts::{
+    capability_names_living, event_leaves_words, link_names_living, running_cpu_names_living,
+    states_stay,
+};
 pub use histories::{doomed_for_ever, histories_keep_valid};
 pub use references::{
     change_moves_references, changes_move_references, doomed_stays, only_living_referenced,

@@ -1,7 +1,7 @@
 //! Memory: mappings at the end of an address space, derived extents, and donations.
 
 use crate::boots::{maker, one_page, siblings};
-use crate::session::{answer, boot};
+use crate::session::{answer, boot, reclaim, retire};
 use std::test::Fail;
 
 #[test]
@@ -25,7 +25,7 @@ fn the_last_page_is_mapped_once(rt: HostRuntime) -> Result<(), Fail> {
 }
 
 #[test]
-fn a_derived_extent_takes_pages_from_its_parent(rt: HostRuntime) -> Result<(), Fail> {
+fn a_derived_extent_takes_pages_and_returns_them(rt: HostRuntime) -> Result<(), Fail> {
     let alloc = rt.alloc();
     let text = maker(alloc)?;
     let mut plain = boot(alloc, text.as_str())?;
@@ -34,10 +34,18 @@ fn a_derived_extent_takes_pages_from_its_parent(rt: HostRuntime) -> Result<(), F
         ("c6008230 3 4 2000 2000 7", "0 0 0 0"),
         ("c6008231 0 2000", "16 0 0 0"),
         ("c6008231 0 4000", "0 4000 7 0"),
+        ("c6008211 2 3", "0 0 0 0"),
+        ("c6008231 0 2000", "16 0 0 0"),
     ] {
         let got = answer(alloc, &mut plain, 1, call)?;
         assert_eq!(rt; got.as_str(), reply, "{call}");
     }
+    assert!(rt; !reclaim(alloc, &mut plain, 6)?);
+    assert!(rt; retire(&mut plain, 6)?);
+    assert!(rt; !retire(&mut plain, 6)?);
+    assert!(rt; reclaim(alloc, &mut plain, 6)?);
+    let got = answer(alloc, &mut plain, 1, "c6008231 0 2000")?;
+    assert_eq!(rt; got.as_str(), "0 2000 7 0");
     Ok(())
 }
 

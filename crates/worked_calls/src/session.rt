@@ -89,3 +89,29 @@ pub(crate) fn answer(
         }
     }
 }
+
+/// A part of a revoke: whether the slot had a valid capability without master mark.
+pub(crate) fn part(plain: &mut Plain, cspace: u32, slot: u8) -> Result<bool, Fail> {
+    if plain.entries() >= HISTORY_ENTRIES {
+        return Err(Fail::new("the history is full"));
+    }
+    let made = plain.part(Serial(cspace), slot)?;
+    Ok(made)
+}
+
+/// A retirement: whether the object was doomed and not retired.
+pub(crate) fn retire(plain: &mut Plain, serial: u32) -> Result<bool, Fail> {
+    if plain.entries() >= HISTORY_ENTRIES {
+        return Err(Fail::new("the history is full"));
+    }
+    Ok(plain.retire(Serial(serial)))
+}
+
+/// A reclaim: whether the object was retired and still doomed.
+pub(crate) fn reclaim(alloc: Global, plain: &mut Plain, serial: u32) -> Result<bool, Fail> {
+    if plain.entries() >= HISTORY_ENTRIES {
+        return Err(Fail::new("the history is full"));
+    }
+    let made = plain.reclaim(alloc, Serial(serial))?;
+    Ok(made)
+}

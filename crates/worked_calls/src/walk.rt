@@ -2,7 +2,7 @@
 //! access and holders is what sums over the rows give, taken anew.
 
 use crate::boots::maker;
-use crate::session::{boot, made};
+use crate::session::{boot, made, reclaim, retire};
 use gh_base::{CpuNo, Frame, NoMemory, Sequence, Serial};
 use gh_model::{ExtentRow, MappingRow, ObjectRow, Plain, State};
 use std::alloc::Global;
@@ -256,8 +256,8 @@ fn sweep(alloc: Global, plain: &mut Plain) -> Result<(), Fail> {
         .copied()
         .find(|row| plain.doomed(row.serial));
     if let Some(row) = found {
-        plain.retire(row.serial);
-        plain.reclaim(alloc, row.serial)?;
+        retire(plain, row.serial.0)?;
+        reclaim(alloc, plain, row.serial.0)?;
     }
     Ok(())
 }

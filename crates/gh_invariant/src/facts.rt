@@ -1,0 +1,47 @@
+//! What callers use of valid states and of histories. The functions do nothing; their clauses are laws.
+
+ghost use Rattle.std.specs.Prelude.{◌≡◌, ◌≤◌, ◌++◌, ℕ, Bool, List, Some, IsTrue, true, false, find, length};
+ghost use Rattle.std.specs.List.{list_all};
+ghost use Rattle.gh_invariant.specs.Effects.{leaves};
+ghost use Rattle.gh_invariant.specs.Events.{changes_of};
+ghost use Rattle.gh_invariant.specs.NamesLiving.{LinkLives, NamesLiving, SpacesLive};
+ghost use Rattle.gh_invariant.specs.Valid.{IsValid};
+ghost use Rattle.gh_model.specs.History.{Event, after_event, state_at};
+ghost use Rattle.gh_model.specs.Rows.{cpu_row, fills};
+ghost use Rattle.gh_model.specs.Word.{word_at};
+ghost use Rattle.gh_model.specs.declared.rows.CapabilityRow.{CapabilityRow};
+ghost use Rattle.gh_model.specs.declared.rows.CpuRow.{CpuRow};
+ghost use Rattle.gh_model.specs.declared.rows.LinkRow.{LinkRow};
+ghost use Rattle.gh_model.specs.declared.state.State.{State};
+
+/// A valid capability's object lives, is of its kind, has a reference and isn't retired: so what a look
+/// grants isn't retired yet. Its capability space lives.
+pub fn capability_names_living()
+    ensures { (s : State) (cspace slot : ℕ) (row : CapabilityRow) → IsValid s
+        → find (fills cspace slot) s.caps ≡ Some row → row.valid ≡ true → NamesLiving s row }
+{}
+
+/// The capability space and the address space of a CPU that hasn't exited live.
+pub fn running_cpu_names_living()
+    ensures { (s : State) (cpu : ℕ) (row : CpuRow) → IsValid s
+        → cpu_row s cpu ≡ Some row → row.exited ≡ false → SpacesLive s row }
+{}
+
+/// All that a link names lives.
+pub fn link_names_living()
+    ensures { (s : State) (test : LinkRow → Bool) (row : LinkRow) → IsValid s
+        → find test s.links ≡ Some row → LinkLives s row }
+{}
+
+/// An event leaves the word of each slot that none of its changes sets, where the slot's capability
+/// space isn't reclaimed.
+pub fn event_leaves_words()
+    ensures { (s : State) (event : Event) (cspace slot : ℕ) → IsTrue (list_all (leaves cspace slot) (changes_of s event))
+        → word_at (after_event s event) cspace slot ≡ word_at s cspace slot }
+{}
+
+/// The states of a history stay as it grows.
+pub fn states_stay()
+    ensures { (s : State) (history more : List Event) (n : ℕ) → n ≤ length history
+        → state_at s (history ++ more) n ≡ state_at s history n }
+{}
