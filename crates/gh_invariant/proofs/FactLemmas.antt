@@ -96,7 +96,7 @@ one_word : (s new : State) (cspace slot : ℕ) (allowed : Bool) (one : Change) �
 one_word s new cspace slot true one same = same
 one_word s new cspace slot false one same = refl
 
-entry_word : (s : State) (event : Event) (entry : Entry) (cspace slot : ℕ)
+pub entry_word : (s : State) (event : Event) (entry : Entry) (cspace slot : ℕ)
     → word_at (after_entry s event entry) cspace slot ≡ word_at (changed_all s (entry_changes s event entry)) cspace slot
 entry_word s event (Acted cpu number) cspace slot =
     acted_word s cspace slot (may_act s cpu.0 event.call event.words) (judged_by s cpu.0 event)

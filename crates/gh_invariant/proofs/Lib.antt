@@ -16,6 +16,7 @@ pub mod DecisionGives
 pub mod DecisionMade
 pub mod DeriveMade
 pub mod EntriesKept
+pub mod EventWords
 pub mod EventsKept
 pub mod FactLemmas
 pub mod GivesMade
@@ -40,6 +41,7 @@ pub mod Referred
 pub mod RetiredKept
 pub mod RowsLeft
 pub mod RowsTested
+pub mod SetsOne
 pub mod Settings
 pub mod SlotsFit
 pub mod SlotsKept

@@ -1,7 +1,7 @@
 -- What each change does to references: the objects that it gives a reference, and those that it
 -- takes one from, each named once for each reference. And the units that it takes from partitions
 -- or returns to them, and the slot that it sets.
-use Rattle.std.specs.Prelude.{◌==◌, ◌&&◌, not, ℕ, Bool, false, List, [], ◌∷◌, ◌++◌, Option, Some, None, find, count_by, sum_by, if◌then◌else◌, option_map}
+use Rattle.std.specs.Prelude.{◌==◌, ◌&&◌, not, ℕ, Bool, true, false, List, [], ◌∷◌, ◌++◌, Option, Some, None, find, count_by, is_some, sum_by, if◌then◌else◌, option_map}
 use Rattle.gh_base.specs.declared.ids.Serial.{Serial}
 use Rattle.gh_model.specs.Changes.{changed, as_revoked}
 use Rattle.gh_model.specs.Rows.{object_row, cpu_row, is_partition, is_extent, fills}
@@ -163,3 +163,16 @@ sets_slot cspace slot change = is_place cspace slot (sets change)
 abbrev pub leaves : ℕ → ℕ → Change → Bool
 leaves cspace slot (Reclaim object) = not (object.0 == cspace)
 leaves cspace slot change = not (sets_slot cspace slot change)
+
+-- how many slots changes set
+abbrev pub sets_some : Change → Bool
+sets_some change = is_some (sets change)
+
+abbrev pub slots_set : List Change → ℕ
+slots_set changes = count_by sets_some changes
+
+-- only the last of the changes sets a slot, if any does
+abbrev pub sets_last : List Change → Bool
+sets_last [] = true
+sets_last (change ∷ []) = true
+sets_last (change ∷ next ∷ changes) = not (sets_some change) && sets_last (next ∷ changes)

@@ -1,14 +1,14 @@
 //! What callers use of valid states and of histories. The functions do nothing; their clauses are laws.
 
-ghost use Rattle.std.specs.Prelude.{◌≡◌, ◌≤◌, ◌++◌, ℕ, Bool, List, Some, IsTrue, true, false, find, length};
-ghost use Rattle.std.specs.List.{list_all};
-ghost use Rattle.gh_invariant.specs.Effects.{leaves};
-ghost use Rattle.gh_invariant.specs.Events.{changes_of};
+ghost use Rattle.std.specs.Prelude.{◌≡◌, ◌≤◌, ◌+◌, ◌++◌, ℕ, Bool, List, Some, IsTrue, true, false, find, length};
+ghost use Rattle.std.specs.List.{list_all, list_any};
+ghost use Rattle.gh_invariant.specs.Effects.{leaves, sets_slot, slots_set};
+ghost use Rattle.gh_invariant.specs.Events.{EventFits, changes_of};
 ghost use Rattle.gh_invariant.specs.NamesLiving.{LinkLives, NamesLiving, SpacesLive};
 ghost use Rattle.gh_invariant.specs.Valid.{IsValid};
 ghost use Rattle.gh_model.specs.History.{Event, after_event, state_at};
 ghost use Rattle.gh_model.specs.Rows.{cpu_row, fills};
-ghost use Rattle.gh_model.specs.Word.{word_at};
+ghost use Rattle.gh_model.specs.Word.{is_slot, word_at};
 ghost use Rattle.gh_model.specs.declared.rows.CapabilityRow.{CapabilityRow};
 ghost use Rattle.gh_model.specs.declared.rows.CpuRow.{CpuRow};
 ghost use Rattle.gh_model.specs.declared.rows.LinkRow.{LinkRow};
@@ -38,6 +38,18 @@ pub fn link_names_living()
 pub fn event_leaves_words()
     ensures { (s : State) (event : Event) (cspace slot : ℕ) → IsTrue (list_all (leaves cspace slot) (changes_of s event))
         → word_at (after_event s event) cspace slot ≡ word_at s cspace slot }
+{}
+
+/// An event sets one slot at most.
+pub fn event_sets_one_slot()
+    ensures { (s : State) (event : Event) → slots_set (changes_of s event) ≤ 1 }
+{}
+
+/// The setting of the slot that an event sets is the event's number.
+pub fn event_numbers_its_slot()
+    ensures { (s : State) (event : Event) (cspace slot : ℕ) → IsValid s → EventFits s event → IsTrue (is_slot slot)
+        → IsTrue (list_any (sets_slot cspace slot) (changes_of s event))
+        → (word_at (after_event s event) cspace slot).set_at ≡ s.entries + 1 }
 {}
 
 /// The states of a history stay as it grows.
