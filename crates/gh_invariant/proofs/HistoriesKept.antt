@@ -22,7 +22,7 @@ use Rattle.gh_invariant.proofs.EventsKept.{event_doomed, event_valid}
 
 -- serials rise
 
-serial_rises : (s : State) (one : Change) → s.next_serial ≤ (changed s one).next_serial
+pub serial_rises : (s : State) (one : Change) → s.next_serial ≤ (changed s one).next_serial
 serial_rises s (change.AddObject row) = omega arith
 serial_rises s (change.PutCapability row) = omega arith
 serial_rises s (change.DropCapability cspace slot) = omega arith

@@ -23,6 +23,7 @@ pub mod GivesMade
 pub mod GrantsReferred
 pub mod HistoriesKept
 pub mod KindRowsFit
+pub mod KindsStay
 pub mod Living
 pub mod MappingOnce
 pub mod MappingsFit

@@ -1,12 +1,14 @@
 -- What callers use of a valid state: what a capability, a CPU and a link name.
-use Rattle.std.specs.Prelude.{◌≡◌, ◌<◌, ℕ, Bool, true, false, List, Option, Some, None, IsTrue, find}
+use Rattle.std.specs.Prelude.{◌≡◌, ◌<◌, ℕ, Bool, true, false, List, Option, Some, None, IsTrue, find, option_map}
+use Rattle.gh_base.specs.declared.kind.Kind.{Kind}
 use Rattle.gh_base.specs.declared.kind.Kind.TheVariants as kind
 use Rattle.gh_model.specs.History.{is_retired}
 use Rattle.gh_model.specs.References.{references}
-use Rattle.gh_model.specs.Rows.{is_cpu, object_row}
+use Rattle.gh_model.specs.Rows.{is_cpu, is_object, object_row}
 use Rattle.gh_model.specs.declared.rows.CapabilityRow.{CapabilityRow}
 use Rattle.gh_model.specs.declared.rows.CpuRow.{CpuRow}
 use Rattle.gh_model.specs.declared.rows.LinkRow.{LinkRow}
+use Rattle.gh_model.specs.declared.rows.ObjectRow.{ObjectRow}
 use Rattle.gh_model.specs.declared.state.State.{State}
 use Rattle.gh_invariant.specs.Lives.{lives_as, space_lives}
 
@@ -29,3 +31,10 @@ pub record LinkLives (s : State) (row : LinkRow) : Type 0 where
   pub extent : IsTrue (lives_as s.objects row.extent.0 kind.Extent)
   pub request : IsTrue (lives_as s.objects row.request.0 kind.Queue)
   pub reply : IsTrue (lives_as s.objects row.reply.0 kind.Queue)
+
+-- the kind of an object that lives
+abbrev pub row_kind : ObjectRow → Kind
+row_kind row = row.kind
+
+abbrev pub living_kind : List ObjectRow → ℕ → Option Kind
+living_kind objects object = option_map row_kind (find (is_object object) objects)

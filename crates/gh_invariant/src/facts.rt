@@ -1,10 +1,10 @@
 //! What callers use of valid states and of histories. The functions do nothing; their clauses are laws.
 
-ghost use Rattle.std.specs.Prelude.{◌≡◌, ◌≤◌, ◌+◌, ◌++◌, ℕ, Bool, List, Some, IsTrue, true, false, find, length};
+ghost use Rattle.std.specs.Prelude.{◌≡◌, ◌≤◌, ◌+◌, ◌++◌, ◌<◌, ◌⊎◌, ℕ, Bool, List, Some, None, IsTrue, true, false, find, length};
 ghost use Rattle.std.specs.List.{list_all, list_any};
 ghost use Rattle.gh_invariant.specs.Effects.{leaves, sets_slot, slots_set};
 ghost use Rattle.gh_invariant.specs.Events.{EventFits, changes_of};
-ghost use Rattle.gh_invariant.specs.NamesLiving.{LinkLives, NamesLiving, SpacesLive};
+ghost use Rattle.gh_invariant.specs.NamesLiving.{LinkLives, NamesLiving, SpacesLive, living_kind};
 ghost use Rattle.gh_invariant.specs.Valid.{IsValid};
 ghost use Rattle.gh_model.specs.History.{Event, after_event, state_at};
 ghost use Rattle.gh_model.specs.Rows.{cpu_row, fills};
@@ -50,6 +50,14 @@ pub fn event_numbers_its_slot()
     ensures { (s : State) (event : Event) (cspace slot : ℕ) → IsValid s → EventFits s event → IsTrue (is_slot slot)
         → IsTrue (list_any (sets_slot cspace slot) (changes_of s event))
         → (word_at (after_event s event) cspace slot).set_at ≡ s.entries + 1 }
+{}
+
+/// An object that was made lives no more behind an event, or is of the kind that it was: kinds never
+/// change, and a serial is never given again.
+pub fn kinds_stay()
+    ensures { (s : State) (event : Event) (object : ℕ) → IsValid s → EventFits s event → object < s.next_serial
+        → (living_kind (after_event s event).objects object ≡ None)
+        ⊎ (living_kind (after_event s event).objects object ≡ living_kind s.objects object) }
 {}
 
 /// The states of a history stay as it grows.
