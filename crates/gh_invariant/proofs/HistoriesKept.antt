@@ -60,7 +60,7 @@ either_rises : (n : ℕ) (allowed : Bool) (new old : State) → n ≤ new.next_s
 either_rises n true new old is was = is
 either_rises n false new old is was = was
 
-entry_rises : (s : State) (event : Event) (entry : Entry) → s.next_serial ≤ (after_entry s event entry).next_serial
+pub entry_rises : (s : State) (event : Event) (entry : Entry) → s.next_serial ≤ (after_entry s event entry).next_serial
 entry_rises s event (Acted cpu number) =
     either_rises s.next_serial (may_act s cpu.0 event.call event.words) (after_verdict s (verdict s (judged_by s cpu.0 event))) (numbered s)
     (decided_rises s (judged_by s cpu.0 event)) (omega arith)

@@ -77,7 +77,7 @@ change_kind s (change.Exit cpu) object made may = inr refl
 change_kind s change.Ring object made may = inr refl
 
 -- one after another
-then_kind : (old middle new : List ObjectRow) (object : ℕ) → KindStays old middle object → KindStays middle new object → KindStays old new object
+pub then_kind : (old middle new : List ObjectRow) (object : ℕ) → KindStays old middle object → KindStays middle new object → KindStays old new object
 then_kind old middle new object first (inl gone) = inl gone
 then_kind old middle new object (inl gone) (inr same) = inl (same ∙ gone)
 then_kind old middle new object (inr was) (inr same) = inr (same ∙ was)

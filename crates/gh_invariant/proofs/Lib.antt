@@ -21,6 +21,7 @@ pub mod EventsKept
 pub mod FactLemmas
 pub mod GivesMade
 pub mod GrantsReferred
+pub mod GrantsStay
 pub mod HistoriesKept
 pub mod KindRowsFit
 pub mod KindsStay

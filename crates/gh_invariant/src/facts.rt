@@ -1,17 +1,25 @@
 //! What callers use of valid states and of histories. The functions do nothing; their clauses are laws.
 
-ghost use Rattle.std.specs.Prelude.{◌≡◌, ◌≤◌, ◌+◌, ◌++◌, ◌<◌, ◌⊎◌, ℕ, Bool, List, Some, None, IsTrue, true, false, find, length};
+ghost use Rattle.std.specs.Prelude.{◌≡◌, ◌≤◌, ◌+◌, ◌∷◌, ◌++◌, [], ◌<◌, ◌⊎◌, ℕ, Bool, List, Option, Some, None, IsTrue, true, false, find, length};
 ghost use Rattle.std.specs.List.{list_all, list_any};
+ghost use Rattle.gh_base.specs.declared.kind.Kind.{Kind};
 ghost use Rattle.gh_invariant.specs.Effects.{leaves, sets_slot, slots_set};
-ghost use Rattle.gh_invariant.specs.Events.{EventFits, changes_of};
+ghost use Rattle.gh_invariant.specs.Events.{EventFits, EventsFit, changes_of};
+ghost use Rattle.gh_invariant.specs.Grants.{grant_fits};
 ghost use Rattle.gh_invariant.specs.NamesLiving.{LinkLives, NamesLiving, SpacesLive, living_kind};
+ghost use Rattle.gh_invariant.specs.Lives.{lives};
+ghost use Rattle.gh_invariant.specs.Premises.{MayChangeAll};
 ghost use Rattle.gh_invariant.specs.Valid.{IsValid};
-ghost use Rattle.gh_model.specs.History.{Event, after_event, state_at};
+ghost use Rattle.gh_model.specs.Changes.{changed_all};
+ghost use Rattle.gh_model.specs.History.{Event, after_event, replay, state_at};
+ghost use Rattle.gh_model.specs.References.{references};
 ghost use Rattle.gh_model.specs.Rows.{cpu_row, fills};
-ghost use Rattle.gh_model.specs.Word.{is_slot, word_at};
+ghost use Rattle.gh_model.specs.Word.{is_slot, kind_fits, word_at};
+ghost use Rattle.gh_model.specs.declared.change.Change.TheVariants.{AddObject, PutCapability};
 ghost use Rattle.gh_model.specs.declared.rows.CapabilityRow.{CapabilityRow};
 ghost use Rattle.gh_model.specs.declared.rows.CpuRow.{CpuRow};
 ghost use Rattle.gh_model.specs.declared.rows.LinkRow.{LinkRow};
+ghost use Rattle.gh_model.specs.declared.rows.ObjectRow.{ObjectRow};
 ghost use Rattle.gh_model.specs.declared.state.State.{State};
 
 /// A valid capability's object lives, is of its kind, has a reference and isn't retired: so what a look
@@ -58,6 +66,20 @@ pub fn kinds_stay()
     ensures { (s : State) (event : Event) (object : ℕ) → IsValid s → EventFits s event → object < s.next_serial
         → (living_kind (after_event s event).objects object ≡ None)
         ⊎ (living_kind (after_event s event).objects object ≡ living_kind s.objects object) }
+{}
+
+/// What a look granted, of the kind that was needed, is no live object of another kind behind any events.
+pub fn found_grants_fit()
+    ensures { (s : State) (events : List Event) (cspace slot : ℕ) (row : CapabilityRow) (needed : Option Kind) → IsValid s
+        → EventsFit s events → find (fills cspace slot) s.caps ≡ Some row → row.valid ≡ true → IsTrue (kind_fits needed row.kind)
+        → IsTrue (grant_fits (replay s events).objects row.serial needed) }
+{}
+
+/// A new object with its master capability, in a capability space that was there, has one reference.
+pub fn new_object_has_one_reference()
+    ensures { (s : State) (row : ObjectRow) (cap : CapabilityRow) → IsValid s
+        → MayChangeAll s (AddObject row ∷ PutCapability cap ∷ []) → cap.serial.0 ≡ row.serial.0 → lives s.objects cap.cspace.0 ≡ true
+        → references (changed_all s (AddObject row ∷ PutCapability cap ∷ [])) row.serial.0 ≡ 1 }
 {}
 
 /// The states of a history stay as it grows.

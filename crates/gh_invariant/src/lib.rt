@@ -19,7 +19,8 @@ pub use entries::{act_keeps_valid, entries_keep_valid, entry_begins};
 pub use events::{doomed_stays_doomed, events_keep_valid};
 pub use facts::{
     capability_names_living, event_leaves_words, event_numbers_its_slot, event_sets_one_slot,
-    kinds_stay, link_names_living, running_cpu_names_living, states_stay,
+    found_grants_fit, kinds_stay, link_names_living, new_object_has_one_reference,
+    running_cpu_names_living, states_stay,
 };
 pub use histories::{doomed_for_ever, histories_keep_valid};
 pub use references::{
