@@ -1,0 +1,3 @@
+pub mod CpuMoves
+pub mod Finding
+pub mod StartSound

@@ -1,5 +1,5 @@
 -- The configuration before any event, and how CPUs are given their calls.
-use Rattle.std.specs.Prelude.{◌≡◌, ◌==◌, ◌+◌, ◌<◌, ◌≤◌, not, ℕ, Bool, true, false, List, [], ◌∷◌, ◌++◌, length, Option, Some, None, Result, Ok, Err, is_some}
+use Rattle.std.specs.Prelude.{◌≡◌, ◌==◌, ◌+◌, ◌<◌, ◌≤◌, not, ℕ, Bool, true, false, List, [], ◌∷◌, ◌++◌, length, Option, Some, None, Result, Ok, Err, find, is_some}
 use Rattle.std.specs.List.{list_any}
 use Rattle.std.specs.Option.{option_map_or}
 use Rattle.gh_base.specs.Reply.{refusal}
@@ -13,7 +13,7 @@ use Rattle.gh_invariant.specs.Lives.{lives}
 use Rattle.gh_model.specs.Legal.{exits}
 use Rattle.gh_model.specs.Marks.{Made}
 use Rattle.gh_model.specs.Registers.{call_of}
-use Rattle.gh_model.specs.Rows.{cpu_row}
+use Rattle.gh_model.specs.Rows.{cpu_row, is_object}
 use Rattle.gh_model.specs.Word.{word_at}
 use Rattle.gh_model.specs.declared.rows.ObjectRow.{ObjectRow}
 use Rattle.gh_model.specs.declared.state.State.{State}
@@ -25,6 +25,11 @@ pub record AreIndices (boot : State) (index : ℕ → ℕ) : Type 0 where
   pub within : (serial : ℕ) → lives boot.objects serial ≡ true → index serial < OBJECT_INDICES
   pub unique : (serial other : ℕ) → lives boot.objects serial ≡ true
       → lives boot.objects other ≡ true → index serial ≡ index other → serial ≡ other
+
+-- no object of the boot is retired
+abbrev pub IsUnretired : State → Type 0
+IsUnretired boot = (row : ObjectRow) → find (is_object row.serial.0) boot.objects ≡ Some row
+    → is_some row.retired ≡ false
 
 -- the object that lives at an index, 0 where none does
 abbrev pub serial_at : State → (ℕ → ℕ) → ℕ → ℕ

@@ -2,5 +2,7 @@
 #![tactic(auto)]
 
 mod event;
+mod start;
 
 pub use event::Event;
+pub use start::start_has_references;
