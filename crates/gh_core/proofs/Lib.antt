@@ -1,3 +1,5 @@
+pub mod CallsKeep
 pub mod CpuMoves
 pub mod Finding
 pub mod StartSound
+pub mod TurnKeeps
