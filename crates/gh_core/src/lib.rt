@@ -2,7 +2,11 @@
 #![tactic(auto)]
 
 mod event;
+mod references;
 mod start;
 
 pub use event::Event;
+pub use references::{
+    enter_keeps_references, leave_keeps_references, scan_keeps_references, seats_keep_references,
+};
 pub use start::start_has_references;

@@ -1,0 +1,34 @@
+//! Which events are shown to keep sound references. The functions do nothing; their clauses are
+//! laws. Of the other events nothing is said yet.
+
+ghost use Rattle.gh_base.specs.declared.ids.CpuNo.{CpuNo};
+ghost use Rattle.gh_core.specs.Config.{Config};
+ghost use Rattle.gh_core.specs.Events.{Possible, after};
+ghost use Rattle.gh_core.specs.References.{HasReferences};
+ghost use Rattle.gh_core.specs.declared.event.Event.TheVariants.{Enter, Join, Leave, Scan, Split};
+
+/// A call that enters its section keeps sound references.
+pub fn enter_keeps_references()
+    ensures { (conf : Config) (cpu : CpuNo) → HasReferences conf → Possible conf (Enter cpu)
+        → HasReferences (after conf (Enter cpu)) }
+{}
+
+/// So does a call that leaves it.
+pub fn leave_keeps_references()
+    ensures { (conf : Config) (cpu : CpuNo) → HasReferences conf → Possible conf (Leave cpu)
+        → HasReferences (after conf (Leave cpu)) }
+{}
+
+/// So does a scan of a counter.
+pub fn scan_keeps_references()
+    ensures { (conf : Config) (cpu of_cpu : CpuNo) → HasReferences conf
+        → Possible conf (Scan cpu of_cpu) → HasReferences (after conf (Scan cpu of_cpu)) }
+{}
+
+/// And a seat that is given back or made.
+pub fn seats_keep_references()
+    ensures join { (conf : Config) (cpu : CpuNo) → HasReferences conf → Possible conf (Join cpu)
+        → HasReferences (after conf (Join cpu)) }
+    ensures split { (conf : Config) (cpu : CpuNo) → HasReferences conf → Possible conf (Split cpu)
+        → HasReferences (after conf (Split cpu)) }
+{}
