@@ -5,3 +5,4 @@ pub mod LeaveKeeps
 pub mod PinKeeps
 pub mod StartSound
 pub mod TurnKeeps
+pub mod UndoKeeps

@@ -12,10 +12,10 @@ use Rattle.gh_core.proofs.CallsKeep.{stage_number, stages_apart}
 use Rattle.gh_core.proofs.CpuMoves.{Moves, part_sound}
 use Rattle.gh_core.proofs.Finding.{put_other}
 
-counts_hit : (at : ℕ) (pin : Pin) → is_pin_at at pin ≡ true → count_by (is_pin_at at) (pin ∷ []) ≡ 1
+pub counts_hit : (at : ℕ) (pin : Pin) → is_pin_at at pin ≡ true → count_by (is_pin_at at) (pin ∷ []) ≡ 1
 counts_hit at pin is = rw is refl
 
-counts_miss : (at : ℕ) (pin : Pin) → is_pin_at at pin ≡ false
+pub counts_miss : (at : ℕ) (pin : Pin) → is_pin_at at pin ≡ false
     → count_by (is_pin_at at) (pin ∷ []) ≡ 0
 counts_miss at pin is = rw is refl
 
@@ -29,7 +29,7 @@ pin_counts count object i pin is =
     ]
 
 -- a call at another stage has the pins that the stage says
-staged_apart : (current : Option Current) (other : Current) (stage wanted : Stage)
+pub staged_apart : (current : Option Current) (other : Current) (stage wanted : Stage)
     → option_map (at_stage stage) current ≡ Some other → other.stage ≡ wanted
     → (stage_number stage == stage_number wanted) ≡ false → ⊥
 staged_apart None other stage wanted is there apart = let never : None ≡ Some other = is in cc

@@ -1,11 +1,13 @@
 //! Which events are shown to keep sound references. The functions do nothing; their clauses are
 //! laws. Of the other events nothing is said yet.
 
+ghost use Rattle.std.specs.Prelude.{false};
 ghost use Rattle.gh_base.specs.declared.ids.CpuNo.{CpuNo};
+ghost use Rattle.gh_base.specs.declared.ids.ObjIndex.{ObjIndex};
 ghost use Rattle.gh_core.specs.Config.{Config};
 ghost use Rattle.gh_core.specs.Events.{Possible, after};
 ghost use Rattle.gh_core.specs.References.{HasReferences};
-ghost use Rattle.gh_core.specs.declared.event.Event.TheVariants.{Enter, Join, Leave, Scan, Split};
+ghost use Rattle.gh_core.specs.declared.event.Event.TheVariants.{Enter, Join, Leave, Pin, Scan, Split, Undo};
 
 /// A call that enters its section keeps sound references.
 pub fn enter_keeps_references()
@@ -17,6 +19,18 @@ pub fn enter_keeps_references()
 pub fn leave_keeps_references()
     ensures { (conf : Config) (cpu : CpuNo) → HasReferences conf → Possible conf (Leave cpu)
         → HasReferences (after conf (Leave cpu)) }
+{}
+
+/// So does a pin of a call, on a word that is dead or not.
+pub fn pin_keeps_references()
+    ensures { (conf : Config) (cpu : CpuNo) (object : ObjIndex) → HasReferences conf
+        → Possible conf (Pin cpu object false) → HasReferences (after conf (Pin cpu object false)) }
+{}
+
+/// So does a pin on a dead word that is undone.
+pub fn undo_keeps_references()
+    ensures { (conf : Config) (cpu : CpuNo) (object : ObjIndex) → HasReferences conf
+        → Possible conf (Undo cpu object) → HasReferences (after conf (Undo cpu object)) }
 {}
 
 /// So does a scan of a counter.
