@@ -7,7 +7,7 @@ mod start;
 
 pub use event::Event;
 pub use references::{
-    enter_keeps_references, leave_keeps_references, pin_keeps_references, scan_keeps_references,
-    seats_keep_references, undo_keeps_references,
+    enter_keeps_references, leave_keeps_references, pin_keeps_references, quit_keeps_references,
+    scan_keeps_references, seats_keep_references, undo_keeps_references,
 };
 pub use start::start_has_references;

@@ -7,7 +7,7 @@ ghost use Rattle.gh_base.specs.declared.ids.ObjIndex.{ObjIndex};
 ghost use Rattle.gh_core.specs.Config.{Config};
 ghost use Rattle.gh_core.specs.Events.{Possible, after};
 ghost use Rattle.gh_core.specs.References.{HasReferences};
-ghost use Rattle.gh_core.specs.declared.event.Event.TheVariants.{Enter, Join, Leave, Pin, Scan, Split, Undo};
+ghost use Rattle.gh_core.specs.declared.event.Event.TheVariants.{Enter, Free, Join, Leave, Pin, Scan, Split, Undo};
 
 /// A call that enters its section keeps sound references.
 pub fn enter_keeps_references()
@@ -37,6 +37,12 @@ pub fn undo_keeps_references()
 pub fn scan_keeps_references()
     ensures { (conf : Config) (cpu of_cpu : CpuNo) → HasReferences conf
         → Possible conf (Scan cpu of_cpu) → HasReferences (after conf (Scan cpu of_cpu)) }
+{}
+
+/// So does a turn that is given back before its act.
+pub fn quit_keeps_references()
+    ensures { (conf : Config) (cpu : CpuNo) → HasReferences conf → Possible conf (Free cpu false)
+        → HasReferences (after conf (Free cpu false)) }
 {}
 
 /// And a seat that is given back or made.
