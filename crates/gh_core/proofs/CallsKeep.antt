@@ -1,15 +1,11 @@
 -- Events of calls that keep sound references: each changes one CPU's part and at most one count.
-use Rattle.std.proofs.Common.{◌≡◌, ◌==◌, ◌+◌, ◌-◌, ◌<◌, ◌≤◌, ◌∙◌, ℕ, Bool, true, false, List, [], ◌∷◌, ◌++◌, ◌⊎◌, inl, inr, refl, subst, sym, ap, arith, Option, Some, None, is_some, slice_get, if◌then◌else◌}
+use Rattle.std.proofs.Common.{◌≡◌, ◌==◌, ◌+◌, ◌-◌, ◌<◌, ◌≤◌, ◌∙◌, ℕ, true, false, [], ◌∷◌, ◌++◌, ◌⊎◌, inl, refl, subst, ap, arith, Option, Some, None, if◌then◌else◌}
 use Rattle.std.specs.Prelude.{count_by, option_map}
-use Rattle.std.specs.List.{last_or}
-use Rattle.std.proofs.lemmas.Bool.Decides.{eqb_tells, nat_tests}
-use Rattle.std.proofs.lemmas.List.Sums.{sum_by-append, sum_by-cons}
-use Rattle.gh_model.specs.Marks.{Seen}
-use Rattle.gh_core.specs.CallEvents.{MayEnter, MayPin, MayUndo, at_stage, begun, entered, pinned, undone, with_call, with_pin, pin_of_call}
-use Rattle.gh_core.specs.Config.{AtAct, Config, Cpu, Current, DeadPin, Failed, Given, IsIn, Looked, Pin, Reading, Stage, Undone, is_pin_at, object_at, pin_of, present, put, seen_index}
-use Rattle.gh_core.specs.References.{HasReferences, HoldsSoundly, IsGranted, IsPinned, dead_pin, pins_of}
-use Rattle.gh_core.proofs.CpuMoves.{Moves, part_sound, with_part}
-use Rattle.gh_core.proofs.Finding.{put_here, put_other, same_number}
+use Rattle.gh_core.specs.CallEvents.{MayEnter, at_stage, begun, entered, pinned}
+use Rattle.gh_core.specs.Config.{AtAct, Config, Cpu, Current, DeadPin, Failed, Given, Looked, Reading, Stage, Undone, is_pin_at, put}
+use Rattle.gh_core.specs.References.{HasReferences, dead_pin}
+use Rattle.gh_core.proofs.CpuMoves.{Moves, part_sound}
+use Rattle.gh_core.proofs.Finding.{same_number}
 
 -- the stages as numbers, by which two are apart
 abbrev pub stage_number : Stage → ℕ

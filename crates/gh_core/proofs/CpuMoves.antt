@@ -1,9 +1,9 @@
 -- An event that changes one CPU's part and the counts of words, and leaves all else, keeps sound
 -- references.
-use Rattle.std.proofs.Common.{◌≡◌, ◌==◌, ◌+◌, ◌<◌, ◌≤◌, ◌∙◌, ℕ, Bool, true, false, List, [], ◌∷◌, ◌⊎◌, inl, inr, refl, subst, sym, ap, arith, Option, Some, None, is_some, slice_get, if◌then◌else◌}
+use Rattle.std.proofs.Common.{◌≡◌, ◌==◌, ◌+◌, ◌<◌, ◌≤◌, ◌∙◌, ℕ, Bool, true, false, [], ◌∷◌, ◌⊎◌, inl, inr, ap, arith, None, is_some, if◌then◌else◌}
 use Rattle.std.proofs.lemmas.Bool.Decides.{nat_tests}
-use Rattle.gh_base.specs.declared.limits.TheConstants.{CPUS, OBJECT_INDICES}
-use Rattle.gh_core.specs.Config.{Config, Cpu, Pin, object_at, present, put}
+use Rattle.gh_base.specs.declared.limits.TheConstants.{CPUS}
+use Rattle.gh_core.specs.Config.{Config, Cpu, object_at, present, put}
 use Rattle.gh_core.specs.References.{AreCounted, ArePlaced, HasHome, HasReferences, HoldsSoundly, IsFresh, IsGranted, IsPinned, pins_at, pins_of}
 use Rattle.gh_core.proofs.Finding.{put_other, total_put}
 

@@ -1,5 +1,5 @@
 -- A call that leaves its section keeps sound references.
-use Rattle.std.proofs.Common.{◌≡◌, ◌==◌, ◌+◌, ◌<◌, ◌≤◌, ◌∙◌, ℕ, Bool, true, false, List, [], ◌∷◌, ◌++◌, ◌⊎◌, inl, inr, refl, subst, sym, ap, arith, Option, Some, None, is_some, slice_get}
+use Rattle.std.proofs.Common.{◌≡◌, ◌==◌, ◌+◌, ◌<◌, ◌≤◌, ◌∙◌, ℕ, true, false, List, [], ◌∷◌, ◌++◌, ◌⊎◌, inl, refl, subst, sym, ap, arith, Option, Some, None, slice_get}
 use Rattle.std.specs.Prelude.{count_by}
 use Rattle.gh_model.specs.Marks.{Outcome, Seen}
 use Rattle.gh_core.specs.CallEvents.{MayLeave, after_leave, at_stage, left, leaves_from, with_left}

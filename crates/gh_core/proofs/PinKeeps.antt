@@ -7,7 +7,7 @@ use Rattle.std.proofs.lemmas.List.Sums.{sum_by-append}
 use Rattle.gh_model.specs.Marks.{Seen}
 use Rattle.gh_core.specs.CallEvents.{MayPin, at_stage, pin_of_call, pinned, with_call, with_pin}
 use Rattle.gh_core.specs.Config.{Config, Cpu, Current, DeadPin, Looked, Pin, Reading, Stage, is_pin_at, object_at, pin_of, present, put, seen_index}
-use Rattle.gh_core.specs.References.{HasReferences, HoldsSoundly, IsGranted, IsPinned, dead_pin, pins_of}
+use Rattle.gh_core.specs.References.{HasReferences, IsGranted, IsPinned, dead_pin, pins_of}
 use Rattle.gh_core.proofs.CallsKeep.{stage_number, stages_apart}
 use Rattle.gh_core.proofs.CpuMoves.{Moves, part_sound}
 use Rattle.gh_core.proofs.Finding.{put_other}

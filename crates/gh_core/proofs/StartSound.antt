@@ -1,5 +1,5 @@
 -- The references of the configuration before any event are sound.
-use Rattle.std.proofs.Common.{◌≡◌, ◌≢◌, ◌==◌, ◌+◌, ◌<◌, ◌≤◌, ◌∙◌, not, ℕ, Bool, true, false, List, [], ◌∷◌, ◌⊎◌, inl, inr, refl, subst, sym, ap, arith, Option, Some, None, find, is_some, slice_get}
+use Rattle.std.proofs.Common.{◌≡◌, ◌≢◌, ◌==◌, ◌+◌, ◌<◌, ◌≤◌, ◌∙◌, not, ℕ, Bool, true, false, [], ◌∷◌, ◌⊎◌, inl, refl, sym, ap, arith, Option, Some, None, is_some}
 use Rattle.std.specs.Option.{option_map_or}
 use Rattle.std.proofs.lemmas.Bool.{eqb-true}
 use Rattle.gh_base.specs.declared.limits.TheConstants.{CPUS}
@@ -7,7 +7,7 @@ use Rattle.gh_model.specs.References.{references}
 use Rattle.gh_model.specs.Rows.{is_object}
 use Rattle.gh_model.specs.declared.rows.ObjectRow.{ObjectRow}
 use Rattle.gh_model.specs.declared.state.State.{State}
-use Rattle.gh_core.specs.Config.{Cpu, is_at, object_at, references_at}
+use Rattle.gh_core.specs.Config.{is_at, object_at, references_at}
 use Rattle.gh_core.specs.References.{AreCounted, ArePlaced, HasReferences, HoldsSoundly, IsRow, pins_at, pins_of}
 use Rattle.gh_core.specs.Start.{AreIndices, IsUnretired, boot_dead, new_cpu, start}
 use Rattle.gh_core.proofs.Finding.{finds, found_passes, same_number, total_none}

@@ -1,11 +1,12 @@
 -- Events that change only what the holder keeps, and no amount that is owed, keep sound references.
-use Rattle.std.proofs.Common.{◌≡◌, ◌==◌, ◌+◌, ◌<◌, ◌≤◌, ◌∙◌, ℕ, Bool, true, false, List, [], ◌∷◌, ◌⊎◌, inl, inr, refl, subst, sym, ap, arith, Option, Some, None, is_some, slice_get}
+use Rattle.std.proofs.Common.{◌≡◌, ◌==◌, ◌+◌, ◌<◌, ◌≤◌, ◌∙◌, ℕ, true, false, [], ◌∷◌, ◌⊎◌, inl, inr, refl, subst, sym, ap, arith, Option, Some, None}
 use Rattle.std.specs.Prelude.{option_map}
 use Rattle.std.specs.List.{list_any}
-use Rattle.gh_core.specs.Config.{Config, Cpu, Holder, HasTurn, has_acted, object_at, present}
+use Rattle.gh_core.specs.Config.{Config, Cpu, Holder, has_acted, object_at, present}
 use Rattle.gh_core.specs.Entries.{is_that_index}
-use Rattle.gh_core.specs.References.{AreCounted, ArePlaced, HasHome, HasReferences, HoldsSoundly, IsFresh, IsGranted, IsPinned, is_revived, owed_at}
-use Rattle.gh_core.specs.TurnEvents.{MayQuit, quit, scanned, with_scan}
+use Rattle.gh_core.specs.References.{AreCounted, ArePlaced, HasHome, HasReferences, HoldsSoundly, IsGranted, IsPinned, is_revived, owed_at}
+use Rattle.gh_core.specs.HolderEvents.{scanned, with_scan}
+use Rattle.gh_core.specs.TurnEvents.{MayQuit, quit}
 
 -- the holder of the turn changed
 abbrev pub with_holder : Config → Option Holder → Config

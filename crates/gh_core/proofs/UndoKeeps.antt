@@ -1,12 +1,12 @@
 -- A pin on a dead word that is undone keeps sound references.
-use Rattle.std.proofs.Common.{◌≡◌, ◌==◌, ◌+◌, ◌-◌, ◌<◌, ◌≤◌, ◌∙◌, ℕ, zero, suc, Bool, true, false, List, [], ◌∷◌, ◌⊎◌, inl, inr, refl, subst, sym, ap, arith, Option, Some, None, is_some}
+use Rattle.std.proofs.Common.{◌≡◌, ◌==◌, ◌+◌, ◌-◌, ◌<◌, ◌≤◌, ◌∙◌, ℕ, zero, suc, true, false, List, [], ◌∷◌, ◌⊎◌, inl, inr, refl, subst, sym, ap, arith, Some, None, is_some}
 use Rattle.std.specs.Prelude.{count_by, option_map}
 use Rattle.std.specs.List.{last_or}
 use Rattle.std.proofs.lemmas.Bool.Decides.{eqb_tells, nat_tests}
 use Rattle.gh_base.specs.declared.limits.TheConstants.{CPUS}
 use Rattle.gh_model.specs.Marks.{Seen}
 use Rattle.gh_core.specs.CallEvents.{MayUndo, at_stage, undone, with_call}
-use Rattle.gh_core.specs.Config.{Config, Cpu, Current, DeadPin, Looked, Pin, Stage, Undone, is_pin_at, object_at, pin_of, present, put, seen_index}
+use Rattle.gh_core.specs.Config.{Config, Current, DeadPin, Looked, Pin, Undone, is_pin_at, object_at, pin_of, present, put, seen_index}
 use Rattle.gh_core.specs.References.{HasReferences, dead_pin, pins_at, pins_of, total}
 use Rattle.gh_core.proofs.CpuMoves.{Moves, part_sound}
 use Rattle.gh_core.proofs.Finding.{put_other}

@@ -1,7 +1,6 @@
 -- The events of a call outside the turn: when each is possible, and what it changes.
-use Rattle.std.specs.Prelude.{◌≡◌, ◌==◌, ◌+◌, ◌-◌, ◌<◌, ℕ, Bool, true, false, List, [], ◌∷◌, ◌++◌, length, max, Option, Some, None, map, is_some, nat_lt, option_map, if◌then◌else◌}
+use Rattle.std.specs.Prelude.{◌≡◌, ◌==◌, ◌+◌, ◌-◌, ◌<◌, ℕ, Bool, true, false, List, [], ◌∷◌, ◌++◌, length, max, Option, Some, None, map, nat_lt, option_map, if◌then◌else◌}
 use Rattle.std.specs.List.{list_any, last_or}
-use Rattle.std.specs.Option.{option_map_or}
 use Rattle.gh_base.specs.CapWord.{set_at_of}
 use Rattle.gh_base.specs.Reply.{refusal}
 use Rattle.gh_base.specs.declared.cap_word.CapWord.{CapWord}
@@ -14,7 +13,7 @@ use Rattle.gh_base.specs.declared.mark.End.TheVariants as ends
 use Rattle.gh_model.specs.Marks.{Made, Outcome, Wants, Fails, Grants, Seen, cspace_of, look_of, outcome, word_of}
 use Rattle.gh_model.specs.Registers.{needs_of}
 use Rattle.gh_model.specs.Word.{is_slot, word_at}
-use Rattle.gh_core.specs.Config.{AtAct, Config, Cpu, Current, DeadPin, Failed, Given, Holder, IsBetween, IsIn, Looked, Pin, Reading, Stage, Undone, came_to, is_pin_at, last_place, pin_of, present, put, seen_index}
+use Rattle.gh_core.specs.Config.{AtAct, Config, Cpu, Current, DeadPin, Failed, Given, IsBetween, IsIn, Looked, Pin, Reading, Stage, Undone, came_to, is_pin_at, last_place, pin_of, present, put, seen_index}
 
 -- what events change
 

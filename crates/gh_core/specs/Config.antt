@@ -1,25 +1,23 @@
 -- A configuration of the machine of all interleavings: the history, the words, the turn and what
 -- each CPU keeps. Objects are named by serials, and words by indices, slots and CPUs.
 use Rattle.std.specs.Prelude.{◌≡◌, ◌==◌, ◌+◌, ℕ, Bool, true, false, List, [], length, Option, Some, None, find, map, is_some, if◌then◌else◌}
-use Rattle.std.specs.List.{list_any, last_or}
+use Rattle.std.specs.List.{list_any}
 use Rattle.std.specs.Option.{option_map_or}
 use Rattle.gh_base.specs.CapWord.{object_of}
 use Rattle.gh_base.specs.declared.call.Call.{Call}
 use Rattle.gh_base.specs.declared.cap_word.CapWord.{CapWord}
-use Rattle.gh_base.specs.declared.cap_word.Need.{Need}
 use Rattle.gh_base.specs.declared.frame.Frame.{Frame}
 use Rattle.gh_model.specs.Act.{Verdict, granted}
 use Rattle.gh_model.specs.Decide.{judge}
 use Rattle.gh_model.specs.History as history
 use Rattle.gh_model.specs.Legal.{is_part}
 use Rattle.gh_model.specs.Marks.{Made, Outcome, Seen, outcome, place_after, place_after_looks, word_of}
-use Rattle.gh_model.specs.References.{is_doomed, references}
+use Rattle.gh_model.specs.References.{references}
 use Rattle.gh_model.specs.Registers.{needs_of}
 use Rattle.gh_model.specs.declared.entry.Entry.{Entry}
 use Rattle.gh_model.specs.declared.entry.Entry.TheVariants.{Acted, Part, Retired, Reclaimed}
 use Rattle.gh_model.specs.declared.rows.ObjectRow.{ObjectRow}
 use Rattle.gh_model.specs.declared.state.State.{State}
-use Rattle.gh_model.specs.declared.word.Word.{Word}
 
 -- a function with one value put
 abbrev pub put : {X : Type 0} → (ℕ → X) → ℕ → X → ℕ → X

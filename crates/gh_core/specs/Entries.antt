@@ -1,13 +1,12 @@
 -- Entries of the holder: which are allowed, and what each does to the slots, the indices and what
 -- is owed.
-use Rattle.std.specs.Prelude.{◌≡◌, ◌==◌, ◌&&◌, ◌||◌, ◌+◌, ◌-◌, ◌<◌, ◌≤◌, not, ℕ, Bool, true, false, List, [], ◌∷◌, ◌++◌, length, Option, Some, None, map, is_some, nat_le, nat_lt, slice_get, if◌then◌else◌}
-use Rattle.std.specs.List.{list_all, list_any}
+use Rattle.std.specs.Prelude.{◌≡◌, ◌==◌, ◌&&◌, ◌||◌, ◌+◌, ◌-◌, ◌<◌, ◌≤◌, not, ℕ, Bool, true, false, List, [], ◌∷◌, ◌++◌, length, Option, Some, None, map, nat_le, nat_lt, slice_get, if◌then◌else◌}
+use Rattle.std.specs.List.{list_all}
 use Rattle.gh_base.specs.CapWord.{filled_bits, object_of}
 use Rattle.gh_base.specs.declared.cap_word.CapWord.{CapWord}
 use Rattle.gh_base.specs.declared.frame.Reply.{Reply}
 use Rattle.gh_base.specs.declared.limits.TheConstants.{CPUS, OBJECT_INDICES}
-use Rattle.gh_invariant.specs.Effects.{sets, slots_set}
-use Rattle.gh_invariant.specs.Events.{changes_of}
+use Rattle.gh_invariant.specs.Effects.{sets}
 use Rattle.gh_invariant.specs.Lives.{lives}
 use Rattle.gh_model.specs.Act.{Done, Refused}
 use Rattle.gh_model.specs.Decisions.{done}
@@ -15,7 +14,6 @@ use Rattle.gh_model.specs.Graced.{GoesUnread, GoesUnreferenced}
 use Rattle.gh_model.specs.History as history
 use Rattle.gh_model.specs.Legal.{IsPart, revoked_object}
 use Rattle.gh_model.specs.Marks.{word_of}
-use Rattle.gh_model.specs.Word.{word_at}
 use Rattle.gh_model.specs.declared.change.Change.{Change}
 use Rattle.gh_model.specs.declared.entry.Entry.{Entry}
 use Rattle.gh_model.specs.declared.entry.Entry.TheVariants.{Acted, Part, Retired, Reclaimed}

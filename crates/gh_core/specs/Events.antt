@@ -1,8 +1,9 @@
 -- The machine: which events are possible in a configuration, and the configuration behind each.
-use Rattle.std.specs.Prelude.{ℕ, Bool, true, false, List, [], ◌∷◌}
+use Rattle.std.specs.Prelude.{ℕ, true, false, [], ◌∷◌}
 use Rattle.gh_core.specs.CallEvents.{MayEnter, MayLeave, MayLook, MayMove, MayPin, MayUndo, MayUnpin, entered, left, looked, pinned, undone, unpinned}
 use Rattle.gh_core.specs.Config.{Config}
-use Rattle.gh_core.specs.TurnEvents.{MayCommit, MayEnd, MayKill, MayOwe, MayQuit, MayRevive, MayScan, MaySetCap, MaySettle, MayTake, committed, ended, killed, owed, quit, revived, scanned, set_cap, settled, taken}
+use Rattle.gh_core.specs.HolderEvents.{MayKill, MayOwe, MayRevive, MayScan, MaySettle, killed, owed, revived, scanned, settled}
+use Rattle.gh_core.specs.TurnEvents.{MayCommit, MayEnd, MayQuit, MaySetCap, MayTake, committed, ended, quit, set_cap, taken}
 use Rattle.gh_core.specs.declared.event.Event.{Event}
 use Rattle.gh_core.specs.declared.event.Event.TheVariants.{Enter, Leave, Take, Look, Pin, Unpin, Undo, Kill, Commit, SetCap, Free, Scan, Revive, Join, Split}
 

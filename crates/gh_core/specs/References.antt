@@ -5,7 +5,7 @@ use Rattle.std.specs.Option.{option_map_or}
 use Rattle.gh_base.specs.declared.limits.TheConstants.{CPUS, OBJECT_INDICES}
 use Rattle.gh_model.specs.Act.{granted}
 use Rattle.gh_model.specs.Marks.{Seen}
-use Rattle.gh_model.specs.References.{is_doomed, references}
+use Rattle.gh_model.specs.References.{references}
 use Rattle.gh_model.specs.Rows.{is_object}
 use Rattle.gh_model.specs.declared.rows.ObjectRow.{ObjectRow}
 use Rattle.gh_model.specs.declared.state.State.{State}

@@ -1,5 +1,5 @@
 -- The configuration before any event, and how CPUs are given their calls.
-use Rattle.std.specs.Prelude.{◌≡◌, ◌==◌, ◌+◌, ◌<◌, ◌≤◌, not, ℕ, Bool, true, false, List, [], ◌∷◌, ◌++◌, length, Option, Some, None, Result, Ok, Err, find, is_some}
+use Rattle.std.specs.Prelude.{◌≡◌, ◌==◌, ◌+◌, ◌<◌, ◌≤◌, not, ℕ, Bool, true, false, [], ◌∷◌, ◌++◌, length, Some, None, Result, Ok, Err, find, is_some}
 use Rattle.std.specs.List.{list_any}
 use Rattle.std.specs.Option.{option_map_or}
 use Rattle.gh_base.specs.Reply.{refusal}
@@ -17,7 +17,7 @@ use Rattle.gh_model.specs.Rows.{cpu_row, is_object}
 use Rattle.gh_model.specs.Word.{word_at}
 use Rattle.gh_model.specs.declared.rows.ObjectRow.{ObjectRow}
 use Rattle.gh_model.specs.declared.state.State.{State}
-use Rattle.gh_core.specs.Config.{Config, Cpu, Given, IsBetween, object_at, put, references_at}
+use Rattle.gh_core.specs.Config.{Config, Cpu, IsBetween, object_at, put, references_at}
 use Rattle.gh_core.specs.Entries.{shown}
 
 -- the objects of the boot have indices, each its own
