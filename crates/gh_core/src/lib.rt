@@ -1,0 +1,13 @@
+//! The machine of all interleavings: its configurations and its events, one atomic step each.
+#![tactic(auto)]
+
+mod event;
+mod references;
+mod start;
+
+pub use event::Event;
+pub use references::{
+    enter_keeps_references, leave_keeps_references, pin_keeps_references, quit_keeps_references,
+    scan_keeps_references, seats_keep_references, undo_keeps_references,
+};
+pub use start::start_has_references;
