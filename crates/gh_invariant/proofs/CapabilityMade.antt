@@ -1,20 +1,20 @@
 -- The changes of the calls on capabilities may be made.
-use Rattle.std.proofs.Common.{◌≡◌, ◌+◌, ◌<◌, ◌≤◌, ◌∙◌, ℕ, Bool, true, false, not, List, [], ◌∷◌, refl, subst, sym, ap, arith, Option, Some, None, IsTrue, find, if◌then◌else◌}
-use Rattle.std.specs.Prelude.{◌&&◌, ◌||◌, ◌==◌, bit_and, is_some, nat_lt, nat_le}
+use Rattle.std.proofs.Common.{◌≡◌, ◌∙◌, ℕ, Bool, true, false, not, List, [], ◌∷◌, refl, subst, sym, ap, Option, Some, None, IsTrue, find, if◌then◌else◌}
+use Rattle.std.specs.Prelude.{◌||◌, ◌==◌, bit_and, is_some}
 use Rattle.std.specs.List.{list_any, list_all, range_with_len}
-use Rattle.std.proofs.lemmas.Bool.{and_parts, and_from, eqb-true}
+use Rattle.std.proofs.lemmas.Bool.{and_parts, eqb-true}
 use Rattle.std.proofs.lemmas.Nat.{and_assoc, and_comm}
 use Rattle.gh_base.specs.Kind.{kind_rights}
-use Rattle.gh_base.specs.declared.errno.Errno.TheVariants.{CapNull, CapRevoked, CspaceFull, InsufRights, Retry}
+use Rattle.gh_base.specs.declared.errno.Errno.TheVariants.{CapRevoked, InsufRights, Retry}
 use Rattle.gh_base.specs.declared.ids.Serial.{Serial}
 use Rattle.gh_base.specs.declared.kind.Kind.TheVariants as kind
 use Rattle.gh_model.specs.Boot.{cpu_cspace}
-use Rattle.gh_model.specs.CapabilityCalls.{cap_copy, cap_delete, cap_revoke, caps_revoke, copied, copied_into, copy_of, deleted, free_slot, is_empty_slot, is_finished, is_valid_of, least_free, revoked}
+use Rattle.gh_model.specs.CapabilityCalls.{cap_copy, cap_delete, cap_revoke, caps_revoke, copied, copied_into, copy_of, deleted, free_slot, is_empty_slot, is_finished, is_valid_of, revoked}
 use Rattle.gh_model.specs.Decisions.{done, done_with, make_one}
 use Rattle.gh_model.specs.Rows.{fills}
 use Rattle.gh_model.specs.Word.{is_slot, setting, word_at}
 use Rattle.gh_model.specs.declared.change.Change.TheVariants.{PutCapability, DropCapability, RevokeCapability}
-use Rattle.gh_model.specs.declared.change.Decision.TheVariants.{Refuse, Unfinished, Make}
+use Rattle.gh_model.specs.declared.change.Decision.TheVariants.{Unfinished, Make}
 use Rattle.gh_model.specs.declared.rows.CapabilityRow.{CapabilityRow}
 use Rattle.gh_model.specs.declared.state.State.{State}
 use Rattle.gh_model.specs.declared.word.Word.{Word}

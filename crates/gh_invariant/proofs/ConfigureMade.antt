@@ -1,11 +1,10 @@
 -- The changes of the calls that make an object ready may be made: configure_partition,
 -- configure_queue and derive. The object comes to its next stage first.
-use Rattle.std.proofs.Common.{◌≡◌, ◌+◌, ◌-◌, ◌<◌, ◌≤◌, ◌∙◌, ℕ, zero, suc, Bool, true, false, not, List, [], ◌∷◌, ◌++◌, length, refl, subst, sym, ap, arith, Option, Some, None, IsTrue, find, option_map, eqb, if◌then◌else◌}
-use Rattle.std.specs.Prelude.{◌&&◌, ◌||◌, ◌==◌, is_some, nat_lt, nat_le, count_by, sum_by}
-use Rattle.std.proofs.lemmas.Bool.{and_parts, and_from, eqb-true, leb-true}
-use Rattle.std.proofs.lemmas.Bool.Decides.{nat_tests}
+use Rattle.std.proofs.Common.{◌≡◌, ◌+◌, ◌-◌, ◌<◌, ◌≤◌, ◌∙◌, ℕ, zero, suc, Bool, true, false, not, refl, subst, sym, ap, arith, Option, Some, None, IsTrue, find, option_map}
+use Rattle.std.specs.Prelude.{◌||◌, ◌==◌, is_some, nat_lt}
+use Rattle.std.proofs.lemmas.Bool.{and_parts, eqb-true, leb-true}
 use Rattle.gh_base.specs.Kind.{kind_number}
-use Rattle.gh_base.specs.declared.errno.Errno.TheVariants.{ArgInval, ArgSize, Denied, Nomem}
+use Rattle.gh_base.specs.declared.errno.Errno.TheVariants.{ArgInval, Nomem}
 use Rattle.gh_base.specs.declared.ids.Serial.{Serial}
 use Rattle.gh_base.specs.declared.kind.Kind.{Kind}
 use Rattle.gh_base.specs.declared.kind.Kind.TheVariants as kind
@@ -14,10 +13,10 @@ use Rattle.gh_base.specs.declared.kind.Stage.TheVariants.{Ready}
 use Rattle.gh_model.specs.Boot.{is_kind, is_of_kind, queue_cost}
 use Rattle.gh_model.specs.Changes.{set_stage, with_stage}
 use Rattle.gh_model.specs.Decide.{is_init}
-use Rattle.gh_model.specs.Decisions.{done, is_init_row, is_init_stage}
+use Rattle.gh_model.specs.Decisions.{is_init_row, is_init_stage}
 use Rattle.gh_model.specs.ObjectCalls.{configure_partition, configure_queue, quota_given, room_cost, room_given}
 use Rattle.gh_model.specs.QueueCalls.{one_if}
-use Rattle.gh_model.specs.Rows.{change_row, is_extent, is_object, is_partition, object_row}
+use Rattle.gh_model.specs.Rows.{is_extent, is_object, is_partition, object_row}
 use Rattle.gh_model.specs.Units.{free_units, given_by, row_quota, used_by}
 use Rattle.gh_model.specs.declared.rows.ExtentRow.{ExtentRow}
 use Rattle.gh_model.specs.declared.rows.ObjectRow.{ObjectRow}

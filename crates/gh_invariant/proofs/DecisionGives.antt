@@ -1,40 +1,34 @@
 -- What a call comes to gives no reference to an object that lives and has none.
-use Rattle.std.proofs.Common.{◌≡◌, ◌+◌, ◌%◌, ◌<◌, ◌≤◌, ◌∙◌, ℕ, Bool, true, false, not, List, [], ◌∷◌, length, refl, subst, sym, ap, arith, Option, Some, None, IsTrue, if◌then◌else◌}
-use Rattle.std.specs.Prelude.{◌&&◌, ◌||◌, ◌==◌, nat_lt, nat_le, min}
-use Rattle.std.proofs.lemmas.Bool.{and_parts}
+use Rattle.std.proofs.Common.{◌≡◌, ◌+◌, ◌%◌, ℕ, Bool, true, false, not, List, ◌∷◌, length, refl, Option, Some, None, IsTrue}
+use Rattle.std.specs.Prelude.{◌||◌, ◌==◌, nat_lt, nat_le, min}
 use Rattle.gh_base.specs.Kind.{kind_numbered}
 use Rattle.gh_base.specs.declared.call.Call.{Call}
 use Rattle.gh_base.specs.declared.call.Call.TheVariants as calls
-use Rattle.gh_base.specs.declared.cap_word.Need.{Need}
 use Rattle.gh_base.specs.declared.errno.Errno.TheVariants.{AddrInval, ArgInval, ArgSize, CapRevoked, ObjState, QueueFull, Retry}
 use Rattle.gh_base.specs.declared.ids.PageNo.{PageNo}
 use Rattle.gh_base.specs.declared.access.Access.{Access}
-use Rattle.gh_base.specs.declared.ids.Rights.{Rights}
 use Rattle.gh_base.specs.declared.ids.Serial.{Serial}
 use Rattle.gh_base.specs.declared.ids.TheConstants.Rights as right
 use Rattle.gh_base.specs.declared.kind.Kind.TheVariants as kind
 use Rattle.gh_base.specs.declared.limits.TheConstants.{MESSAGE_BYTES}
-use Rattle.gh_model.specs.Access.{access_at}
-use Rattle.gh_model.specs.Act.{any_doomed}
 use Rattle.gh_model.specs.BellCalls as bells
 use Rattle.gh_model.specs.Boot.{cpu_cspace}
 use Rattle.gh_model.specs.Decide.{decided, decision, is_at_end, stages_fit}
 use Rattle.gh_model.specs.Decisions.{done, done_with, grant_at}
-use Rattle.gh_model.specs.ManagerCalls.{exit_changes, rm_act}
-use Rattle.gh_model.specs.MemoryCalls.{as_lookup, looked_up, named_extent, named_space, page_of, row_space}
+use Rattle.gh_model.specs.ManagerCalls.{exit_changes}
+use Rattle.gh_model.specs.MemoryCalls.{looked_up, named_extent, named_space, page_of}
 use Rattle.gh_model.specs.QueueCalls as queues
 use Rattle.gh_model.specs.Registers.{needs_of, of_any_kind, of_kind, user_access}
 use Rattle.gh_model.specs.Rows.{cpu_row, object_row}
 use Rattle.gh_model.specs.declared.change.Change.TheVariants.{PutMessage}
 use Rattle.gh_model.specs.declared.change.Decision.TheVariants.{Make}
 use Rattle.gh_model.specs.declared.rows.BellRow.{BellRow}
-use Rattle.gh_model.specs.declared.rows.ObjectRow.{ObjectRow}
 use Rattle.gh_model.specs.declared.state.State.{State}
 use Rattle.gh_model.specs.declared.state_reads.QueueFill.{QueueFill}
-use Rattle.gh_invariant.specs.Grants.{GivesToReferred, MayAct, grants_stand, is_referred, is_running}
+use Rattle.gh_invariant.specs.Grants.{GivesToReferred, MayAct, grants_stand, is_running}
 use Rattle.gh_invariant.proofs.GrantsReferred.{extent_referred, first_of_two, second_of_two, space_referred}
 use Rattle.gh_invariant.proofs.GivesMade.{activated_gives, caps_revoke_gives, copied_gives, created_gives, deleted_gives, derived_gives, donated_gives, mapped_gives, quota_gives, revoked_gives, room_gives, unmapped_gives}
-use Rattle.gh_invariant.proofs.Referred.{cpu_refers, first_referred, gives_provided, gives_unless, second_referred}
+use Rattle.gh_invariant.proofs.Referred.{gives_provided, gives_unless}
 
 module _ (s : State) where
   sent_gives : (flags : ℕ) (row : Option BellRow) → GivesToReferred s (bells.sent flags row)

@@ -1,7 +1,7 @@
 -- The changes of derive may be made: the child is ready, gets its span, and then holds the pages.
-use Rattle.std.proofs.Common.{◌≡◌, ◌+◌, ◌<◌, ◌≤◌, ◌∙◌, ℕ, zero, suc, Bool, true, false, not, List, [], ◌∷◌, ◌++◌, length, refl, subst, sym, ap, arith, Option, Some, None, IsTrue, find, if◌then◌else◌}
+use Rattle.std.proofs.Common.{◌≡◌, ◌+◌, ◌<◌, ◌≤◌, ℕ, zero, suc, Bool, true, false, not, length, refl, subst, sym, ap, arith, Option, Some, None, IsTrue, find}
 use Rattle.std.specs.Prelude.{◌&&◌, ◌||◌, ◌==◌, nat_lt, nat_le, count_by}
-use Rattle.std.proofs.lemmas.Bool.{and_parts, and_from, eqb-true, leb-true}
+use Rattle.std.proofs.lemmas.Bool.{and_parts, and_from, leb-true}
 use Rattle.std.proofs.lemmas.Bool.Decides.{nat_tests}
 use Rattle.gh_base.specs.Kind.{kind_number}
 use Rattle.gh_base.specs.declared.errno.Errno.TheVariants.{ArgSize, Denied}
@@ -11,8 +11,7 @@ use Rattle.gh_base.specs.declared.kind.Stage.TheVariants.{Ready}
 use Rattle.gh_model.specs.Boot.{access_fits}
 use Rattle.gh_model.specs.Changes.{add_extent, with_stage}
 use Rattle.gh_model.specs.Decide.{is_init}
-use Rattle.gh_model.specs.Decisions.{done}
-use Rattle.gh_model.specs.MemoryCalls.{derived, derived_at, derived_row, holds_run, is_within_span, page_of}
+use Rattle.gh_model.specs.MemoryCalls.{derived, derived_at, derived_row, holds_run, page_of}
 use Rattle.gh_model.specs.QueueCalls.{one_if}
 use Rattle.gh_model.specs.Rows.{is_extent, object_row}
 use Rattle.gh_model.specs.declared.rows.ExtentRow.{ExtentRow}

@@ -1,5 +1,5 @@
 -- A state that is valid between two entries is so behind the next one, once that is counted.
-use Rattle.std.proofs.Common.{◌≡◌, ◌+◌, ◌≤◌, ◌&&◌, ℕ, Bool, true, false, List, refl, subst, sym, arith, IsTrue, Option, Some, None, find, is_some, if◌then◌else◌}
+use Rattle.std.proofs.Common.{◌≡◌, ◌+◌, ◌≤◌, ◌&&◌, ℕ, Bool, true, false, List, [], ◌∷◌, ◌++◌, refl, subst, sym, arith, IsTrue, Option, Some, None, find, is_some, if◌then◌else◌}
 use Rattle.std.proofs.lemmas.Bool.{and_parts, leb-true, le-leb, eqb-true}
 use Rattle.gh_base.specs.declared.ids.Serial.{Serial}
 use Rattle.gh_model.specs.Act.{counted}
@@ -11,6 +11,7 @@ use Rattle.gh_model.specs.declared.change.Change.TheVariants as change
 use Rattle.gh_model.specs.declared.rows.CapabilityRow.{CapabilityRow}
 use Rattle.gh_model.specs.declared.rows.ObjectRow.{ObjectRow}
 use Rattle.gh_model.specs.declared.rows.SetAtRow.{SetAtRow}
+use Rattle.gh_model.specs.declared.rows.TakenSlot.{TakenSlot}
 use Rattle.gh_model.specs.declared.state.State.{State}
 use Rattle.gh_invariant.specs.Lives.{setting_fits}
 use Rattle.gh_invariant.specs.Valid.{IsValid, IsValidTo, IsValidWithin, SlotsFit}
@@ -58,9 +59,10 @@ valid_more last later s more valid = record {
 pub begins : (s : State) → IsValid s → IsValidWithin s
 begins s valid = valid_more s.entries (s.entries + 1) s (omega arith) valid
 
--- the entry is counted
-pub counted_valid : (s : State) → IsValidWithin s → IsValid (counted s)
-counted_valid s valid = record {
+-- another number of entries, and other slots taken, leave a state as valid as it was
+log_valid : (last : ℕ) (s : State) (entries : ℕ) (taken : List TakenSlot) → IsValidTo last s
+    → IsValidTo last (record s { entries = entries; taken = taken })
+log_valid last s entries taken valid = record {
   objects = valid.objects;
   slots = valid.slots;
   rows = valid.rows;
@@ -72,36 +74,19 @@ counted_valid s valid = record {
   retired = valid.retired;
   parcels = valid.parcels;
 }
+
+-- the entry is counted
+pub counted_valid : (s : State) → IsValidWithin s → IsValid (counted s)
+counted_valid s valid = log_valid (s.entries + 1) s (s.entries + 1) [] valid
 
 -- or only its number
 pub numbered_valid : (s : State) → IsValidWithin s → IsValid (numbered s)
-numbered_valid s valid = record {
-  objects = valid.objects;
-  slots = valid.slots;
-  rows = valid.rows;
-  units = valid.units;
-  pages = valid.pages;
-  mappings = valid.mappings;
-  cpus = valid.cpus;
-  queues = valid.queues;
-  retired = valid.retired;
-  parcels = valid.parcels;
-}
+numbered_valid s valid = log_valid (s.entries + 1) s (s.entries + 1) s.taken valid
 
 took_valid : (s : State) (space : Serial) (slot : ℕ) → IsValidWithin s
     → IsValidWithin (took s space slot)
-took_valid s space slot valid = record {
-  objects = valid.objects;
-  slots = valid.slots;
-  rows = valid.rows;
-  units = valid.units;
-  pages = valid.pages;
-  mappings = valid.mappings;
-  cpus = valid.cpus;
-  queues = valid.queues;
-  retired = valid.retired;
-  parcels = valid.parcels;
-}
+took_valid s space slot valid =
+    log_valid (s.entries + 1) s s.entries (s.taken ++ record { cspace = space; slot = slot } ∷ []) valid
 
 -- what may be made of two states is valid where both are
 either_valid : (b : Bool) (new old : State) → (b ≡ true → IsValid new) → IsValid old

@@ -1,6 +1,6 @@
 -- An event sets one slot at most, and that slot's setting is the event's number.
-use Rattle.std.proofs.Common.{◌≡◌, ◌+◌, ◌<◌, ◌≤◌, ◌∙◌, ℕ, Bool, true, false, not, List, [], ◌∷◌, refl, subst, sym, ap, arith, IsTrue, Option, Some, None, find, if◌then◌else◌}
-use Rattle.std.specs.Prelude.{◌&&◌, ◌||◌, ◌==◌, count_by, is_some}
+use Rattle.std.proofs.Common.{◌≡◌, ◌+◌, ◌≤◌, ◌∙◌, ℕ, Bool, true, false, not, List, [], ◌∷◌, refl, ap, arith, IsTrue, Option, Some, None, find, if◌then◌else◌}
+use Rattle.std.specs.Prelude.{◌&&◌, ◌||◌, is_some}
 use Rattle.std.specs.List.{list_any}
 use Rattle.std.proofs.lemmas.Bool.{and_parts, eqb-true}
 use Rattle.gh_model.specs.Act.{grants_of}
@@ -17,20 +17,19 @@ use Rattle.gh_model.specs.declared.change.Decision.{Decision}
 use Rattle.gh_model.specs.declared.change.Decision.TheVariants.{Refuse, Unfinished, Make}
 use Rattle.gh_model.specs.declared.entry.Entry.{Entry}
 use Rattle.gh_model.specs.declared.entry.Entry.TheVariants.{Acted, Part, Retired, Reclaimed}
-use Rattle.gh_model.specs.declared.rows.CapabilityRow.{CapabilityRow}
 use Rattle.gh_model.specs.declared.state.State.{State}
 use Rattle.gh_model.specs.declared.word.Word.{Word}
 use Rattle.gh_invariant.specs.Effects.{is_place, leaves_in, sets, sets_last, sets_slot, sets_some, slots_set}
 use Rattle.gh_invariant.specs.Events.{EntryFits, EventFits, changes_of, entry_changes, judged_by, made_by}
 use Rattle.gh_invariant.specs.Grants.{MayMake}
-use Rattle.gh_invariant.specs.Premises.{MayChange, MayChangeAll}
+use Rattle.gh_invariant.specs.Premises.{MayChangeAll}
 use Rattle.gh_invariant.specs.Valid.{IsValid}
 use Rattle.gh_invariant.proofs.ChangesInOrder.{entries_stay}
 use Rattle.gh_invariant.proofs.Counting.{count_cons, one_false}
 use Rattle.gh_invariant.proofs.DecisionMade.{decision_made}
 use Rattle.gh_invariant.proofs.EntriesKept.{part_filled}
 use Rattle.gh_invariant.proofs.FactLemmas.{entry_word}
-use Rattle.gh_invariant.proofs.SetsOne.{SetsOne, decision_sets}
+use Rattle.gh_invariant.proofs.SetsOne.{decision_sets}
 use Rattle.gh_invariant.proofs.WordsLeft.{slot_set, word_set}
 
 at_most_one : (b : Bool) → one_if b ≤ 1

@@ -1,22 +1,16 @@
 -- No call gives a reference to an object that lives and has none.
-use Rattle.std.proofs.Common.{◌≡◌, ◌+◌, ◌%◌, ◌<◌, ◌≤◌, ◌∙◌, ℕ, Bool, true, false, not, List, [], ◌∷◌, ◌++◌, length, refl, subst, sym, ap, arith, Option, Some, None, IsTrue, find, if◌then◌else◌}
-use Rattle.std.specs.Prelude.{◌&&◌, ◌||◌, ◌==◌, nat_lt, nat_le, count_by, min}
+use Rattle.std.proofs.Common.{◌≡◌, ◌+◌, ℕ, Bool, true, false, not, [], ◌∷◌, ◌++◌, length, refl, Option, Some, None, IsTrue, if◌then◌else◌}
+use Rattle.std.specs.Prelude.{◌||◌, ◌==◌, nat_lt, nat_le, count_by}
 use Rattle.std.specs.List.{list_all, list_any}
-use Rattle.std.proofs.lemmas.Bool.{and_parts, and_from, eqb-true}
-use Rattle.gh_base.specs.Kind.{kind_numbered}
-use Rattle.gh_base.specs.declared.call.Call.{Call}
-use Rattle.gh_base.specs.declared.call.Call.TheVariants as calls
-use Rattle.gh_base.specs.declared.errno.Errno.TheVariants.{AddrInval, AddrOvfl, ArgInval, ArgSize, Busy, CapNull, CapRevoked, Denied, InsufRights, Nomem, ObjConfig, ObjState, QueueFull, Retry}
+use Rattle.std.proofs.lemmas.Bool.{and_parts, and_from}
+use Rattle.gh_base.specs.declared.errno.Errno.TheVariants.{AddrInval, AddrOvfl, ArgInval, ArgSize, Busy, CapRevoked, Denied, InsufRights, Nomem, ObjConfig, Retry}
 use Rattle.gh_base.specs.declared.ids.Serial.{Serial}
 use Rattle.gh_base.specs.declared.kind.Kind.{Kind}
-use Rattle.gh_base.specs.declared.limits.TheConstants.{MESSAGE_BYTES}
-use Rattle.gh_model.specs.Act.{any_doomed}
-use Rattle.gh_model.specs.CapabilityCalls.{cap_copy, caps_revoke, copied, copied_into, copy_of, deleted, free_slot, is_finished, is_valid_of, revoked}
-use Rattle.gh_model.specs.Boot.{access_fits, cpu_cspace, is_row_of, overlaps, serial_of}
-use Rattle.gh_model.specs.Decisions.{done, done_with, grant_at, is_init_stage}
-use Rattle.gh_model.specs.MemoryCalls.{are_related, derived, derived_at, donated, donated_at, donated_to, holds_run, is_within_span, mapped, mapped_at, meant_count, meant_offset, page_of, unmapped, unmapped_row}
+use Rattle.gh_model.specs.CapabilityCalls.{caps_revoke, copied, copied_into, deleted, free_slot, is_finished, is_valid_of, revoked}
+use Rattle.gh_model.specs.Boot.{access_fits, is_row_of, overlaps, serial_of}
+use Rattle.gh_model.specs.Decisions.{done_with, is_init_stage}
+use Rattle.gh_model.specs.MemoryCalls.{are_related, derived, donated, donated_to, holds_run, is_within_span, mapped, meant_count, meant_offset, page_of, unmapped, unmapped_row}
 use Rattle.gh_model.specs.ObjectCalls.{activated, created, created_in, lacks_room, quota_given, room_cost, room_given}
-use Rattle.gh_model.specs.QueueCalls as queues
 use Rattle.gh_model.specs.Units.{free_units}
 use Rattle.gh_model.specs.Word.{word_at}
 use Rattle.gh_model.specs.declared.change.Decision.TheVariants.{Make, Unfinished}

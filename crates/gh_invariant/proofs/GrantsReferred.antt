@@ -1,6 +1,5 @@
 -- The objects that a call was granted have references, where none of them is at its end.
-use Rattle.std.proofs.Common.{◌≡◌, ◌+◌, ◌<◌, ◌≤◌, ◌∙◌, ℕ, Bool, true, false, not, List, [], ◌∷◌, length, refl, arith, Option, Some, None, IsTrue, if◌then◌else◌}
-use Rattle.std.specs.Prelude.{◌&&◌}
+use Rattle.std.proofs.Common.{◌≡◌, ℕ, Bool, true, false, List, [], ◌∷◌, length, refl, arith, IsTrue, if◌then◌else◌}
 use Rattle.std.proofs.lemmas.Bool.{and_parts}
 use Rattle.gh_base.specs.declared.cap_word.Need.{Need}
 use Rattle.gh_base.specs.declared.ids.Rights.{Rights}

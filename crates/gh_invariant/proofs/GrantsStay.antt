@@ -1,9 +1,8 @@
 -- What a look granted is no live object of another kind behind any events, and a new object has one
 -- reference.
-use Rattle.std.proofs.Common.{◌≡◌, ◌+◌, ◌<◌, ◌≤◌, ◌∙◌, ◌⊎◌, inl, inr, ℕ, Bool, true, false, not, List, [], ◌∷◌, ◌++◌, refl, subst, sym, ap, arith, IsTrue, Option, Some, None, find, option_map, if◌then◌else◌}
-use Rattle.std.specs.Prelude.{◌&&◌, ◌||◌, ◌==◌, is_some, nat_lt, count_by}
+use Rattle.std.proofs.Common.{◌≡◌, ◌+◌, ◌<◌, ◌≤◌, ◌∙◌, inl, inr, ℕ, Bool, true, false, not, List, [], ◌∷◌, ◌++◌, refl, subst, sym, ap, arith, IsTrue, Option, Some, None, find, option_map, if◌then◌else◌}
+use Rattle.std.specs.Prelude.{◌||◌, ◌==◌, is_some}
 use Rattle.std.proofs.lemmas.Bool.{eqb-true, ltb-true}
-use Rattle.std.proofs.lemmas.Bool.Decides.{nat_tests}
 use Rattle.std.proofs.lemmas.List.{append-nil}
 use Rattle.gh_base.specs.Kind.{kind_number}
 use Rattle.gh_base.specs.declared.ids.Serial.{Serial}
@@ -24,7 +23,7 @@ use Rattle.gh_invariant.specs.Effects.{gained, home_of, is_that, lost, object_of
 use Rattle.gh_invariant.specs.Events.{EventsFit}
 use Rattle.gh_invariant.specs.Grants.{grant_fits}
 use Rattle.gh_invariant.specs.Lives.{lives, lives_as, slot_fits}
-use Rattle.gh_invariant.specs.NamesLiving.{NamesLiving, living_kind, row_kind}
+use Rattle.gh_invariant.specs.NamesLiving.{NamesLiving, row_kind}
 use Rattle.gh_invariant.specs.Premises.{MayChangeAll}
 use Rattle.gh_invariant.specs.Valid.{IsValid}
 use Rattle.gh_invariant.proofs.ChangesInOrder.{references_all}

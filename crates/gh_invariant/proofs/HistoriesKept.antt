@@ -1,10 +1,9 @@
 -- Every state of a history is valid, and what is doomed in one is doomed in all behind it.
-use Rattle.std.proofs.Common.{◌≡◌, ◌+◌, ◌<◌, ◌≤◌, ◌∙◌, ℕ, zero, suc, Bool, true, false, List, [], ◌∷◌, ◌++◌, fold, take, refl, subst, sym, ap, arith, IsTrue, Option, Some, None, find, if◌then◌else◌}
+use Rattle.std.proofs.Common.{◌≡◌, ◌<◌, ◌≤◌, ℕ, zero, suc, Bool, true, false, List, [], ◌∷◌, take, arith, find, if◌then◌else◌}
 use Rattle.std.specs.Prelude.{◌&&◌}
-use Rattle.gh_base.specs.declared.ids.Serial.{Serial}
 use Rattle.gh_model.specs.Act.{counted}
 use Rattle.gh_model.specs.Changes.{changed, changed_all}
-use Rattle.gh_model.specs.Decide.{has_moved, verdict}
+use Rattle.gh_model.specs.Decide.{verdict}
 use Rattle.gh_model.specs.History.{Event, after_entry, after_event, after_verdict, is_retired, is_unretired, may_act, may_part, numbered, replay, state_at, took}
 use Rattle.gh_model.specs.References.{is_doomed, references}
 use Rattle.gh_model.specs.Rows.{fills, object_row}
@@ -15,8 +14,7 @@ use Rattle.gh_model.specs.declared.change.Decision.TheVariants.{Refuse, Unfinish
 use Rattle.gh_model.specs.declared.entry.Entry.{Entry}
 use Rattle.gh_model.specs.declared.entry.Entry.TheVariants.{Acted, Part, Retired, Reclaimed}
 use Rattle.gh_model.specs.declared.state.State.{State}
-use Rattle.gh_invariant.specs.Events.{EventFits, EventsFit, judged_by}
-use Rattle.gh_invariant.specs.Premises.{Together}
+use Rattle.gh_invariant.specs.Events.{EventsFit, judged_by}
 use Rattle.gh_invariant.specs.Valid.{IsValid}
 use Rattle.gh_invariant.proofs.EventsKept.{event_doomed, event_valid}
 

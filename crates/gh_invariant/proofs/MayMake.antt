@@ -1,26 +1,23 @@
 -- What every call comes to may be made: the changes of a decision, in a valid state.
-use Rattle.std.proofs.Common.{◌≡◌, ◌+◌, ◌-◌, ◌*◌, ◌/◌, ◌%◌, ◌<◌, ◌≤◌, ◌∙◌, ℕ, suc, Bool, true, false, not, List, [], ◌∷◌, ◌++◌, length, refl, subst, sym, ap, arith, Option, Some, None, IsTrue, find, eqb, if◌then◌else◌}
-use Rattle.std.specs.Prelude.{◌&&◌, ◌||◌, ◌==◌, is_some, nat_lt, nat_le, count_by}
-use Rattle.std.proofs.lemmas.Bool.{cases_Bool, and_parts, and_from, eqb-true, leb-true}
+use Rattle.std.proofs.Common.{◌≡◌, ◌/◌, ◌<◌, ℕ, Bool, true, false, not, List, [], ◌∷◌, refl, arith, Option, Some, None, IsTrue, eqb, if◌then◌else◌}
+use Rattle.std.specs.Prelude.{◌||◌, ◌==◌, is_some, nat_lt, nat_le}
 use Rattle.std.proofs.lemmas.Bool.Decides.{nat_tests}
 use Rattle.gh_base.specs.declared.errno.Errno.{Errno}
 use Rattle.gh_base.specs.declared.frame.Reply.{Reply}
 use Rattle.gh_base.specs.declared.ids.Serial.{Serial}
 use Rattle.gh_base.specs.declared.kind.Kind.{Kind}
-use Rattle.gh_base.specs.declared.kind.Kind.TheVariants as kind
 use Rattle.gh_model.specs.Act.{is_active_row}
-use Rattle.gh_model.specs.Boot.{is_of_kind}
-use Rattle.gh_model.specs.Decide.{is_active, is_init}
+use Rattle.gh_model.specs.Decide.{is_active}
 use Rattle.gh_model.specs.declared.change.Change.{Change}
 use Rattle.gh_model.specs.declared.change.Decision.{Decision}
-use Rattle.gh_model.specs.declared.change.Decision.TheVariants.{Refuse, Unfinished, Make}
+use Rattle.gh_model.specs.declared.change.Decision.TheVariants.{Refuse, Make}
 use Rattle.gh_model.specs.declared.rows.ObjectRow.{ObjectRow}
 use Rattle.gh_model.specs.declared.state.State.{State}
 use Rattle.gh_model.specs.Registers.{first_of, is_unaligned}
 use Rattle.gh_model.specs.Rows.{object_row}
 use Rattle.gh_invariant.specs.Grants.{MayMake, grant_fits}
 use Rattle.gh_invariant.specs.Lives.{lives, lives_as}
-use Rattle.gh_invariant.specs.Premises.{MayChange, MayChangeAll, Together}
+use Rattle.gh_invariant.specs.Premises.{MayChange}
 
 -- a decision behind a refusal may be made where that refusal doesn't hold
 pub unless : (s : State) (refused : Bool) (errno : Errno) (others : Decision)

@@ -1,26 +1,24 @@
 -- The changes of the calls on memory may be made.
-use Rattle.std.proofs.Common.{◌≡◌, ◌+◌, ◌-◌, ◌<◌, ◌≤◌, ◌∙◌, ℕ, Bool, true, false, not, List, [], ◌∷◌, ◌++◌, length, refl, subst, sym, ap, arith, Option, Some, None, IsTrue, find, if◌then◌else◌}
-use Rattle.std.specs.Prelude.{◌&&◌, ◌||◌, ◌==◌, is_some, nat_lt, nat_le, count_by}
-use Rattle.std.specs.List.{list_any, list_all}
+use Rattle.std.proofs.Common.{◌≡◌, ◌+◌, ℕ, Bool, true, false, not, length, refl, subst, sym, Option, Some, None, IsTrue, find, if◌then◌else◌}
+use Rattle.std.specs.Prelude.{◌&&◌, ◌==◌, nat_lt, nat_le, count_by}
+use Rattle.std.specs.List.{list_any}
 use Rattle.std.proofs.lemmas.Bool.{and_parts, and_from, eqb-true}
-use Rattle.std.proofs.lemmas.Bool.Decides.{nat_tests}
 use Rattle.gh_base.specs.declared.errno.Errno.TheVariants.{AddrInval, AddrOvfl, ArgInval, ArgSize, Busy, Denied, Nomem}
 use Rattle.gh_base.specs.declared.ids.Serial.{Serial}
 use Rattle.gh_base.specs.declared.kind.Kind.TheVariants as kind
 use Rattle.gh_model.specs.Boot.{access_fits, is_row_of, overlaps}
 use Rattle.gh_model.specs.Changes.{is_mapping}
-use Rattle.gh_model.specs.Decisions.{done, make_one}
+use Rattle.gh_model.specs.Decisions.{done}
 use Rattle.gh_model.specs.MemoryCalls.{are_related, donated, donated_at, donated_to, holds_run, is_within_span, mapped, mapped_at, mapped_row, mapping_row, meant_count, meant_offset, page_of, unmapped, unmapped_row}
-use Rattle.gh_model.specs.Registers.{has_partial, is_unaligned}
+use Rattle.gh_model.specs.Registers.{has_partial}
 use Rattle.gh_model.specs.Rows.{is_extent}
-use Rattle.gh_model.specs.declared.change.Change.TheVariants.{AddExtent, DropMapping, MovePages, PutMapping, SetStage}
-use Rattle.gh_model.specs.declared.change.Decision.TheVariants.{Refuse, Make}
+use Rattle.gh_model.specs.declared.change.Change.TheVariants.{DropMapping, MovePages, PutMapping}
 use Rattle.gh_model.specs.declared.rows.ExtentRow.{ExtentRow}
 use Rattle.gh_model.specs.declared.rows.MappingRow.{MappingRow}
 use Rattle.gh_model.specs.declared.state.State.{State}
 use Rattle.gh_invariant.specs.Grants.{MayMake, is_referred}
 use Rattle.gh_invariant.specs.Lives.{lives_as, span_fits, spans_row}
-use Rattle.gh_invariant.specs.Premises.{MayMap, MayMove, MayUnmap}
+use Rattle.gh_invariant.specs.Premises.{MayMap, MayUnmap}
 use Rattle.gh_invariant.specs.Valid.{IsValid}
 use Rattle.gh_invariant.proofs.Counting.{found_all, found_passes}
 use Rattle.gh_invariant.proofs.Referred.{may_refer}

@@ -1,27 +1,25 @@
 -- The changes of the calls on objects, and of derive, may be made.
-use Rattle.std.proofs.Common.{◌≡◌, ◌+◌, ◌-◌, ◌<◌, ◌≤◌, ◌∙◌, ℕ, Bool, true, false, not, List, [], ◌∷◌, ◌++◌, length, refl, subst, sym, ap, arith, Option, Some, None, IsTrue, find, eqb, if◌then◌else◌}
-use Rattle.std.specs.Prelude.{◌&&◌, ◌||◌, ◌==◌, bit_and, is_some, nat_lt, nat_le, count_by}
+use Rattle.std.proofs.Common.{◌≡◌, ◌+◌, ◌<◌, ◌≤◌, ◌∙◌, ℕ, Bool, true, false, not, List, [], ◌∷◌, ◌++◌, refl, subst, sym, ap, arith, Option, Some, None, IsTrue, find}
+use Rattle.std.specs.Prelude.{◌&&◌, ◌||◌, ◌==◌, bit_and, nat_lt, count_by}
 use Rattle.std.specs.List.{list_all}
-use Rattle.std.proofs.lemmas.Bool.{and_parts, and_from, eqb-true, leb-true}
+use Rattle.std.proofs.lemmas.Bool.{and_parts, eqb-true, leb-true}
 use Rattle.std.proofs.lemmas.Bool.Decides.{nat_tests}
 use Rattle.gh_base.specs.Kind.{kind_cost, kind_number, kind_numbered, kind_rights, kind_stage}
-use Rattle.gh_base.specs.declared.errno.Errno.TheVariants.{ArgInval, CspaceFull, Nomem, ObjConfig, ObjState}
+use Rattle.gh_base.specs.declared.errno.Errno.TheVariants.{Nomem, ObjConfig}
 use Rattle.gh_base.specs.declared.ids.Serial.{Serial}
 use Rattle.gh_base.specs.declared.kind.Kind.{Kind}
 use Rattle.gh_base.specs.declared.kind.Kind.TheVariants as kind
-use Rattle.gh_base.specs.declared.kind.Stage.{Stage}
-use Rattle.gh_base.specs.declared.kind.Stage.TheVariants.{Init, Ready, Active}
+use Rattle.gh_base.specs.declared.kind.Stage.TheVariants.{Active}
 use Rattle.gh_model.specs.Boot.{is_master_of, is_of_kind}
 use Rattle.gh_model.specs.History.{is_retired}
 use Rattle.gh_model.specs.QueueCalls.{one_if}
-use Rattle.gh_model.specs.Changes.{add_object, changed, set_stage, with_stage}
-use Rattle.gh_model.specs.Decisions.{done, done_with, is_init_stage}
+use Rattle.gh_model.specs.Changes.{add_object}
+use Rattle.gh_model.specs.Decisions.{done, is_init_stage}
 use Rattle.gh_model.specs.ObjectCalls.{activate, activated, create, created, created_in, is_full, lacks_room, master_rights, new_master, new_object}
 use Rattle.gh_model.specs.CapabilityCalls.{free_slot}
 use Rattle.gh_model.specs.Rows.{is_object, object_row}
 use Rattle.gh_model.specs.Units.{free_units}
-use Rattle.gh_model.specs.declared.change.Change.TheVariants.{AddObject, PutCapability, SetStage}
-use Rattle.gh_model.specs.declared.change.Decision.TheVariants.{Refuse, Make}
+use Rattle.gh_model.specs.declared.change.Change.TheVariants.{SetStage}
 use Rattle.gh_model.specs.declared.rows.CapabilityRow.{CapabilityRow}
 use Rattle.gh_model.specs.declared.rows.ObjectRow.{ObjectRow}
 use Rattle.gh_model.specs.declared.state.State.{State}

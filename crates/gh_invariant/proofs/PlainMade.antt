@@ -1,9 +1,9 @@
 -- The changes of the calls on doorbells and queues, of exit and of the resource manager's calls may
 -- be made.
-use Rattle.std.proofs.Common.{◌≡◌, ◌+◌, ℕ, Bool, true, false, not, List, [], ◌∷◌, length, refl, Option, Some, None, find, if◌then◌else◌}
+use Rattle.std.proofs.Common.{◌≡◌, ◌+◌, ℕ, Bool, true, false, List, ◌∷◌, length, refl, Option, Some, None, find}
 use Rattle.std.specs.Prelude.{◌==◌, nat_lt, nat_le, min}
 use Rattle.gh_base.specs.declared.access.Access.{Access}
-use Rattle.gh_base.specs.declared.errno.Errno.TheVariants.{AddrInval, ArgSize, QueueEmpty, QueueFull}
+use Rattle.gh_base.specs.declared.errno.Errno.TheVariants.{AddrInval, ArgSize, QueueFull}
 use Rattle.gh_base.specs.declared.ids.CpuNo.{CpuNo}
 use Rattle.gh_base.specs.declared.ids.PageNo.{PageNo}
 use Rattle.gh_base.specs.declared.ids.Serial.{Serial}

@@ -1,6 +1,6 @@
 -- What a call comes to sets one slot at most.
-use Rattle.std.proofs.Common.{◌≡◌, ◌+◌, ◌%◌, ◌<◌, ◌≤◌, ◌∙◌, ℕ, Bool, true, false, not, List, [], ◌∷◌, length, refl, IsTrue, Option, Some, None, if◌then◌else◌}
-use Rattle.std.specs.Prelude.{◌&&◌, ◌||◌, ◌==◌, nat_lt, nat_le, min, count_by}
+use Rattle.std.proofs.Common.{◌+◌, ◌%◌, ℕ, Bool, true, false, not, List, [], ◌∷◌, length, refl, IsTrue, Option, Some, None, if◌then◌else◌}
+use Rattle.std.specs.Prelude.{◌||◌, ◌==◌, nat_lt, nat_le, min, count_by}
 use Rattle.std.specs.List.{list_any}
 use Rattle.gh_base.specs.Kind.{kind_numbered}
 use Rattle.gh_base.specs.declared.access.Access.{Access}
@@ -13,10 +13,9 @@ use Rattle.gh_base.specs.declared.ids.PageNo.{PageNo}
 use Rattle.gh_base.specs.declared.ids.Serial.{Serial}
 use Rattle.gh_base.specs.declared.kind.Kind.{Kind}
 use Rattle.gh_base.specs.declared.limits.TheConstants.{MESSAGE_BYTES}
-use Rattle.gh_model.specs.Access.{access_at}
 use Rattle.gh_model.specs.BellCalls as bells
-use Rattle.gh_model.specs.Boot.{access_fits, cpu_cspace, is_row_of, overlaps}
-use Rattle.gh_model.specs.CapabilityCalls.{caps_revoke, copied, copied_into, deleted, free_slot, is_finished, is_valid_of, revoked}
+use Rattle.gh_model.specs.Boot.{access_fits, is_row_of, overlaps}
+use Rattle.gh_model.specs.CapabilityCalls.{copied, copied_into, deleted, free_slot, is_finished, is_valid_of, revoked}
 use Rattle.gh_model.specs.Decide.{decided, decision, is_at_end, stages_fit}
 use Rattle.gh_model.specs.Decisions.{done, done_with, grant_at, is_init_stage}
 use Rattle.gh_model.specs.ManagerCalls.{exit_changes}
@@ -24,7 +23,6 @@ use Rattle.gh_model.specs.MemoryCalls.{are_related, derived, donated, donated_to
 use Rattle.gh_model.specs.ObjectCalls.{activated, created, created_in, lacks_room, quota_given, room_cost, room_given}
 use Rattle.gh_model.specs.QueueCalls as queues
 use Rattle.gh_model.specs.Registers.{user_access}
-use Rattle.gh_model.specs.Rows.{object_row}
 use Rattle.gh_model.specs.Units.{free_units}
 use Rattle.gh_model.specs.declared.change.Change.TheVariants.{PutMessage}
 use Rattle.gh_model.specs.declared.change.Decision.{Decision}

@@ -1,6 +1,6 @@
 -- An event that may come: its act, if it is one, is of a CPU that runs and has the call's shape and
 -- grants. And the changes that an event makes.
-use Rattle.std.specs.Prelude.{◌==◌, ◌&&◌, ⊤, ℕ, Bool, true, false, List, [], ◌∷◌, length, Option, Some, None, find, if◌then◌else◌}
+use Rattle.std.specs.Prelude.{◌&&◌, ⊤, ℕ, List, [], ◌∷◌, length, find, if◌then◌else◌}
 use Rattle.gh_model.specs.Act.{grants_of}
 use Rattle.gh_model.specs.Decide.{decision, has_moved}
 use Rattle.gh_model.specs.History.{Event, after_event, is_retired, is_unretired, may_act, may_part}

@@ -1,10 +1,9 @@
 -- What an act is given: a CPU that runs, a call of its shape, and its grants. And when the changes of
 -- what it comes to may be made.
-use Rattle.std.specs.Prelude.{◌≡◌, ◌==◌, ◌&&◌, ◌||◌, not, ⊤, ℕ, Bool, true, false, List, [], ◌∷◌, length, Option, Some, None, IsTrue, nat_le}
+use Rattle.std.specs.Prelude.{◌≡◌, ◌&&◌, ◌||◌, not, ⊤, ℕ, Bool, true, false, List, [], ◌∷◌, Option, Some, None, IsTrue, nat_le}
 use Rattle.std.specs.List.{list_all}
 use Rattle.gh_base.specs.declared.call.Call.{Call}
 use Rattle.gh_base.specs.declared.cap_word.Need.{Need}
-use Rattle.gh_base.specs.declared.errno.Errno.{Errno}
 use Rattle.gh_base.specs.declared.ids.Serial.{Serial}
 use Rattle.gh_base.specs.declared.kind.Kind.{Kind}
 use Rattle.gh_model.specs.References.{is_doomed}

@@ -1,5 +1,5 @@
 -- What callers use of a valid state: what a capability, a CPU and a link name.
-use Rattle.std.specs.Prelude.{◌≡◌, ◌<◌, ℕ, Bool, true, false, List, Option, Some, None, IsTrue, find, option_map}
+use Rattle.std.specs.Prelude.{◌≡◌, ◌<◌, ℕ, false, List, Option, IsTrue, find, option_map}
 use Rattle.gh_base.specs.declared.kind.Kind.{Kind}
 use Rattle.gh_base.specs.declared.kind.Kind.TheVariants as kind
 use Rattle.gh_model.specs.History.{is_retired}
