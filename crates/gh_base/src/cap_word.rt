@@ -1,7 +1,11 @@
 //! The capability word: what one atomic load of a slot shows.
 
 ghost use Rattle.std.specs.Prelude.{◌≡◌, ◌<◌, true};
-ghost use Rattle.gh_base.specs.CapWord.{kinds, marks, rights_values, settings, packed, numbered_fields, filled_bits, filled_fields, fields_of, empty_fields, revoked_bits, revoked_fields, masked_bits, masked_fields, state_of, kind_of, master_of, object_of, rights_of, set_at_of};
+ghost use Rattle.gh_base.specs.CapWord.{kinds, marks, rights_values, settings, packed};
+ghost use Rattle.gh_base.specs.CapWord.{numbered_fields, filled_bits, filled_fields};
+ghost use Rattle.gh_base.specs.CapWord.{fields_of, empty_fields, revoked_bits};
+ghost use Rattle.gh_base.specs.CapWord.{revoked_fields, masked_bits, masked_fields, state_of};
+ghost use Rattle.gh_base.specs.CapWord.{kind_of, master_of, object_of, rights_of, set_at_of};
 
 use crate::ids::{ObjIndex, Rights};
 use crate::kind::Kind;
