@@ -74,7 +74,8 @@ impl CapWord {
     ) -> CapWord
         requires { object.0 < OBJECT_INDICES }
         ensures bits { result.0 ≡ filled_bits valid kind master object.0 rights.0 set_at }
-        ensures fields { fields_of result.0 ≡ filled_fields valid kind master object.0 rights.0 set_at }
+        ensures fields { fields_of result.0
+            ≡ filled_fields valid kind master object.0 rights.0 set_at }
     {
         let state = if valid { VALID } else { REVOKED };
         let object = object.0 as u64;
@@ -92,7 +93,8 @@ impl CapWord {
     pub fn valid(kind: Kind, master: bool, object: ObjIndex, rights: Rights, set_at: u32) -> CapWord
         requires { object.0 < OBJECT_INDICES }
         ensures bits { result.0 ≡ filled_bits true kind master object.0 rights.0 set_at }
-        ensures fields { fields_of result.0 ≡ filled_fields true kind master object.0 rights.0 set_at }
+        ensures fields { fields_of result.0
+            ≡ filled_fields true kind master object.0 rights.0 set_at }
     {
         CapWord::filled(true, kind, master, object, rights, set_at)
     }
