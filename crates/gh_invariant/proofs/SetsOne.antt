@@ -66,13 +66,13 @@ rings_set : (queue : Serial) (message : List ℕ) (linked : Bool) (reply : Reply
 rings_set queue message true reply = record { last = refl }
 rings_set queue message false reply = record { last = refl }
 
-put_sets : (s : State) (queue : Serial) (message : List ℕ) (fill : Option QueueFill) → SetsOne (queues.sent s queue message fill)
+put_sets : (s : State) (queue : Serial) (message : List ℕ) (fill : Option QueueFill) → SetsOne (queues.message_sent s queue message fill)
 put_sets s queue message None = record { last = refl }
 put_sets s queue message (Some fill) =
     sets_unless (nat_lt fill.size (length message)) ArgSize _ (sets_unless (nat_le fill.depth fill.count) QueueFull _
     (rings_set queue message (queues.is_request_queue s queue) (done_with (queues.one_if (nat_lt (fill.count + 1) fill.depth)))))
 
-taken_sets : (queue : Serial) (room : ℕ) (fill : Option QueueFill) (first : Option (List ℕ)) → SetsOne (queues.received queue room fill first)
+taken_sets : (queue : Serial) (room : ℕ) (fill : Option QueueFill) (first : Option (List ℕ)) → SetsOne (queues.message_received queue room fill first)
 taken_sets queue room None first = record { last = refl }
 taken_sets queue room (Some fill) None = record { last = refl }
 taken_sets queue room (Some fill) (Some message) =
