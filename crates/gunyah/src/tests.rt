@@ -112,8 +112,8 @@ fn a_put_that_fails_is_told_and_leaves_a_front_part(rt: HostRuntime) -> Result<(
     Ok(())
 }
 
-/// Whether these words end so and nothing is written, after just these files were asked for, each
-/// with its limit and one byte more. There are the files of `step`, and one of a byte too many.
+/// Whether these words end so and nothing is written, after just these files were asked for, each with
+/// its limit and one byte more. There are the files of `step`, and one of a byte too many.
 fn asks<R: Threads + Wait + Sync>(
     rt: &R,
     alloc: Global,
@@ -141,29 +141,21 @@ fn asks<R: Threads + Wait + Sync>(
 }
 
 #[test]
-fn words_of_no_form_ask_for_no_file(rt: HostRuntime) -> Result<(), Fail> {
+fn files_are_asked_for_in_order_up_to_the_first_fault(rt: HostRuntime) -> Result<(), Fail> {
+    let alloc = rt.alloc();
     let nine = [
         "step", "boot", "schedule", "1", "2", "3", "4", "5", "6", "7", "8", "9",
     ];
-    for words in [
-        [].as_slice(),
-        &["step", "boot"],
-        &["run", "boot", "vm1", "vm1"],
-        &["check", "boot", "vm1", "vm1"],
-        &["gen", "1", "1", "1"],
-        &nine,
-    ] {
-        assert!(rt; asks(&rt, rt.alloc(), words, &[], Status::Usage, &[])?);
-    }
-    Ok(())
-}
-
-#[test]
-fn files_are_asked_for_in_order_up_to_the_first_fault(rt: HostRuntime) -> Result<(), Fail> {
     for (words, failing, status, names) in [
+        ([].as_slice(), [].as_slice(), Status::Usage, 0),
+        (&["step", "boot"], &[], Status::Usage, 0),
+        (&["run", "boot", "vm1", "vm1"], &[], Status::Usage, 0),
+        (&["check", "boot", "vm1", "vm1"], &[], Status::Usage, 0),
+        (&["gen", "1", "1", "1"], &[], Status::Usage, 0),
+        (&nine, &[], Status::Usage, 0),
         (
-            ["step", "boot", "schedule", "vm1", "vm1"].as_slice(),
-            [].as_slice(),
+            &["step", "boot", "schedule", "vm1", "vm1"],
+            &[],
             Status::BadCalls(4, 0),
             4,
         ),
@@ -194,7 +186,7 @@ fn files_are_asked_for_in_order_up_to_the_first_fault(rt: HostRuntime) -> Result
     ] {
         let names = &words[words.len().min(1)..words.len().min(1 + names)];
         assert!(rt;
-            asks(&rt, rt.alloc(), words, failing, status, names)?,
+            asks(&rt, alloc, words, failing, status, names)?,
             "{status}"
         );
     }
