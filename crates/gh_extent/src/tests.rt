@@ -1,11 +1,8 @@
 //! A worked derivation and its return, and donations between siblings.
 
-ghost use Rattle.std.specs.Prelude.{◌≡◌};
-
 use crate::Extents;
-use gh_base::{Access, Errno, NoMemory, PageNo, Relation, Serial};
+use gh_base::{Access, Errno, PageNo, Relation, Serial};
 use gh_model::{Holders, Span};
-use std::alloc::Global;
 use std::test::Fail;
 
 const ROOT: Serial = Serial(4);
@@ -50,42 +47,21 @@ fn a_parcel_holds_the_pages_that_move_to_it(rt: HostRuntime) -> Result<(), Fail>
 }
 
 #[test]
-fn a_range_that_another_holds_in_part_is_not_derived(rt: HostRuntime) -> Result<(), Fail> {
+fn siblings_donate_the_pages_that_they_hold(rt: HostRuntime) -> Result<(), Fail> {
+    let span = Span {
+        first: PageNo(0),
+        count: 8,
+        access: Access::ALL,
+    };
     let mut extents = Extents::new(rt.alloc(), 8, ROOT)?;
-    extents.add(FIRST, ROOT, eight_pages())?;
+    extents.add(FIRST, ROOT, span)?;
     extents.move_run(ROOT, FIRST, PageNo(0), 4);
     assert_eq!(rt;
         extents.derive(SECOND, ROOT, 0, 8, Access(7))?,
         Err(Errno::Denied)
     );
-    Ok(())
-}
-
-/// The span of all eight pages.
-fn eight_pages() -> Span
-    ensures { result ≡ record { first = record { 0 = 0 }; count = 8; access = Access.ALL } }
-{
-    Span {
-        first: PageNo(0),
-        count: 8,
-        access: Access::ALL,
-    }
-}
-
-/// Two children of the root that span all eight pages: the first holds the first four, and the
-/// second the others.
-fn siblings(alloc: Global) -> Result<Extents, NoMemory> {
-    let mut extents = Extents::new(alloc, 8, ROOT)?;
-    extents.add(FIRST, ROOT, eight_pages())?;
-    extents.move_run(ROOT, FIRST, PageNo(0), 4);
-    extents.add(SECOND, ROOT, eight_pages())?;
+    extents.add(SECOND, ROOT, span)?;
     extents.move_run(ROOT, SECOND, PageNo(4), 4);
-    Ok(extents)
-}
-
-#[test]
-fn siblings_donate_the_pages_that_they_hold(rt: HostRuntime) -> Result<(), Fail> {
-    let mut extents = siblings(rt.alloc())?;
     let cases = [
         (Relation::ToSibling, FIRST, SECOND, 0, 2, Ok(())),
         (Relation::ToSibling, FIRST, SECOND, 1, 3, Err(Errno::Denied)),
