@@ -1,6 +1,7 @@
 pub mod ActLemmas
 pub mod BootLemmas
 pub mod CallsLemmas
+pub mod ChangedRows
 pub mod CpuRows
 pub mod DecideLemmas
 pub mod DecimalLaw

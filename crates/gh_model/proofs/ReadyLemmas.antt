@@ -1,48 +1,14 @@
 -- What is found of an object once it came to its next stage, and that units in use are as before.
-use Rattle.std.proofs.Common.{◌≡◌, ◌+◌, ◌≤◌, ◌∙◌, ◌⊎◌, inl, inr, ℕ, suc, Bool, true, false, List, [], ◌∷◌, refl, subst, sym, ap, arith, Option, Some, None, find, option_map, slice_get}
-use Rattle.std.specs.List.{position_or_len}
-use Rattle.std.proofs.lemmas.Bool.{cases_Bool}
+use Rattle.std.proofs.Common.{◌≡◌, ◌+◌, ◌≤◌, ◌∙◌, ℕ, refl, ap, arith, Some, option_map}
 use Rattle.gh_base.specs.declared.ids.Serial.{Serial}
 use Rattle.gh_base.specs.declared.kind.Stage.{Stage}
 use Rattle.gh_model.specs.Changes.{set_stage, with_stage}
-use Rattle.gh_model.specs.Rows.{change_row, is_object, object_row, put_row}
+use Rattle.gh_model.specs.Rows.{is_object, object_row}
 use Rattle.gh_model.specs.Units.{used_units}
 use Rattle.gh_model.specs.declared.rows.ObjectRow.{ObjectRow}
 use Rattle.gh_model.specs.declared.state.State.{State}
+use Rattle.gh_model.proofs.ChangedRows.{find_changed}
 use Rattle.gh_model.proofs.SumLemmas.{used_change}
-
-put_later : {R : Type 0} (change : R → R) (row : R) (rows : List R) (at : ℕ) (found : Option R)
-    → put_row change (row ∷ rows) (suc at) found ≡ row ∷ put_row change rows at found
-put_later change row rows at None = refl
-put_later change row rows at (Some old) = refl
-
-change_later : {R : Type 0} (test : R → Bool) (change : R → R) (row : R) (rows : List R) → test row ≡ false
-    → change_row test change (row ∷ rows) ≡ row ∷ change_row test change rows
-change_later test change row rows fails =
-    let at : position_or_len test (row ∷ rows) ≡ suc (position_or_len test rows) = rw fails (omega arith) in
-    subst (λ (n : ℕ). put_row change (row ∷ rows) n (slice_get (row ∷ rows) n) ≡ row ∷ change_row test change rows) (sym at)
-    (put_later change row rows (position_or_len test rows) (slice_get rows (position_or_len test rows)))
-
-find_changed_by : {R : Type 0} (test : R → Bool) (change : R → R) (row : R) (rows : List R)
-    → (test row ≡ true) ⊎ (test row ≡ false) → test (change row) ≡ test row
-    → find test (change_row test change rows) ≡ option_map change (find test rows)
-    → find test (change_row test change (row ∷ rows)) ≡ option_map change (find test (row ∷ rows))
-find_changed_by {R = R} test change row rows (inl here) kept others =
-    let changed : change_row test change (row ∷ rows) ≡ change row ∷ rows = rw here refl in
-    let new : find test (change row ∷ rows) ≡ Some (change row) = rw (kept ∙ here) refl in
-    let old : find test (row ∷ rows) ≡ Some row = rw here refl in
-    ap (find test) changed ∙ new ∙ sym (ap (option_map change) old)
-find_changed_by {R = R} test change row rows (inr later) kept others =
-    let new : find test (row ∷ change_row test change rows) ≡ find test (change_row test change rows) = rw later refl in
-    let old : find test (row ∷ rows) ≡ find test rows = rw later refl in
-    ap (find test) (change_later test change row rows later) ∙ new ∙ others ∙ sym (ap (option_map change) old)
-
--- a row that is found is found changed
-find_changed : {R : Type 0} (test : R → Bool) (change : R → R) (rows : List R) → ((row : R) → test (change row) ≡ test row)
-    → find test (change_row test change rows) ≡ option_map change (find test rows)
-find_changed test change [] kept = refl
-find_changed test change (row ∷ rows) kept =
-    find_changed_by test change row rows (cases_Bool (test row)) (kept row) (find_changed test change rows kept)
 
 -- the object is found in its next stage
 pub staged_row : (s : State) (object : Serial) (stage : Stage) (row : ObjectRow) → object_row s object.0 ≡ Some row

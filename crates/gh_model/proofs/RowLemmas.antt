@@ -8,7 +8,7 @@ use Rattle.std.proofs.lemmas.Option.{cond_some, slice_get-get_or}
 use Rattle.gh_model.specs.Rows.{change_row, put_row}
 
 -- as many items as there are take the place of all
-refilled : {X : Type 0} (xs ws : List X) → length ws ≡ length xs → refill (length xs) xs ws ≡ ws
+pub refilled : {X : Type 0} (xs ws : List X) → length ws ≡ length xs → refill (length xs) xs ws ≡ ws
 refilled xs ws same =
     subst (λ (n : ℕ). take n (ws ++ drop (length ws) xs) ≡ ws) same (take-append_seam ws (drop (length ws) xs))
 

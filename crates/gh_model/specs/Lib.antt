@@ -15,6 +15,7 @@ pub mod ManagerCalls
 pub mod Marks
 pub mod Memory
 pub mod MemoryCalls
+pub mod Nouns
 pub mod Numeral
 pub mod ObjectCalls
 pub mod Pieces

@@ -18,6 +18,7 @@ mod make;
 mod manager_calls;
 mod memory;
 mod memory_calls;
+mod nouns;
 mod numeral;
 mod object_calls;
 mod object_changes;
