@@ -28,4 +28,4 @@ pub use references::{
 };
 pub use units::{change_moves_units, changes_move_units};
 pub use validity::{change_keeps_valid, changes_keep_valid};
-pub use words::{change_sets_word, words_stay};
+pub use words::{change_sets_word, words_stand, words_stay};
