@@ -1,8 +1,11 @@
+pub mod CallMoves
+pub mod CallsGoOn
 pub mod CallsKeep
 pub mod CpuMoves
 pub mod Finding
 pub mod LeaveKeeps
 pub mod PinKeeps
+pub mod Places
 pub mod StartSound
 pub mod TurnKeeps
 pub mod UndoKeeps

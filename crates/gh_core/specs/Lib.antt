@@ -1,4 +1,5 @@
 pub mod CallEvents
+pub mod Calls
 pub mod Config
 pub mod Entries
 pub mod Events
@@ -6,3 +7,4 @@ pub mod HolderEvents
 pub mod References
 pub mod Start
 pub mod TurnEvents
+pub mod Words
