@@ -1,4 +1,5 @@
 pub mod CallMoves
+pub mod CallsEnd
 pub mod CallsGoOn
 pub mod CallsKeep
 pub mod CpuMoves
