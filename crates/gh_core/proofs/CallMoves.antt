@@ -125,6 +125,7 @@ module _ (conf : Config) (at : ℕ) (cpu : Cpu) (count counter : ℕ → ℕ)
     has_turn = waits.has_turn;
     in_act = in_act_kept waits.holder waits.call waits.has_turn waits.in_act;
     not_acted = waits.not_acted;
+    parts = waits.parts;
     caller = waits.caller;
     is_its = waits.is_its;
   }

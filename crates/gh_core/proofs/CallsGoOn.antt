@@ -1,13 +1,13 @@
 -- The events of a call that leave the finished calls keep sound calls.
 use Rattle.std.proofs.Common.{◌≡◌, ◌==◌, ◌+◌, ◌*◌, ◌-◌, ◌∙◌, ℕ, Bool, true, false, not, List, [], ◌∷◌, length, refl, subst, sym, ap, arith, Option, Some, None, Ok, count_by, map, is_some, option_map, slice_get, if◌then◌else◌}
-use Rattle.std.specs.List.{last_or}
+use Rattle.std.specs.List.{last_or, list_any}
 use Rattle.gh_base.specs.declared.cap_word.Need.{Need}
 use Rattle.gh_model.specs.Marks.{Made, Seen, has_looks, failure, outcome}
 use Rattle.gh_model.specs.Registers.{needs_of}
 use Rattle.gh_model.specs.Rows.{cpu_row}
 use Rattle.gh_core.specs.Calls.{CurrentIs, DeathIs, HasCalls, NextIs, came_fits, is_dying, looks_fit, needs_fit, pinned_looks, section_behind, steps, steps_at}
-use Rattle.gh_core.specs.CallEvents.{MayEnter, MayUndo, at_stage, begun, entered, undone}
-use Rattle.gh_core.specs.Config.{AtAct, Config, Cpu, Current, DeadPin, IsIn, Pin, Reading, Stage, Undone, came_to, pin_of, put}
+use Rattle.gh_core.specs.CallEvents.{MayEnter, MayUndo, MayUnpin, at_stage, begun, entered, undone, unpinned, without_pin}
+use Rattle.gh_core.specs.Config.{AtAct, Config, Cpu, Current, DeadPin, IsIn, Pin, Reading, Stage, Undone, came_to, is_pin_at, pin_of, put}
 use Rattle.gh_core.proofs.CallMoves.{CallGoesOn, on_sound}
 use Rattle.gh_core.proofs.CallsKeep.{stage_number}
 use Rattle.gh_core.proofs.CpuMoves.{with_part}
@@ -208,3 +208,27 @@ undo_keeps_calls conf at object sound may =
   where
     dead_no_act : DeadPin ≡ AtAct → ⊥
     dead_no_act is = let never : 2 ≡ 5 = ap stage_number is in cc
+
+-- Unpin
+
+no_pin : (at : ℕ) (pins : List Pin) → pins ≡ [] → list_any (is_pin_at at) pins ≡ true → ⊥
+no_pin at [] none held = let never : ⊥ = cc in never
+no_pin at (pin ∷ pins) none held = let never : ⊥ = cc in never
+
+unpinned_cpu : Cpu → ℕ → Cpu
+unpinned_cpu cpu object = record cpu { pins = without_pin object cpu.pins }
+
+-- a pin that is dropped behind the end of its call keeps sound calls
+pub unpin_keeps_calls : (conf : Config) (at object : ℕ) → HasCalls conf → MayUnpin conf at object
+    → HasCalls (unpinned conf at object)
+unfolding unpinned_cpu
+unpin_keeps_calls conf at object sound may =
+    on_sound conf at (unpinned_cpu (conf.cpu at) object) (put conf.count object (conf.count object - 1)) conf.counter record {
+      other = λ call acts. none_acts (conf.cpu at).current call may.ended acts.is_current;
+      same = refl;
+      counts = sound.counters at;
+      counters = λ n differs. refl;
+      current = λ call is. absurd (none_acts (conf.cpu at).current call may.ended is);
+      next = λ given is. absurd (no_pin object (conf.cpu at).pins ((sound.calls at).next given is).dropped may.held);
+      idle = λ none. absurd (no_pin object (conf.cpu at).pins ((sound.calls at).idle none).pins may.held);
+    } sound

@@ -8,5 +8,6 @@ pub mod LeaveKeeps
 pub mod PinKeeps
 pub mod Places
 pub mod StartSound
+pub mod TurnCalls
 pub mod TurnKeeps
 pub mod UndoKeeps

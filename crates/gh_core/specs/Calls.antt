@@ -177,6 +177,7 @@ pub record Waits (events : List history.Event) (turn : Option Holder) (cpus : �
   pub has_turn : turn ≡ Some holder
   pub in_act : IsIn (cpus holder.cpu) call AtAct
   pub not_acted : has_acted holder ≡ false
+  pub parts : has_part holder ≡ true
   pub caller : history.caller event.entry ≡ Some (holder.cpu, call.given.number)
   pub is_its : event ≡ logged event.entry call
 
