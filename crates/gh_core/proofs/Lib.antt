@@ -4,6 +4,7 @@ pub mod CallsGoOn
 pub mod CallsKeep
 pub mod CpuMoves
 pub mod Finding
+pub mod HolderCalls
 pub mod LeaveKeeps
 pub mod PinKeeps
 pub mod Places
