@@ -9,6 +9,7 @@ pub mod LeaveKeeps
 pub mod PinKeeps
 pub mod Places
 pub mod StartSound
+pub mod TakeCalls
 pub mod TurnCalls
 pub mod TurnKeeps
 pub mod UndoKeeps
