@@ -7,4 +7,3 @@ pub mod HolderEvents
 pub mod References
 pub mod Start
 pub mod TurnEvents
-pub mod Words
