@@ -1,8 +1,16 @@
 pub mod CallsKeep
 pub mod CpuMoves
 pub mod Finding
+pub mod KillKeeps
 pub mod LeaveKeeps
+pub mod Living
+pub mod LookKeeps
+pub mod OweKeeps
 pub mod PinKeeps
+pub mod ReviveKeeps
 pub mod StartSound
+pub mod TakeKeeps
 pub mod TurnKeeps
 pub mod UndoKeeps
+pub mod UnpinKeeps
+pub mod WordsMove

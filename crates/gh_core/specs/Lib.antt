@@ -6,3 +6,4 @@ pub mod HolderEvents
 pub mod References
 pub mod Start
 pub mod TurnEvents
+pub mod Words

@@ -7,7 +7,9 @@ mod start;
 
 pub use event::Event;
 pub use references::{
-    enter_keeps_references, leave_keeps_references, pin_keeps_references, quit_keeps_references,
-    scan_keeps_references, seats_keep_references, undo_keeps_references,
+    end_keeps_references, enter_keeps_references, kill_keeps_references, leave_keeps_references,
+    look_keeps_references, owe_keeps_references, pin_keeps_references, quit_keeps_references,
+    revive_keeps_references, scan_keeps_references, seats_keep_references, settle_keeps_references,
+    take_keeps_references, undo_keeps_references, unpin_keeps_references,
 };
 pub use start::start_has_references;
