@@ -2,6 +2,7 @@ pub mod CallEvents
 pub mod Config
 pub mod Entries
 pub mod Events
+pub mod Grace
 pub mod HolderEvents
 pub mod References
 pub mod Start
