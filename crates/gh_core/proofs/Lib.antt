@@ -1,6 +1,7 @@
 pub mod CallsKeep
 pub mod CpuMoves
 pub mod Finding
+pub mod GraceCalls
 pub mod GraceFrames
 pub mod KillKeeps
 pub mod LeaveKeeps

@@ -39,12 +39,14 @@ staged_apart (Some call) other stage wanted is there apart =
 looked_pins : (call : Current) (stage : Stage) → call.stage ≡ Looked → dead_pin (Some call) ≡ []
 looked_pins call stage is = rw is refl
 
-stands_in : (pins : List Pin) (new pin : Pin) (i : ℕ) → slice_get (pins ++ new ∷ []) i ≡ Some pin
-    → ((slice_get pins i ≡ Some pin) ⊎ (new ≡ pin))
-stands_in [] new pin zero is = inr cc
-stands_in [] new pin (suc i) is = let never : None ≡ Some pin = is in absurd (let no_more : ⊥ = cc in no_more)
-stands_in (first ∷ pins) new pin zero is = inl is
-stands_in (first ∷ pins) new pin (suc i) is = stands_in pins new pin i is
+-- an item of a list with one more is one of the list or the new one
+pub stands_in : {X : Type 0} (items : List X) (new item : X) (i : ℕ)
+    → slice_get (items ++ new ∷ []) i ≡ Some item
+    → ((slice_get items i ≡ Some item) ⊎ (new ≡ item))
+stands_in [] new item zero is = inr cc
+stands_in [] new item (suc i) is = let never : None ≡ Some item = is in absurd (let no_more : ⊥ = cc in no_more)
+stands_in (first ∷ items) new item zero is = inl is
+stands_in (first ∷ items) new item (suc i) is = stands_in items new item i is
 
 -- a call at another stage has the same last look
 pub same_last : (current : Option Current) (call other : Current) (stage : Stage) (first seen : Seen)
