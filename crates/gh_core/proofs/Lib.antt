@@ -2,6 +2,7 @@ pub mod CallsKeep
 pub mod CpuMoves
 pub mod Finding
 pub mod GraceCalls
+pub mod GraceEvents
 pub mod GraceFrames
 pub mod KillKeeps
 pub mod LeaveKeeps

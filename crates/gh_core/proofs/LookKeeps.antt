@@ -106,7 +106,7 @@ look_undead (Fails errno) is = absurd (omega (arith, is))
 look_undead Grants is = absurd (omega (arith, is))
 
 -- a look that fails leaves no grant, so one that leaves a grant is granted
-granted_by : (reply : Result Serial Errno) (needs : List (ℕ × Need)) (words : List Word) (slot : ℕ)
+pub granted_by : (reply : Result Serial Errno) (needs : List (ℕ × Need)) (words : List Word) (slot : ℕ)
     (need : Need) (word : Word) → look_reply word need ≡ reply
     → outcome needs words ≡ Wants slot need
     → grants_at (stage_after_look (outcome needs (words ++ word ∷ []))) ≡ true → GrantsRow word
@@ -122,7 +122,7 @@ pub record OwnRow (s : State) (serial : ℕ) : Type 0 where
   pub is : IsRow s row
   pub same : row.serial.0 ≡ serial
 
-own_row : (s : State) (serial : ℕ) (kind : Kind) (object : Option ObjectRow)
+pub own_row : (s : State) (serial : ℕ) (kind : Kind) (object : Option ObjectRow)
     → find (is_object serial) s.objects ≡ object → is_of_kind kind object ≡ true → OwnRow s serial
 own_row s serial kind None is lives = absurd (let never : ⊥ = cc in never)
 own_row s serial kind (Some row) is lives =
