@@ -4,6 +4,8 @@ pub mod Finding
 pub mod GraceCalls
 pub mod GraceEvents
 pub mod GraceFrames
+pub mod GraceScans
+pub mod GraceTurn
 pub mod KillKeeps
 pub mod LeaveKeeps
 pub mod Living
