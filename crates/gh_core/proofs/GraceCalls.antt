@@ -61,6 +61,7 @@ counts_section new current call same is = by_test (nat_lt 0 call.section) refl
     by_value : (here : Bool) → 0 + cond here 1 0 ≡ (if◌then◌else◌ {A = ℕ} here 1 0)
     by_value true = refl
     by_value false = refl
+
     by_test : (here : Bool) → nat_lt 0 call.section ≡ here → count_by has_section (new ∷ []) ≡ entered_now current
     by_test here test =
         ap (λ (one : Bool). 0 + cond one 1 0) (ap (nat_lt 0) same ∙ test) ∙ (by_value here ∙ sym (ap entered_now is ∙ ap (λ (one : Bool). if◌then◌else◌ {A = ℕ} one 1 0) test))

@@ -144,12 +144,12 @@ module _ (boot : State) (index : ℕ → ℕ) (indices : AreIndices boot index) 
 abbrev pub KeepsScans : (Holder → Holder) → Type 0
 KeepsScans change = (holder : Holder) → (change holder).scans ≡ holder.scans
 
-scans_kept : (change : Holder → Holder) (turn : Option Holder) (cpu : ℕ) → KeepsScans change
+pub scans_kept : (change : Holder → Holder) (turn : Option Holder) (cpu : ℕ) → KeepsScans change
     → scan_of (option_map change turn) cpu ≡ scan_of turn cpu
 scans_kept change None cpu keeps = refl
 scans_kept change (Some holder) cpu keeps = ap (λ (scans : ℕ → Option ℕ). scans cpu) (keeps holder)
 
-held_kept : (change : Holder → Holder) (turn : Option Holder) → is_some turn ≡ true
+pub held_kept : (change : Holder → Holder) (turn : Option Holder) → is_some turn ≡ true
     → is_some (option_map change turn) ≡ true
 held_kept change None held = held
 held_kept change (Some holder) held = refl

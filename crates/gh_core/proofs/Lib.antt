@@ -2,8 +2,12 @@ pub mod CallsKeep
 pub mod CpuMoves
 pub mod Finding
 pub mod GraceCalls
+pub mod GraceEnds
+pub mod GraceEntries
 pub mod GraceEvents
 pub mod GraceFrames
+pub mod GraceLook
+pub mod GraceReclaim
 pub mod GraceScans
 pub mod GraceTurn
 pub mod KillKeeps

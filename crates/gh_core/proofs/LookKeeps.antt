@@ -166,7 +166,7 @@ pub record OfSlot (s : State) (cspace slot : ℕ) (row : CapabilityRow) : Type 0
   pub names : is_slot slot ≡ true
   pub fills : find (fills cspace slot) s.caps ≡ Some row
 
-of_slot : (s : State) (cspace slot : ℕ) (row : CapabilityRow) (names : Bool) → is_slot slot ≡ names
+pub of_slot : (s : State) (cspace slot : ℕ) (row : CapabilityRow) (names : Bool) → is_slot slot ≡ names
     → (if◌then◌else◌ {A = Word} names (record { row = find (fills cspace slot) s.caps; set_at = setting s cspace slot }) (record { row = None; set_at = 0 })).row ≡ Some row
     → OfSlot s cspace slot row
 of_slot s cspace slot row true names is = record { names = names; fills = is }

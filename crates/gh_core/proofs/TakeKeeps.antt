@@ -49,7 +49,7 @@ module _ (conf : Config) (at : ℕ) (sound : HasReferences conf) (cpu : Cpu)
 
 -- Take
 
-stage_ready : (stage : Stage) (call found : Current) → call.stage ≡ stage
+pub stage_ready : (stage : Stage) (call found : Current) → call.stage ≡ stage
     → if_at_act stage call ≡ Some found → call.stage ≡ AtAct
 stage_ready Reading call found at is = absurd (no_call found is)
 stage_ready Looked call found at is = absurd (no_call found is)
@@ -75,7 +75,7 @@ next_ready : (next : Option Given) (call : Current) → if_lookless next ≡ Som
 next_ready None call is = absurd (no_call call is)
 next_ready (Some given) call is = lookless_ready (has_needs given) given call is
 
-at_act_same : (stage : Stage) (call found : Current) → stage ≡ AtAct → if_at_act stage call ≡ Some found
+pub at_act_same : (stage : Stage) (call found : Current) → stage ≡ AtAct → if_at_act stage call ≡ Some found
     → call ≡ found
 at_act_same stage call found at is =
     let now : if_at_act AtAct call ≡ Some found = subst (λ (one : Stage). if_at_act one call ≡ Some found) at is in
