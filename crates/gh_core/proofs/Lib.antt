@@ -1,8 +1,13 @@
 pub mod CallsKeep
 pub mod CpuMoves
+pub mod EntryKeeps
+pub mod EntryMoves
+pub mod EventObjects
 pub mod Finding
 pub mod LeaveKeeps
+pub mod NoPins
 pub mod PinKeeps
 pub mod StartSound
+pub mod StateKeeps
 pub mod TurnKeeps
 pub mod UndoKeeps

@@ -4,5 +4,6 @@ pub mod Entries
 pub mod Events
 pub mod HolderEvents
 pub mod References
+pub mod Replayed
 pub mod Start
 pub mod TurnEvents

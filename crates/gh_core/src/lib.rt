@@ -1,10 +1,14 @@
 //! The machine of all interleavings: its configurations and its events, one atomic step each.
 #![tactic(auto)]
 
+mod entries;
 mod event;
 mod references;
 mod start;
 
+pub use entries::{
+    commit_keeps_references, events_keep_state, set_cap_keeps_references, start_has_state,
+};
 pub use event::Event;
 pub use references::{
     enter_keeps_references, leave_keeps_references, pin_keeps_references, quit_keeps_references,
