@@ -116,6 +116,15 @@ lives_there s index serial alive =
     subst (λ (n : ℕ). is_some (object_at s index (index n)) ≡ true) one.serial_is
     (finds (is_object one.row.serial.0) (is_at index (index one.row.serial.0)) s.objects one.row one.is_row (same_number (index one.row.serial.0)))
 
+-- objects that live have indices, each its own
+pub indices_of : (conf : Config) → HasReferences conf
+    → ((serial : ℕ) → lives (present conf).objects serial ≡ true → conf.index serial < OBJECT_INDICES)
+    → AreIndices (present conf) conf.index
+indices_of conf sound within = record {
+  within = within;
+  unique = λ serial other alive also same. let one : RowOf (present conf) serial = row_of (present conf) serial alive in let two : RowOf (present conf) other = row_of (present conf) other also in let at : conf.index one.row.serial.0 ≡ conf.index two.row.serial.0 = ap conf.index one.serial_is ∙ same ∙ sym (ap conf.index two.serial_is) in sym one.serial_is ∙ sound.placed.unique one.row two.row one.is_row two.is_row at ∙ two.serial_is;
+}
+
 module _ (conf : Config) (history : List Event) (index : ℕ → ℕ) (holder after : Holder)
     (cap : ℕ → ℕ → CapWord)
     (follows : Follows conf holder after (replay conf.boot history) index)
@@ -124,10 +133,7 @@ module _ (conf : Config) (history : List Event) (index : ℕ → ℕ) (holder af
   new = replay conf.boot history
 
   old_indices : AreIndices (present conf) conf.index
-  old_indices = record {
-    within = follows.was_within;
-    unique = λ serial other alive also same. let one : RowOf (present conf) serial = row_of (present conf) serial alive in let two : RowOf (present conf) other = row_of (present conf) other also in let at : conf.index one.row.serial.0 ≡ conf.index two.row.serial.0 = ap conf.index one.serial_is ∙ same ∙ sym (ap conf.index two.serial_is) in sym one.serial_is ∙ sound.placed.unique one.row two.row one.is_row two.is_row at ∙ two.serial_is;
-  }
+  old_indices = indices_of conf sound follows.was_within
 
   -- an index that was revived has no object yet
   revived_empty : (at : ℕ) → list_any (is_that_index at) holder.revived ≡ true

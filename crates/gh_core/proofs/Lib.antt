@@ -1,3 +1,4 @@
+pub mod BoundKeeps
 pub mod CallsKeep
 pub mod CpuMoves
 pub mod EntryKeeps

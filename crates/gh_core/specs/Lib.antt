@@ -1,3 +1,4 @@
+pub mod Bounded
 pub mod CallEvents
 pub mod Config
 pub mod Entries
