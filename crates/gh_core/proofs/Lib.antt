@@ -1,6 +1,11 @@
+pub mod BoundKeeps
 pub mod CallsKeep
 pub mod CpuMoves
+pub mod EntryKeeps
+pub mod EntryMoves
+pub mod EventObjects
 pub mod Finding
+pub mod GraceActs
 pub mod GraceCalls
 pub mod GraceEnds
 pub mod GraceEntries
@@ -14,10 +19,12 @@ pub mod KillKeeps
 pub mod LeaveKeeps
 pub mod Living
 pub mod LookKeeps
+pub mod NoPins
 pub mod OweKeeps
 pub mod PinKeeps
 pub mod ReviveKeeps
 pub mod StartSound
+pub mod StateKeeps
 pub mod TakeKeeps
 pub mod TurnKeeps
 pub mod UndoKeeps

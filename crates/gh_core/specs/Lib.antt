@@ -1,3 +1,4 @@
+pub mod Bounded
 pub mod CallEvents
 pub mod Config
 pub mod Entries
@@ -5,6 +6,7 @@ pub mod Events
 pub mod Grace
 pub mod HolderEvents
 pub mod References
+pub mod Replayed
 pub mod Start
 pub mod TurnEvents
 pub mod Words

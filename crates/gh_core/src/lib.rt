@@ -1,11 +1,17 @@
 //! The machine of all interleavings: its configurations and its events, one atomic step each.
 #![tactic(auto)]
 
+mod bounds;
+mod entries;
 mod event;
 mod grace;
 mod references;
 mod start;
 
+pub use bounds::{events_keep_bounded, objects_are_bounded, start_is_bounded};
+pub use entries::{
+    commit_keeps_references, events_keep_state, set_cap_keeps_references, start_has_state,
+};
 pub use event::Event;
 pub use grace::{
     enter_keeps_grace, free_keeps_grace, kill_keeps_grace, leave_keeps_grace, look_keeps_grace,
