@@ -1,13 +1,28 @@
 //! The machine of all interleavings: its configurations and its events, one atomic step each.
 #![tactic(auto)]
 
+mod bounds;
+mod entries;
 mod event;
+mod grace;
 mod references;
 mod start;
 
+pub use bounds::{events_keep_bounded, objects_are_bounded, start_is_bounded};
+pub use entries::{
+    commit_keeps_references, events_keep_state, set_cap_keeps_references, start_has_state,
+};
 pub use event::Event;
+pub use grace::{
+    enter_keeps_grace, free_keeps_grace, kill_keeps_grace, leave_keeps_grace, look_keeps_grace,
+    owe_keeps_grace, pin_keeps_grace, reclaim_keeps_grace, retire_keeps_grace, revive_keeps_grace,
+    scan_keeps_grace, seats_keep_grace, start_has_grace, take_keeps_grace, undo_keeps_grace,
+    unpin_keeps_grace,
+};
 pub use references::{
-    enter_keeps_references, leave_keeps_references, pin_keeps_references, quit_keeps_references,
-    scan_keeps_references, seats_keep_references, undo_keeps_references,
+    end_keeps_references, enter_keeps_references, kill_keeps_references, leave_keeps_references,
+    look_keeps_references, owe_keeps_references, pin_keeps_references, quit_keeps_references,
+    revive_keeps_references, scan_keeps_references, seats_keep_references, settle_keeps_references,
+    take_keeps_references, undo_keeps_references, unpin_keeps_references,
 };
 pub use start::start_has_references;

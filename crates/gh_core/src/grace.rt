@@ -1,0 +1,122 @@
+//! Which events are shown to keep the grace of a configuration. The functions do nothing; their
+//! clauses are laws. Of acts and their parts nothing is said yet.
+
+ghost use Rattle.std.specs.Prelude.{ℕ, List, true, false};
+ghost use Rattle.gh_base.specs.declared.ids.CpuNo.{CpuNo};
+ghost use Rattle.gh_base.specs.declared.ids.ObjIndex.{ObjIndex};
+ghost use Rattle.gh_base.specs.declared.ids.Serial.{Serial};
+ghost use Rattle.gh_core.specs.Config.{Config, present};
+ghost use Rattle.gh_core.specs.Events.{Possible, after};
+ghost use Rattle.gh_core.specs.Grace.{HasGrace};
+ghost use Rattle.gh_core.specs.References.{HasReferences};
+ghost use Rattle.gh_core.specs.Start.{AreIndices, IsUnretired, start};
+ghost use Rattle.gh_core.specs.declared.event.Event.TheVariants.{Commit, Enter, Free, Join, Kill, Leave, Look, Pin, Revive, Scan, Split, Take, Undo, Unpin};
+ghost use Rattle.gh_invariant.specs.Valid.{IsValid};
+ghost use Rattle.gh_model.specs.declared.entry.Entry.TheVariants.{Retired, Reclaimed};
+ghost use Rattle.gh_model.specs.declared.state.State.{State};
+
+/// Where a boot state's objects have indices, each its own, and none is retired, the configuration
+/// before any event has grace.
+pub fn start_has_grace()
+    ensures { (boot : State) (index : ℕ → ℕ) → AreIndices boot index → IsUnretired boot
+        → HasGrace (start boot index) }
+{}
+
+/// A call that enters its section keeps grace.
+pub fn enter_keeps_grace()
+    ensures { (conf : Config) (cpu : CpuNo) → HasGrace conf → Possible conf (Enter cpu)
+        → HasGrace (after conf (Enter cpu)) }
+{}
+
+/// So does a look, where the references are sound and the present state is valid: what it grants is
+/// neither retired nor killed.
+pub fn look_keeps_grace()
+    ensures { (conf : Config) (cpu : CpuNo) (slot : ℕ) → HasReferences conf → HasGrace conf
+        → IsValid (present conf) → Possible conf (Look cpu slot) → HasGrace (after conf (Look cpu slot)) }
+{}
+
+/// So does a pin of a call, on a word that is dead or not.
+pub fn pin_keeps_grace()
+    ensures { (conf : Config) (cpu : CpuNo) (object : ObjIndex) → HasGrace conf
+        → Possible conf (Pin cpu object false) → HasGrace (after conf (Pin cpu object false)) }
+{}
+
+/// So does a pin on a dead word that is undone.
+pub fn undo_keeps_grace()
+    ensures { (conf : Config) (cpu : CpuNo) (object : ObjIndex) → HasGrace conf
+        → Possible conf (Undo cpu object) → HasGrace (after conf (Undo cpu object)) }
+{}
+
+/// So does a call that leaves its section, to its act or to its end.
+pub fn leave_keeps_grace()
+    ensures { (conf : Config) (cpu : CpuNo) → HasGrace conf → Possible conf (Leave cpu)
+        → HasGrace (after conf (Leave cpu)) }
+{}
+
+/// So does a pin of an ended call that is dropped.
+pub fn unpin_keeps_grace()
+    ensures { (conf : Config) (cpu : CpuNo) (object : ObjIndex) → HasGrace conf
+        → Possible conf (Unpin cpu object false) → HasGrace (after conf (Unpin cpu object false)) }
+{}
+
+/// So does a turn that is taken.
+pub fn take_keeps_grace()
+    ensures { (conf : Config) (cpu : CpuNo) → HasGrace conf → Possible conf (Take cpu)
+        → HasGrace (after conf (Take cpu)) }
+{}
+
+/// So does a reference that the holder comes to owe, and one that it owes no more.
+pub fn owe_keeps_grace()
+    ensures owe { (conf : Config) (cpu : CpuNo) (object : ObjIndex) → HasGrace conf
+        → Possible conf (Pin cpu object true) → HasGrace (after conf (Pin cpu object true)) }
+    ensures settle { (conf : Config) (cpu : CpuNo) (object : ObjIndex) → HasGrace conf
+        → Possible conf (Unpin cpu object true) → HasGrace (after conf (Unpin cpu object true)) }
+{}
+
+/// So does a kill, whether it succeeds or not, where no two objects have one index.
+pub fn kill_keeps_grace()
+    ensures { (conf : Config) (cpu : CpuNo) (object : ObjIndex) → HasReferences conf → HasGrace conf
+        → Possible conf (Kill cpu object) → HasGrace (after conf (Kill cpu object)) }
+{}
+
+/// So does a scan of a counter.
+pub fn scan_keeps_grace()
+    ensures { (conf : Config) (cpu of_cpu : CpuNo) → HasGrace conf
+        → Possible conf (Scan cpu of_cpu) → HasGrace (after conf (Scan cpu of_cpu)) }
+{}
+
+/// So does an index that gets a new count.
+pub fn revive_keeps_grace()
+    ensures { (conf : Config) (cpu : CpuNo) (object : ObjIndex) (count : ℕ) → HasGrace conf
+        → Possible conf (Revive cpu object count) → HasGrace (after conf (Revive cpu object count)) }
+{}
+
+/// So does a turn that is given back, before its act or behind it, with the call's end.
+pub fn free_keeps_grace()
+    ensures quit { (conf : Config) (cpu : CpuNo) → HasGrace conf → Possible conf (Free cpu false)
+        → HasGrace (after conf (Free cpu false)) }
+    ensures end { (conf : Config) (cpu : CpuNo) → HasGrace conf → Possible conf (Free cpu true)
+        → HasGrace (after conf (Free cpu true)) }
+{}
+
+/// So does an entry that retires an object: its counters are scans since the kill.
+pub fn retire_keeps_grace()
+    ensures { (conf : Config) (cpu : CpuNo) (serial : Serial) (seen : List ℕ) → HasGrace conf
+        → Possible conf (Commit cpu (Retired serial seen))
+        → HasGrace (after conf (Commit cpu (Retired serial seen))) }
+{}
+
+/// So does an entry that reclaims one.
+pub fn reclaim_keeps_grace()
+    ensures { (conf : Config) (cpu : CpuNo) (serial : Serial) (seen : List ℕ) → HasGrace conf
+        → Possible conf (Commit cpu (Reclaimed serial seen))
+        → HasGrace (after conf (Commit cpu (Reclaimed serial seen))) }
+{}
+
+/// And a seat that is given back or made.
+pub fn seats_keep_grace()
+    ensures join { (conf : Config) (cpu : CpuNo) → HasGrace conf → Possible conf (Join cpu)
+        → HasGrace (after conf (Join cpu)) }
+    ensures split { (conf : Config) (cpu : CpuNo) → HasGrace conf → Possible conf (Split cpu)
+        → HasGrace (after conf (Split cpu)) }
+{}
