@@ -139,7 +139,7 @@ module _ (conf : Config) (at : ℕ) (sound : HasCalls conf) (may : MayQuit conf 
   calls_same n =
       ap (λ (more : List Made). (conf.cpu n).made ++ more)
       (none_committed conf.boot conf.history conf.turn n (conf.cpu n).current
-          (λ holder is. ap has_acted (sym (the_holder holder is)) ∙ may.not_acted)
+      (λ holder is. ap has_acted (sym (the_holder holder is)) ∙ may.not_acted)
       ∙ sym (none_committed conf.boot conf.history None n (conf.cpu n).current (λ holder is. absurd (let never : ⊥ = cc in never))))
 
   quit_entry : (n : ℕ) (event : history.Event) (entry : Entry)

@@ -53,17 +53,17 @@ module _ (boot : State) (history : List Event) where
 
   calls_within_from : (cpu : ℕ) (front calls : List Made) → place_after front ≤ length history
       → ((i : ℕ) (made : Made) → slice_get calls i ≡ Some made
-          → CallIs boot history cpu (front ++ take i calls) made)
+      → CallIs boot history cpu (front ++ take i calls) made)
       → place_after (front ++ calls) ≤ length history
   calls_within_from cpu front [] within each =
       subst (λ (calls : List Made). place_after calls ≤ length history) (sym (append-nil front)) within
   calls_within_from cpu front (made ∷ calls) within each =
       let first : CallIs boot history cpu front made =
-          subst (λ (before : List Made). CallIs boot history cpu before made) (append-nil front) (each zero made refl) in
+      subst (λ (before : List Made). CallIs boot history cpu before made) (append-nil front) (each zero made refl) in
       let all : place_after ((front ++ made ∷ []) ++ calls) ≤ length history =
-          calls_within_from cpu (front ++ made ∷ []) calls (call_within cpu front made within first)
-          (λ i other is. subst (λ (before : List Made). CallIs boot history cpu before other)
-              (sym (append_assoc front (made ∷ []) (take i calls))) (each (suc i) other is)) in
+      calls_within_from cpu (front ++ made ∷ []) calls (call_within cpu front made within first)
+      (λ i other is. subst (λ (before : List Made). CallIs boot history cpu before other)
+      (sym (append_assoc front (made ∷ []) (take i calls))) (each (suc i) other is)) in
       subst (λ (whole : List Made). place_after whole ≤ length history) (append_assoc front (made ∷ []) calls) all
 
   -- nor is the last place of a CPU

@@ -2,6 +2,7 @@
 #![tactic(auto)]
 
 mod bounds;
+mod calls;
 mod entries;
 mod event;
 mod grace;
@@ -9,6 +10,10 @@ mod references;
 mod start;
 
 pub use bounds::{events_keep_bounded, objects_are_bounded, start_is_bounded};
+pub use calls::{
+    enter_keeps_calls, leave_keeps_calls, quit_keeps_calls, take_keeps_calls, undo_keeps_calls,
+    unpin_keeps_calls, words_keep_calls,
+};
 pub use entries::{
     commit_keeps_references, events_keep_state, set_cap_keeps_references, start_has_state,
 };
