@@ -27,6 +27,7 @@ pub mod NoPins
 pub mod OweKeeps
 pub mod PinKeeps
 pub mod Places
+pub mod RetiredSince
 pub mod ReviveKeeps
 pub mod StartSound
 pub mod StateKeeps
