@@ -25,6 +25,7 @@ pub mod Living
 pub mod LookKeeps
 pub mod NoPins
 pub mod OweKeeps
+pub mod PinCalls
 pub mod PinKeeps
 pub mod Places
 pub mod RetiredSince

@@ -63,7 +63,7 @@ valid_row : (valid : Bool) (row : CapabilityRow) (need : Need) (serial : Serial)
 valid_row true row need serial is grants = is
 valid_row false row need serial is grants = let refused : grant_reply row need ≡ Err CapRevoked = rw is refl in absurd (let never : ⊥ = cc in never)
 
-grants_by : (found : Option CapabilityRow) (word : Word) (need : Need) (serial : Serial)
+pub grants_by : (found : Option CapabilityRow) (word : Word) (need : Need) (serial : Serial)
     → word.row ≡ found → slot_reply found need ≡ Ok serial → GrantsRow word
 grants_by None word need serial is grants = absurd (let never : ⊥ = cc in never)
 grants_by (Some row) word need serial is grants =
