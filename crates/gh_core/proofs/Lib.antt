@@ -1,9 +1,11 @@
+pub mod ActFits
 pub mod BoundKeeps
 pub mod CallsKeep
 pub mod CpuMoves
 pub mod EntryKeeps
 pub mod EntryMoves
 pub mod EventObjects
+pub mod EventRuns
 pub mod Finding
 pub mod LeaveKeeps
 pub mod NoPins
@@ -12,3 +14,7 @@ pub mod StartSound
 pub mod StateKeeps
 pub mod TurnKeeps
 pub mod UndoKeeps
+pub mod ValidCalls
+pub mod ValidEntries
+pub mod ValidEvents
+pub mod ValidLaw

@@ -8,3 +8,4 @@ pub mod References
 pub mod Replayed
 pub mod Start
 pub mod TurnEvents
+pub mod ValidState

@@ -6,6 +6,7 @@ mod entries;
 mod event;
 mod references;
 mod start;
+mod validity;
 
 pub use bounds::{events_keep_bounded, objects_are_bounded, start_is_bounded};
 pub use entries::{
@@ -17,3 +18,4 @@ pub use references::{
     scan_keeps_references, seats_keep_references, undo_keeps_references,
 };
 pub use start::start_has_references;
+pub use validity::{events_keep_validity, given_call_keeps_validity, start_is_valid};
