@@ -1,5 +1,5 @@
 -- Commit and SetCap keep the present state valid and what the CPUs hold fitting.
-use Rattle.std.proofs.Common.{◌≡◌, ◌==◌, ◌∙◌, ◌⊎◌, inl, inr, ℕ, Bool, true, false, [], ◌∷◌, ◌++◌, refl, subst, sym, ap, arith, Option, Some, is_some}
+use Rattle.std.proofs.Common.{◌≡◌, ◌==◌, ◌∙◌, ◌⊎◌, inl, inr, ℕ, List, Bool, true, false, [], ◌∷◌, ◌++◌, refl, subst, sym, ap, arith, Option, Some, is_some}
 use Rattle.std.specs.Prelude.{◌&&◌, ◌||◌, option_map}
 use Rattle.std.specs.List.{list_any}
 use Rattle.std.proofs.lemmas.Bool.{eqb-true}
@@ -7,14 +7,14 @@ use Rattle.std.proofs.lemmas.Bool.Decides.{nat_tests}
 use Rattle.std.proofs.lemmas.List.Folds.{list_any-append}
 use Rattle.std.proofs.lemmas.List.Sums.{fold-append}
 use Rattle.gh_base.specs.declared.cap_word.CapWord.{CapWord}
-use Rattle.gh_invariant.specs.Events.{EntryFits, EventFits}
+use Rattle.gh_invariant.specs.Events.{EntryFits, EventFits, EventsFit}
 use Rattle.gh_invariant.specs.Grants.{is_running}
 use Rattle.gh_invariant.specs.Valid.{IsValid}
 use Rattle.gh_invariant.proofs.EventsKept.{event_valid}
 use Rattle.gh_invariant.proofs.HistoriesKept.{entry_rises}
 use Rattle.gh_invariant.proofs.KindsStay.{event_kind}
 use Rattle.gh_invariant.proofs.SetsOne.{may_exit}
-use Rattle.gh_model.specs.History.{after_event, replay}
+use Rattle.gh_model.specs.History.{Event, after_event, replay}
 use Rattle.gh_model.specs.Registers.{needs_of}
 use Rattle.gh_model.specs.Rows.{cpu_row}
 use Rattle.gh_model.specs.declared.entry.Entry.{Entry}
@@ -32,6 +32,13 @@ use Rattle.gh_core.proofs.EventRuns.{entry_stays, exits_by}
 and_other : (a b : Bool) → b ≡ false → (a && b) ≡ false
 and_other true b is = is
 and_other false b is = refl
+
+-- events that fit, and one more that fits the state behind them
+fits_more : (s : State) (events : List Event) (event : Event) → EventsFit s events
+    → EventFits (replay s events) event → EventsFit s (events ++ event ∷ [])
+fits_more s [] event fit more = record { first = more; others = tt }
+fits_more s (one ∷ events) event fit more =
+    record { first = fit.first; others = fits_more (after_event s one) events event fit.others more }
 
 module _ (conf : Config) (at : ℕ) (entry : Entry) (holder : Holder) (call : Current)
     (index : ℕ → ℕ) (allows : Allows conf at entry holder call) (fit : HasValid conf) where
@@ -173,6 +180,8 @@ module _ (conf : Config) (at : ℕ) (entry : Entry) (holder : Holder) (call : Cu
       let grown : replay conf.boot (conf.history ++ logged entry call ∷ []) ≡ next_state conf call entry = fold-append after_event conf.boot conf.history (logged entry call ∷ []) in
       let turn_is : option_map (with_entry conf entry (next_state conf call entry) index) conf.turn ≡ Later = ap (option_map (with_entry conf entry (next_state conf call entry) index)) allows.has_turn.turn in
       record {
+        boot_valid = fit.boot_valid;
+        events_fit = fits_more conf.boot conf.history (logged entry call) fit.events_fit event_fits;
         valid = subst (λ (s : State). IsValid s) (sym grown) (event_valid (present conf) (logged entry call) fit.valid event_fits);
         cpus = λ n. subst (λ (turn : Option Holder). CpuFits conf.boot (replay conf.boot (conf.history ++ logged entry call ∷ [])) (acts turn n) n (conf.cpu n)) (sym turn_is)
             (subst (λ (s : State). CpuFits conf.boot s (acts Later n) n (conf.cpu n)) (sym grown) (later_cpu n));

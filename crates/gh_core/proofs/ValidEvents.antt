@@ -1,33 +1,36 @@
 -- Events that leave the history keep the present state valid and what the CPUs hold fitting.
-use Rattle.std.proofs.Common.{◌≡◌, ◌==◌, ◌+◌, ◌∙◌, inl, ℕ, Bool, true, false, refl, subst, sym, ap, arith, Option, Some, None, is_some, if◌then◌else◌}
+use Rattle.std.proofs.Common.{◌≡◌, ◌==◌, ◌+◌, ◌∙◌, inl, ℕ, IsTrue, List, Bool, true, false, refl, subst, sym, ap, arith, Option, Some, None, is_some, if◌then◌else◌}
 use Rattle.std.specs.Prelude.{◌&&◌, option_map}
 use Rattle.std.proofs.lemmas.Bool.{eqb-true}
 use Rattle.std.proofs.lemmas.Bool.Decides.{nat_tests}
 use Rattle.gh_base.specs.declared.frame.Frame.{Frame}
-use Rattle.gh_invariant.specs.Valid.{IsValid}
+use Rattle.gh_invariant.proofs.BootValid.{boot_running, boot_valid}
+use Rattle.gh_model.specs.Boot.{boot_fits, boot_state}
+use Rattle.gh_model.specs.declared.boot_line.BootLine.{BootLine}
 use Rattle.gh_model.specs.Marks.{cspace_of}
 use Rattle.gh_model.specs.Registers.{call_of}
 use Rattle.gh_model.specs.declared.rows.ObjectRow.{ObjectRow}
-use Rattle.gh_model.specs.declared.state.State.{State}
 use Rattle.gh_core.specs.CallEvents.{MayEnter, MayLeave, MayLook, MayPin, MayUndo, entered, found, left, looked, pinned, undone, unpinned}
 use Rattle.gh_core.specs.Config.{Config, Cpu, Current, Holder, Undone, has_acted, object_at, present, put}
 use Rattle.gh_core.specs.HolderEvents.{kill_failed, with_failed, with_turn, without_scans}
 use Rattle.gh_core.specs.Start.{MayGive, given, start}
 use Rattle.gh_core.specs.TurnEvents.{Ending, MayEnd, MayQuit, MayTake, end_call, ended, ending, new_holder, quit, taken, with_ending}
-use Rattle.gh_core.specs.ValidState.{CpuFits, HasValid, NoneHasExited, acts}
+use Rattle.gh_core.specs.ValidState.{CpuFits, HasValid, acts}
 use Rattle.gh_core.proofs.ValidCalls.{ends_call, enter_fits, given_fits, leave_fits, look_fits, pin_fits, repinned, staged_fits, take_fits, word_is_found}
 
 -- before any event
-pub start_valid : (boot : State) (index : ℕ → ℕ) → IsValid boot → NoneHasExited boot
-    → HasValid (start boot index)
-start_valid boot index valid running = record {
-  valid = valid;
+pub start_valid : (lines : List BootLine) (index : ℕ → ℕ) → IsTrue (boot_fits lines)
+    → HasValid (start (boot_state lines) index)
+start_valid lines index fit = record {
+  boot_valid = boot_valid lines fit;
+  events_fit = tt;
+  valid = boot_valid lines fit;
   cpus = λ at. record {
     next = λ one there. absurd (let never : ⊥ = cc in never);
     current = λ one there. absurd (let never : ⊥ = cc in never);
     alone = λ some. refl;
     called = λ some. absurd (let never : ⊥ = cc in never);
-    runs = λ may. inl (running at may.is_there);
+    runs = λ may. inl (boot_running lines at fit may.is_there);
   };
 }
 
@@ -48,6 +51,8 @@ module _ (conf : Config) (fit : HasValid conf) where
       → ((n : ℕ) → (n == at) ≡ false → acts turn n ≡ acts conf.turn n) → Fits turn at new
       → HasValid (record conf { count = count; counter = counter; turn = turn; cpu = put conf.cpu at new })
   cpu_valid at new turn count counter same new_fits = record {
+    boot_valid = fit.boot_valid;
+    events_fit = fit.events_fit;
     valid = fit.valid;
     cpus = λ n. put_by at new turn n (n == at) refl (same n) new_fits;
   }
@@ -57,6 +62,8 @@ module _ (conf : Config) (fit : HasValid conf) where
       → ((n : ℕ) → acts turn n ≡ acts conf.turn n)
       → HasValid (record conf { count = count; dead = dead; turn = turn })
   turn_valid turn count dead same = record {
+    boot_valid = fit.boot_valid;
+    events_fit = fit.events_fit;
     valid = fit.valid;
     cpus = λ n. subst (λ (acted : Bool). CpuFits conf.boot (present conf) acted n (conf.cpu n)) (sym (same n)) (fit.cpus n);
   }

@@ -2,6 +2,7 @@
 -- shape, grants that still name what they named, and no call of a CPU that has exited.
 use Rattle.std.specs.Prelude.{◌≡◌, ◌==◌, ◌&&◌, ◌||◌, ◌<◌, ◌⊎◌, ℕ, Bool, true, false, Option, Some, None, Ok, IsTrue, is_some, slice_get}
 use Rattle.std.specs.List.{list_any}
+use Rattle.gh_invariant.specs.Events.{EventsFit}
 use Rattle.gh_invariant.specs.Grants.{grant_fits, is_running}
 use Rattle.gh_invariant.specs.Valid.{IsValid}
 use Rattle.gh_model.specs.Legal.{exits}
@@ -24,7 +25,8 @@ pub record StillNames (s : State) (row : CapabilityRow) : Type 0 where
   pub kind : IsTrue (grant_fits s.objects row.serial (Some row.kind))
 
 abbrev pub IsFound : State → Word → Type 0
-IsFound s word = (row : CapabilityRow) → word.row ≡ Some row → row.valid ≡ true → StillNames s row
+IsFound s word =
+    (row : CapabilityRow) → word.row ≡ Some row → row.valid ≡ true → StillNames s row
 
 -- a call in progress: it is that of its frame, what its looks found still names what it named, and
 -- at its act each need has its grant
@@ -60,12 +62,10 @@ pub record CpuFits (boot s : State) (acted : Bool) (at : ℕ) (cpu : Cpu) : Type
   pub runs : MayRun boot at cpu
       → (is_running (cpu_row s at) ≡ true) ⊎ IsExiting acted cpu
 
--- the present state is valid, and each CPU fits it
+-- the boot state is valid, each event of the history fits the state before it, so the present
+-- state is valid too, and each CPU fits it
 pub record HasValid (conf : Config) : Type 0 where
+  pub boot_valid : IsValid conf.boot
+  pub events_fit : EventsFit conf.boot conf.history
   pub valid : IsValid (present conf)
   pub cpus : (at : ℕ) → CpuFits conf.boot (present conf) (acts conf.turn at) at (conf.cpu at)
-
--- no CPU of the boot has exited
-abbrev pub NoneHasExited : State → Type 0
-NoneHasExited boot = (at : ℕ) → is_some (cpu_row boot at) ≡ true
-    → is_running (cpu_row boot at) ≡ true
