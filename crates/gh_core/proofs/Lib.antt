@@ -1,3 +1,4 @@
+pub mod ActFits
 pub mod BoundKeeps
 pub mod CallMoves
 pub mod CallsEnd
@@ -7,6 +8,7 @@ pub mod CpuMoves
 pub mod EntryKeeps
 pub mod EntryMoves
 pub mod EventObjects
+pub mod EventRuns
 pub mod Finding
 pub mod GraceActs
 pub mod GraceCalls
@@ -38,4 +40,8 @@ pub mod TurnCalls
 pub mod TurnKeeps
 pub mod UndoKeeps
 pub mod UnpinKeeps
+pub mod ValidCalls
+pub mod ValidEntries
+pub mod ValidEvents
+pub mod ValidLaw
 pub mod WordsMove
