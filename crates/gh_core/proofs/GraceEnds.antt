@@ -16,7 +16,8 @@ use Rattle.gh_model.specs.Marks.{Made, Seen}
 use Rattle.gh_model.specs.declared.state.State.{State}
 use Rattle.gh_core.specs.CallEvents.{begun, finished, has_needs}
 use Rattle.gh_core.specs.Config.{AtAct, Config, Cpu, Current, Given, Holder, Pin, Stage, came_to, entries, has_acted, has_part, judged, present}
-use Rattle.gh_core.specs.Grace.{CpuGrace, HasGrace, entered_now, granting_at, holds_grant, is_open_at, objects_of, open_now, scan_of}
+use Rattle.gh_core.specs.Entries.{is_that_index}
+use Rattle.gh_core.specs.Grace.{AreRevived, CpuGrace, HasGrace, entered_now, granting_at, holds_grant, is_open_at, objects_of, open_now, scan_of}
 use Rattle.gh_core.specs.TurnEvents.{Ending, MayEnd, MayTake, acted_ending, call_at_act, causes, has_causes, refused_ending, short_ending, end_call, ended, ending, if_at_act, if_lookless, new_holder, ready, taken, with_ending}
 use Rattle.gh_core.proofs.CpuMoves.{with_part}
 use Rattle.gh_core.proofs.GraceCalls.{Begins, Ends, begins, closed_one, ends, same_calls}
@@ -67,6 +68,7 @@ module _ (conf : Config) (at : ℕ) (graced : HasGrace conf) (within : at < CPUS
         none = new.none;
         now = is;
         made = made;
+        no_grant = refl;
         no_looks = λ serial. refl;
         rises = omega arith;
         counts = omega (arith, opens, enters);
@@ -88,6 +90,13 @@ module _ (conf : Config) (at : ℕ) (graced : HasGrace conf) (within : at < CPUS
   taken_part call now new =
       part_graced conf at next conf.count conf.counter (same_part conf at next within (taken_cpu call now new)) graced
 
+-- at its begin a turn has revived nothing
+new_revived : (dead : ℕ → Bool) (at : ℕ) → AreRevived (Some (new_holder at)) dead
+new_revived dead at holder i is acted revived =
+    let same : new_holder at ≡ holder = cc in
+    let none : false ≡ true = ap (λ (one : Holder). list_any (is_that_index i) one.revived) same ∙ revived in
+    absurd (let never : ⊥ = cc in never)
+
 module _ (conf : Config) (at : ℕ) (graced : HasGrace conf) where
   taking : Cpu
   taking = record (conf.cpu at) {
@@ -100,7 +109,7 @@ module _ (conf : Config) (at : ℕ) (graced : HasGrace conf) where
   unfolding taking
   take_graced may =
       let part : HasGrace (with_part conf at taking conf.count conf.counter) = taken_part conf at graced may.is_cpu taking refl may.call may.is_ready (ready_new (conf.cpu at).current (conf.cpu at).pins (conf.cpu at).next may.call may.is_ready) in
-      turn_graced (with_part conf at taking conf.count conf.counter) conf.count conf.dead (Some (new_holder at)) (record { killed = λ serial. refl; scans = λ cpu. sym (ap (λ (one : Option Holder). scan_of one cpu) may.free); held = λ held. refl }) part
+      turn_graced (with_part conf at taking conf.count conf.counter) conf.count conf.dead (Some (new_holder at)) (record { killed = λ serial. refl; scans = λ cpu. sym (ap (λ (one : Option Holder). scan_of one cpu) may.free); held = λ held. refl; revived = new_revived conf.dead at }) part
 
 -- Free behind the act
 

@@ -28,7 +28,7 @@ use Rattle.gh_core.specs.Grace.{AreAtMost, CpuGrace, HasGrace, IsKept, Objects, 
 use Rattle.gh_core.specs.TurnEvents.{MayCommit, committed, committed_by, with_entry}
 use Rattle.gh_core.proofs.Finding.{found_passes, same_number}
 use Rattle.gh_core.proofs.GraceTurn.{scans_kept, held_kept}
-use Rattle.gh_core.proofs.GraceEntries.{EntryFits, EntryGraced, entry_graced, same_some, with_event}
+use Rattle.gh_core.proofs.GraceEntries.{entry_stays, EntryFits, EntryGraced, entry_graced, same_some, with_event}
 
 -- the state behind an entry
 pub replay_more : (boot : State) (history : List Event) (event : Event)
@@ -160,6 +160,7 @@ module _ (conf : Config) (at : ℕ) (serial : Serial) (seen : List ℕ) (graced 
   retire_entry : EntryGraced conf (logged (Retired serial seen) may.call) conf.index conf.cap (with_entry conf (Retired serial seen) (next_state conf may.call (Retired serial seen)) conf.index)
   retire_entry = record {
     scans = λ holder. refl;
+    stays = entry_stays conf (Retired serial seen) (next_state conf may.call (Retired serial seen)) conf.index;
     kept = λ x kept is. kept_by x kept (row_behind x) is;
     killed = λ x is. killed_by x (row_behind x) is;
     fits = λ cpu within. scans_fit conf graced may.holder may.allows.has_turn.turn (logged (Retired serial seen) may.call) seen refl may.allows.allowed.scans cpu within (objects_of (with_event conf (logged (Retired serial seen) may.call) conf.index conf.cap (with_entry conf (Retired serial seen) (next_state conf may.call (Retired serial seen)) conf.index))) (λ section x reads. record { retired = λ kept is. retired_reads cpu section x kept within reads (kept_by x kept (row_behind x) is); killed = λ n is scan. reads.killed n (killed_by x (row_behind x) is) scan });
@@ -204,6 +205,7 @@ module _ (conf : Config) (at : ℕ) (serial : Serial) (seen : List ℕ) (graced 
   reclaim_entry : EntryGraced conf (logged (Reclaimed serial seen) may.call) conf.index conf.cap (with_entry conf (Reclaimed serial seen) (next_state conf may.call (Reclaimed serial seen)) conf.index)
   reclaim_entry = record {
     scans = λ holder. refl;
+    stays = entry_stays conf (Reclaimed serial seen) (next_state conf may.call (Reclaimed serial seen)) conf.index;
     kept = λ x kept is. inl (kept_left x kept (row_left x) is);
     killed = λ x is. killed_left x (row_left x) is;
     fits = λ cpu within. scans_fit conf graced may.holder may.allows.has_turn.turn (logged (Reclaimed serial seen) may.call) seen refl may.allows.allowed.scans cpu within (objects_of (with_event conf (logged (Reclaimed serial seen) may.call) conf.index conf.cap (with_entry conf (Reclaimed serial seen) (next_state conf may.call (Reclaimed serial seen)) conf.index))) (λ section x reads. record { retired = λ kept is. reads.retired kept (kept_left x kept (row_left x) is); killed = λ n is scan. reads.killed n (killed_left x (row_left x) is) scan });

@@ -14,6 +14,7 @@ pub mod GraceFrames
 pub mod GraceLook
 pub mod GraceReclaim
 pub mod GraceScans
+pub mod GraceSpares
 pub mod GraceTurn
 pub mod KillKeeps
 pub mod LeaveKeeps

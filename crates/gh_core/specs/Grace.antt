@@ -1,15 +1,18 @@
 -- Grace: each CPU's counter, its sections and the counters that were kept of it, so that no object
 -- is reclaimed while a call that was granted it is in its section.
 use Rattle.std.specs.Prelude.{◌≡◌, ◌+◌, ◌*◌, ◌%◌, ◌<◌, ◌≤◌, ◌⊎◌, ℕ, Bool, true, false, List, Option, Some, None, count_by, is_some, nat_lt, slice_get, slice_index, if◌then◌else◌}
-use Rattle.std.specs.List.{list_any}
+use Rattle.std.specs.List.{last_or, list_any}
 use Rattle.std.specs.Option.{option_map_or}
 use Rattle.gh_base.specs.declared.limits.TheConstants.{CPUS}
+use Rattle.gh_model.specs.Act.{granted}
 use Rattle.gh_model.specs.Graced.{finds, granting, retirement, was_granted}
 use Rattle.gh_model.specs.History.{Event, counters, retires}
 use Rattle.gh_model.specs.Marks.{Made, Outcome, Seen, place}
 use Rattle.gh_model.specs.Rows.{object_row}
 use Rattle.gh_core.specs.CallEvents.{end_of_looks}
-use Rattle.gh_core.specs.Config.{AtAct, Config, Cpu, Current, DeadPin, Failed, Holder, Looked, Reading, Stage, Undone, came_to, is_killed, present}
+use Rattle.gh_core.specs.Config.{AtAct, Config, Cpu, Current, DeadPin, Failed, Holder, Looked, Reading, Stage, Undone, came_to, has_acted, is_killed, present}
+use Rattle.gh_core.specs.Entries.{is_that_index}
+use Rattle.gh_core.specs.References.{grants_at}
 
 -- objects at their end
 
@@ -114,6 +117,10 @@ pub record CpuGrace (objects : Objects) (history : List Event) (at : ℕ) (cpu :
   -- each grant, of the call in progress and of finished ones
   pub reads : (call : Current) (serial : ℕ) → cpu.current ≡ Some call
       → holds_grant serial call ≡ true → Reads objects at scan call.section serial
+  -- the grant that a call in its section has beside its pins is one of these: so a reclaim spares it
+  pub grants : (call : Current) (seen : Seen) → cpu.current ≡ Some call
+      → grants_at call.stage ≡ true → last_or None call.seen ≡ Some seen
+      → holds_grant (granted seen.word).0 call ≡ true
   pub made_reads : (i serial : ℕ) (made : Made) → slice_get cpu.made i ≡ Some made
       → was_granted serial made ≡ true → Reads objects at scan made.mark.section serial
 
@@ -124,6 +131,12 @@ pub record IsKept (history : List Event) (serial : ℕ) (seen : List ℕ) : Type
   pub is : slice_get history at ≡ Some event
   pub retires : retires event.entry ≡ Some serial
   pub keeps : counters event.entry ≡ Some seen
+
+-- the word of an index that was revived in this turn isn't dead until the act's entry
+abbrev pub AreRevived : Option Holder → (ℕ → Bool) → Type 0
+AreRevived turn dead =
+    (holder : Holder) (at : ℕ) → turn ≡ Some holder → has_acted holder ≡ false
+    → list_any (is_that_index at) holder.revived ≡ true → dead at ≡ false
 
 -- the grace of a configuration. That an object that is killed has no references is said of all dead
 -- words, with the references
@@ -138,5 +151,7 @@ pub record HasGrace (conf : Config) : Type 0 where
   pub one_killed : (serial other : ℕ) → (objects_of conf).killed serial ≡ true
       → (objects_of conf).killed other ≡ true → serial ≡ other
   pub held : (serial : ℕ) → (objects_of conf).killed serial ≡ true → is_some conf.turn ≡ true
+  -- so what is made at a revived index isn't killed
+  pub revived : AreRevived conf.turn conf.dead
   -- only the CPUs that there are have calls
   pub seats : (cpu : ℕ) → CPUS ≤ cpu → (conf.cpu cpu).current ≡ None

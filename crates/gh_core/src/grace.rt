@@ -1,18 +1,18 @@
-//! Which events are shown to keep the grace of a configuration. The functions do nothing; their
-//! clauses are laws. Of acts and their parts nothing is said yet.
+//! Every event keeps the grace of a configuration. The functions do nothing; their clauses are laws.
 
-ghost use Rattle.std.specs.Prelude.{ℕ, List, true, false};
+ghost use Rattle.std.specs.Prelude.{ℕ, true, false};
+ghost use Rattle.gh_base.specs.declared.cap_word.CapWord.{CapWord};
 ghost use Rattle.gh_base.specs.declared.ids.CpuNo.{CpuNo};
 ghost use Rattle.gh_base.specs.declared.ids.ObjIndex.{ObjIndex};
-ghost use Rattle.gh_base.specs.declared.ids.Serial.{Serial};
 ghost use Rattle.gh_core.specs.Config.{Config, present};
 ghost use Rattle.gh_core.specs.Events.{Possible, after};
 ghost use Rattle.gh_core.specs.Grace.{HasGrace};
 ghost use Rattle.gh_core.specs.References.{HasReferences};
+ghost use Rattle.gh_core.specs.Replayed.{HasState, SparesLooks};
 ghost use Rattle.gh_core.specs.Start.{AreIndices, IsUnretired, start};
-ghost use Rattle.gh_core.specs.declared.event.Event.TheVariants.{Commit, Enter, Free, Join, Kill, Leave, Look, Pin, Revive, Scan, Split, Take, Undo, Unpin};
+ghost use Rattle.gh_core.specs.declared.event.Event.TheVariants.{Commit, Enter, Free, Join, Kill, Leave, Look, Pin, Revive, Scan, SetCap, Split, Take, Undo, Unpin};
 ghost use Rattle.gh_invariant.specs.Valid.{IsValid};
-ghost use Rattle.gh_model.specs.declared.entry.Entry.TheVariants.{Retired, Reclaimed};
+ghost use Rattle.gh_model.specs.declared.entry.Entry.{Entry};
 ghost use Rattle.gh_model.specs.declared.state.State.{State};
 
 /// Where a boot state's objects have indices, each its own, and none is retired, the configuration
@@ -99,18 +99,25 @@ pub fn free_keeps_grace()
         → HasGrace (after conf (Free cpu true)) }
 {}
 
-/// So does an entry that retires an object: its counters are scans since the kill.
-pub fn retire_keeps_grace()
-    ensures { (conf : Config) (cpu : CpuNo) (serial : Serial) (seen : List ℕ) → HasGrace conf
-        → Possible conf (Commit cpu (Retired serial seen))
-        → HasGrace (after conf (Commit cpu (Retired serial seen))) }
+/// So does an entry that sets no slot: an act, a part of one, a retirement, whose counters are scans
+/// since the kill, and a reclaim.
+pub fn commit_keeps_grace()
+    ensures { (conf : Config) (cpu : CpuNo) (entry : Entry) → HasGrace conf
+        → Possible conf (Commit cpu entry) → HasGrace (after conf (Commit cpu entry)) }
 {}
 
-/// So does an entry that reclaims one.
-pub fn reclaim_keeps_grace()
-    ensures { (conf : Config) (cpu : CpuNo) (serial : Serial) (seen : List ℕ) → HasGrace conf
-        → Possible conf (Commit cpu (Reclaimed serial seen))
-        → HasGrace (after conf (Commit cpu (Reclaimed serial seen))) }
+/// So does an entry that sets one, be it the master capability of an object that it makes.
+pub fn set_cap_keeps_grace()
+    ensures { (conf : Config) (cpu : CpuNo) (entry : Entry) (space : ObjIndex) (slot : ℕ)
+        (word : CapWord) → HasState conf → HasGrace conf
+        → Possible conf (SetCap cpu entry space slot word)
+        → HasGrace (after conf (SetCap cpu entry space slot word)) }
+{}
+
+/// No call in its section was granted, by its last look beside its pins, what an entry reclaims.
+pub fn entries_spare_grants()
+    ensures { (conf : Config) (cpu : CpuNo) (entry : Entry) → HasGrace conf
+        → Possible conf (Commit cpu entry) → SparesLooks conf entry }
 {}
 
 /// And a seat that is given back or made.
