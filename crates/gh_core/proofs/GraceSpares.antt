@@ -24,7 +24,7 @@ use Rattle.gh_core.proofs.GraceCalls.{grants_open, odd_open, open_one}
 use Rattle.gh_core.proofs.GraceReclaim.{scans_are}
 
 -- of two lists place by place
-zip_at : (R : ℕ → ℕ → Type 0) (before after : List ℕ) (at : ℕ) → AllZip R before after
+pub zip_at : (R : ℕ → ℕ → Type 0) (before after : List ℕ) (at : ℕ) → AllZip R before after
     → at < length before → R (slice_index before at) (slice_index after at)
 zip_at R [] after at all within = absurd (omega (arith, within))
 zip_at R (x ∷ xs) [] at all within = absurd all
@@ -47,10 +47,10 @@ has_counters (Some row) is = counters_by row.retired row refl is
 
 module _ (conf : Config) (at : ℕ) (serial : Serial) (seen : List ℕ) (graced : HasGrace conf)
     (may : MayCommit conf at (Reclaimed serial seen)) where
-  old : HasCounters (object_row (present conf) serial.0)
+  pub old : HasCounters (object_row (present conf) serial.0)
   old = has_counters (object_row (present conf) serial.0) may.allows.allowed.unreferenced.1
 
-  left_all : HaveLeft old.seen seen
+  pub left_all : HaveLeft old.seen seen
   left_all = subst (λ (one : Option (List ℕ)). IfSome one (λ (before : List ℕ). HaveLeft before seen)) old.is may.allows.allowed.unread
 
   -- the CPU of a call that is in its section was reading at the retirement, and hasn't left

@@ -4,9 +4,11 @@ pub mod CpuMoves
 pub mod EntryKeeps
 pub mod EntryMoves
 pub mod EventObjects
+pub mod EventsKeep
 pub mod Finding
 pub mod GraceActs
 pub mod GraceCalls
+pub mod GraceCounters
 pub mod GraceEnds
 pub mod GraceEntries
 pub mod GraceEvents

@@ -6,9 +6,10 @@ use Rattle.std.specs.Option.{option_map_or}
 use Rattle.gh_base.specs.declared.limits.TheConstants.{CPUS}
 use Rattle.gh_model.specs.Act.{granted}
 use Rattle.gh_model.specs.Graced.{finds, granting, retirement, was_granted}
-use Rattle.gh_model.specs.History.{Event, counters, retires}
+use Rattle.gh_model.specs.History.{Event, counters, reclaims, retires}
 use Rattle.gh_model.specs.Marks.{Made, Outcome, Seen, place}
 use Rattle.gh_model.specs.Rows.{object_row}
+use Rattle.gh_model.specs.declared.entry.Entry.{Entry}
 use Rattle.gh_core.specs.CallEvents.{end_of_looks}
 use Rattle.gh_core.specs.Config.{AtAct, Config, Cpu, Current, DeadPin, Failed, Holder, Looked, Reading, Stage, Undone, came_to, has_acted, is_killed, present}
 use Rattle.gh_core.specs.Entries.{is_that_index}
@@ -155,3 +156,16 @@ pub record HasGrace (conf : Config) : Type 0 where
   pub revived : AreRevived conf.turn conf.dead
   -- only the CPUs that there are have calls
   pub seats : (cpu : ℕ) → CPUS ≤ cpu → (conf.cpu cpu).current ≡ None
+
+-- a counter that an entry keeps of a CPU, beside the entries and the finished calls before it
+pub record CounterFits (conf : Config) (entry : Entry) (at counter : ℕ) : Type 0 where
+  -- no entry before it has a greater one
+  pub rising : AreAtMost conf.history at counter
+  -- a call that ended with its act had an earlier section
+  pub ended : (i : ℕ) (made : Made) → slice_get (conf.cpu at).made i ≡ Some made
+      → is_some (place made.mark.end) ≡ true → has_section made ≡ true
+      → made.mark.section < counter
+  -- so had a call that was granted the object that the entry reclaims
+  pub granted : (i serial : ℕ) (made : Made) → slice_get (conf.cpu at).made i ≡ Some made
+      → reclaims entry ≡ Some serial → was_granted serial made ≡ true → has_section made ≡ true
+      → made.mark.section < counter

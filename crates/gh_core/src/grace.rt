@@ -1,17 +1,21 @@
 //! Every event keeps the grace of a configuration. The functions do nothing; their clauses are laws.
 
-ghost use Rattle.std.specs.Prelude.{ℕ, true, false};
+ghost use Rattle.std.specs.Prelude.{◌≡◌, ◌<◌, ℕ, List, Some, slice_index, true, false};
 ghost use Rattle.gh_base.specs.declared.cap_word.CapWord.{CapWord};
 ghost use Rattle.gh_base.specs.declared.ids.CpuNo.{CpuNo};
 ghost use Rattle.gh_base.specs.declared.ids.ObjIndex.{ObjIndex};
 ghost use Rattle.gh_core.specs.Config.{Config, present};
 ghost use Rattle.gh_core.specs.Events.{Possible, after};
-ghost use Rattle.gh_core.specs.Grace.{HasGrace};
+ghost use Rattle.gh_core.specs.Grace.{CounterFits, HasGrace};
 ghost use Rattle.gh_core.specs.References.{HasReferences};
 ghost use Rattle.gh_core.specs.Replayed.{HasState, SparesLooks};
 ghost use Rattle.gh_core.specs.Start.{AreIndices, IsUnretired, start};
+ghost use Rattle.gh_core.specs.Words.{ShowsWords};
+ghost use Rattle.gh_core.specs.declared.event.Event.{Event};
 ghost use Rattle.gh_core.specs.declared.event.Event.TheVariants.{Commit, Enter, Free, Join, Kill, Leave, Look, Pin, Revive, Scan, SetCap, Split, Take, Undo, Unpin};
 ghost use Rattle.gh_invariant.specs.Valid.{IsValid};
+ghost use Rattle.gh_base.specs.declared.limits.TheConstants.{CPUS};
+ghost use Rattle.gh_model.specs.History.{counters};
 ghost use Rattle.gh_model.specs.declared.entry.Entry.{Entry};
 ghost use Rattle.gh_model.specs.declared.state.State.{State};
 
@@ -120,10 +124,30 @@ pub fn entries_spare_grants()
         → Possible conf (Commit cpu entry) → SparesLooks conf entry }
 {}
 
+/// The counters that an entry keeps are those of no earlier moment than the entries before it, and
+/// above the sections of the calls that had ended with their acts, and of those that were granted
+/// what it reclaims.
+pub fn entry_counters_fit()
+    ensures { (conf : Config) (cpu : CpuNo) (entry : Entry) (seen : List ℕ) (at : ℕ)
+        → HasGrace conf → Possible conf (Commit cpu entry) → counters entry ≡ Some seen → at < CPUS
+        → CounterFits conf entry at (slice_index seen at) }
+{}
+
 /// And a seat that is given back or made.
 pub fn seats_keep_grace()
     ensures join { (conf : Config) (cpu : CpuNo) → HasGrace conf → Possible conf (Join cpu)
         → HasGrace (after conf (Join cpu)) }
     ensures split { (conf : Config) (cpu : CpuNo) → HasGrace conf → Possible conf (Split cpu)
         → HasGrace (after conf (Split cpu)) }
+{}
+
+/// Together: where the references are sound, the present state is valid and the words are those of it,
+/// every event keeps grace and sound references.
+pub fn events_keep_grace()
+    ensures grace { (conf : Config) (event : Event) → HasReferences conf → HasGrace conf
+        → HasState conf → IsValid (present conf) → Possible conf event
+        → HasGrace (after conf event) }
+    ensures references { (conf : Config) (event : Event) → HasReferences conf → HasGrace conf
+        → HasState conf → IsValid (present conf) → ShowsWords conf → Possible conf event
+        → HasReferences (after conf event) }
 {}
