@@ -1,6 +1,5 @@
 -- Every event keeps sound references and grace.
-use Rattle.std.proofs.Common.{ℕ, true, false}
-use Rattle.gh_base.specs.declared.ids.CpuNo.{CpuNo}
+use Rattle.std.proofs.Common.{true, false}
 use Rattle.gh_invariant.specs.Valid.{IsValid}
 use Rattle.gh_core.specs.Config.{Config, present}
 use Rattle.gh_core.specs.Events.{Possible, after}

@@ -1,18 +1,16 @@
 -- An act's entry, and a part of it, keep grace: they leave every object retired or not, and an object
 -- that an act makes is neither retired nor killed.
-use Rattle.std.proofs.Common.{◌≡◌, ◌==◌, ◌+◌, ◌-◌, ◌<◌, ◌≤◌, ◌∙◌, ℕ, Bool, true, false, List, [], ◌∷◌, ◌++◌, ◌⊎◌, inl, inr, refl, subst, sym, ap, arith, IsTrue, Option, Some, None, find, is_some, if◌then◌else◌}
+use Rattle.std.proofs.Common.{◌≡◌, ◌∙◌, ℕ, Bool, true, false, List, [], ◌∷◌, ◌++◌, ◌⊎◌, inl, inr, refl, subst, sym, ap, arith, Option, Some, None, find, is_some, if◌then◌else◌}
 use Rattle.std.specs.Prelude.{◌&&◌, option_map}
 use Rattle.std.specs.Option.{option_map_or}
 use Rattle.std.proofs.lemmas.Bool.{eqb-true}
-use Rattle.gh_base.specs.CapWord.{object_of}
 use Rattle.gh_base.specs.declared.cap_word.CapWord.{CapWord}
 use Rattle.gh_base.specs.declared.ids.CpuNo.{CpuNo}
 use Rattle.gh_base.specs.declared.ids.Serial.{Serial}
-use Rattle.gh_base.specs.declared.limits.TheConstants.{CPUS, OBJECT_INDICES}
 use Rattle.gh_invariant.specs.Effects.{slots_set}
 use Rattle.gh_invariant.specs.Events.{changes_of}
 use Rattle.gh_model.specs.Graced.{retirement}
-use Rattle.gh_model.specs.History.{Event, after_event, counters, is_retired, is_unretired, replay, retires}
+use Rattle.gh_model.specs.History.{Event, after_event, counters, is_retired, is_unretired, replay}
 use Rattle.gh_model.specs.References.{is_doomed}
 use Rattle.gh_model.specs.Rows.{is_object, object_row}
 use Rattle.gh_model.specs.declared.change.Change.{Change}
@@ -22,16 +20,17 @@ use Rattle.gh_model.specs.declared.entry.Entry.TheVariants.{Acted, Part, Retired
 use Rattle.gh_model.specs.declared.rows.ObjectRow.{ObjectRow}
 use Rattle.gh_model.specs.declared.state.State.{State}
 use Rattle.gh_core.specs.Config.{Config, Current, Holder, has_acted, is_killed, present}
-use Rattle.gh_core.specs.Entries.{index_after, is_that_index, logged, next_state}
-use Rattle.gh_core.specs.Grace.{HasGrace, Objects, Reads, objects_of, scan_of}
+use Rattle.gh_core.specs.Entries.{index_after, logged, next_state}
+use Rattle.gh_core.specs.Grace.{HasGrace, objects_of, scan_of}
 use Rattle.gh_core.specs.Replayed.{HasState}
 use Rattle.gh_core.specs.TurnEvents.{MayCommit, MaySetCap, committed, committed_by, put_word, set_cap, with_entry}
 use Rattle.gh_core.proofs.EntryKeeps.{IndicesFit, commit_fits, set_fits}
 use Rattle.gh_core.proofs.EventObjects.{Goes, IsMade, counters_of, event_goes, life}
 use Rattle.gh_core.proofs.Finding.{found_passes}
-use Rattle.gh_core.proofs.GraceEntries.{EntryFits, EntryGraced, entry_graced, entry_stays, same_some, with_event}
+use Rattle.gh_core.proofs.GraceCalls.{same_some}
+use Rattle.gh_core.proofs.GraceEntries.{EntryFits, entry_graced, entry_stays, with_event}
 use Rattle.gh_core.proofs.GraceReclaim.{reclaim_graced, replay_more, retire_graced}
-use Rattle.gh_core.proofs.GraceTurn.{KeepsRevived}
+use Rattle.gh_core.proofs.GraceTurn.{KeepsRevived, unretired_by}
 
 -- what is retired, by the lives of objects
 life_kept : (s : State) (serial : ℕ) (object : Option ObjectRow) (seen : List ℕ)
@@ -52,11 +51,6 @@ kept_life s serial (Some row) seen is lived =
 pub record KilledLife (s : State) (dead : ℕ → Bool) (index : ℕ → ℕ) (serial : ℕ) : Type 0 where
   pub life_is : life s.objects serial ≡ Some None
   pub is_dead : dead (index serial) ≡ true
-
-unretired_by : (retired : Option (List ℕ)) (dead : Bool)
-    → (if is_some retired then false else dead) ≡ true → (retired ≡ None) × (dead ≡ true)
-unretired_by None dead is = (refl, is)
-unretired_by (Some seen) dead is = absurd (let never : ⊥ = cc in never)
 
 killed_life : (s : State) (dead : ℕ → Bool) (index : ℕ → ℕ) (serial : ℕ) (object : Option ObjectRow)
     → object_row s serial ≡ object → option_map_or (is_killed dead index) object false ≡ true

@@ -1,5 +1,5 @@
 -- The counters that an entry keeps are above the sections that they should be above.
-use Rattle.std.proofs.Common.{◌≡◌, ◌==◌, ◌+◌, ◌*◌, ◌%◌, ◌<◌, ◌≤◌, ◌∙◌, ℕ, Bool, true, false, List, [], ◌∷◌, ◌⊎◌, inl, inr, refl, subst, sym, ap, arith, IsTrue, Option, Some, None, is_some, length, slice_get}
+use Rattle.std.proofs.Common.{◌≡◌, ◌==◌, ◌%◌, ◌<◌, ◌≤◌, ◌∙◌, ℕ, Bool, true, false, List, inl, inr, refl, subst, sym, ap, arith, IsTrue, Some, length, slice_get}
 use Rattle.std.specs.Prelude.{nat_lt, slice_index}
 use Rattle.std.proofs.lemmas.Bool.Decides.{eqb_tells, nat_tests}
 use Rattle.std.proofs.lemmas.Slice.Zip.{AllZip-long}
@@ -16,7 +16,7 @@ use Rattle.gh_core.specs.Config.{Config, Holder, present}
 use Rattle.gh_core.specs.Entries.{AreScans}
 use Rattle.gh_core.specs.Grace.{CounterFits, CpuGrace, HasGrace, IsKept, IsLeft, has_section, objects_of, scan_of}
 use Rattle.gh_core.specs.TurnEvents.{MayCommit}
-use Rattle.gh_core.proofs.GraceEntries.{same_some}
+use Rattle.gh_core.proofs.GraceCalls.{same_some}
 use Rattle.gh_core.proofs.GraceReclaim.{scans_are}
 use Rattle.gh_core.proofs.GraceSpares.{HasCounters, left_all, old, zip_at}
 

@@ -1,24 +1,23 @@
 -- A turn that is taken, and one that is given back with its call ended, keep grace.
-use Rattle.std.proofs.Common.{◌≡◌, ◌==◌, ◌+◌, ◌<◌, ◌≤◌, ◌∙◌, ℕ, Bool, true, false, List, [], ◌∷◌, ◌++◌, ◌⊎◌, inl, inr, refl, subst, sym, ap, arith, Option, Some, None, is_some, slice_get, if◌then◌else◌}
+use Rattle.std.proofs.Common.{◌≡◌, ◌==◌, ◌<◌, ◌∙◌, ℕ, Bool, true, false, List, [], ◌∷◌, ◌⊎◌, inl, inr, refl, sym, ap, arith, Option, Some, None, is_some, if◌then◌else◌}
 use Rattle.std.specs.Prelude.{slice_index, ◌-◌}
 use Rattle.std.specs.List.{list_any}
 use Rattle.gh_base.specs.declared.call.Call.{Call}
 use Rattle.gh_base.specs.declared.frame.Reply.{Reply}
 use Rattle.gh_base.specs.declared.limits.TheConstants.{CPUS}
-use Rattle.gh_base.specs.declared.mark.End.{End}
 use Rattle.gh_base.specs.declared.mark.End.TheVariants as finish
 use Rattle.gh_base.specs.declared.mark.Held.{Held}
 use Rattle.gh_model.specs.Act.{Verdict, Done, Refused}
-use Rattle.gh_model.specs.Graced.{finds, granting, was_granted}
+use Rattle.gh_model.specs.Graced.{finds, granting}
 use Rattle.gh_model.specs.History.{state_at}
 use Rattle.gh_model.specs.Legal.{is_short}
-use Rattle.gh_model.specs.Marks.{Made, Seen}
+use Rattle.gh_model.specs.Marks.{Seen}
 use Rattle.gh_model.specs.declared.state.State.{State}
 use Rattle.gh_core.specs.CallEvents.{begun, finished, has_needs}
 use Rattle.gh_core.specs.Config.{AtAct, Config, Cpu, Current, Given, Holder, Pin, Stage, came_to, entries, has_acted, has_part, judged, present}
 use Rattle.gh_core.specs.Entries.{is_that_index}
-use Rattle.gh_core.specs.Grace.{AreRevived, CpuGrace, HasGrace, entered_now, granting_at, holds_grant, is_open_at, objects_of, open_now, scan_of}
-use Rattle.gh_core.specs.TurnEvents.{Ending, MayEnd, MayTake, acted_ending, call_at_act, causes, has_causes, refused_ending, short_ending, end_call, ended, ending, if_at_act, if_lookless, new_holder, ready, taken, with_ending}
+use Rattle.gh_core.specs.Grace.{AreRevived, CpuGrace, HasGrace, entered_now, granting_at, is_open_at, objects_of, open_now, scan_of}
+use Rattle.gh_core.specs.TurnEvents.{Ending, MayEnd, MayTake, acted_ending, call_at_act, causes, has_causes, refused_ending, short_ending, end_call, ended, ending, if_lookless, new_holder, ready, taken, with_ending}
 use Rattle.gh_core.proofs.CpuMoves.{with_part}
 use Rattle.gh_core.proofs.GraceCalls.{Begins, Ends, begins, closed_one, ends, same_calls}
 use Rattle.gh_core.proofs.GraceEvents.{same_part}
@@ -26,7 +25,6 @@ use Rattle.gh_core.proofs.GraceFrames.{part_graced, turn_graced}
 use Rattle.gh_core.proofs.GraceScans.{free_graced}
 use Rattle.gh_core.proofs.LeaveKeeps.{no_call}
 use Rattle.gh_core.proofs.TakeKeeps.{at_act_same, stage_ready}
-use Rattle.gh_core.proofs.WordsMove.{with_words}
 
 -- Take
 

@@ -1,19 +1,18 @@
 -- Events of calls that keep grace.
-use Rattle.std.proofs.Common.{◌≡◌, ◌==◌, ◌+◌, ◌-◌, ◌*◌, ◌%◌, ◌<◌, ◌≤◌, ◌∙◌, ℕ, zero, suc, Bool, true, false, List, [], ◌∷◌, ◌++◌, ◌⊎◌, inl, inr, refl, subst, sym, ap, arith, Option, Some, None, is_some, slice_get, if◌then◌else◌}
-use Rattle.std.specs.Prelude.{count_by, nat_lt, option_map}
+use Rattle.std.proofs.Common.{◌≡◌, ◌+◌, ◌-◌, ◌<◌, ◌∙◌, ℕ, Bool, true, false, List, [], ◌∷◌, ◌++◌, inl, refl, subst, sym, ap, arith, Option, Some, None, is_some, if◌then◌else◌}
+use Rattle.std.specs.Prelude.{nat_lt, option_map}
 use Rattle.std.specs.List.{last_or, list_any}
 use Rattle.std.proofs.lemmas.Bool.Decides.{nat_tests}
 use Rattle.gh_base.specs.declared.limits.TheConstants.{CPUS}
 use Rattle.gh_model.specs.Act.{granted}
-use Rattle.gh_model.specs.Graced.{finds, granting, was_granted}
+use Rattle.gh_model.specs.Graced.{finds, granting}
 use Rattle.gh_model.specs.Marks.{Made, Outcome, Wants, Fails, Grants, Seen, place}
 use Rattle.gh_core.specs.CallEvents.{MayEnter, MayLeave, MayPin, MayUndo, MayUnpin, after_leave, at_stage, begun, end_of_looks, entered, finished, has_grants, left, leaves_from, pinned, reply_of_looks, undone, unpinned, with_call, with_left, with_pin, without_pin}
-use Rattle.gh_core.specs.Config.{AtAct, Config, Cpu, Current, DeadPin, Failed, Given, Looked, Reading, Stage, Undone, came_to, put}
-use Rattle.gh_core.specs.Grace.{CpuGrace, HasGrace, Objects, Reads, entered_now, granting_at, holds_grant, is_open_at, objects_of, open_now, scan_of, sections}
+use Rattle.gh_core.specs.Config.{AtAct, Config, Cpu, Current, DeadPin, Failed, Looked, Reading, Stage, Undone, came_to, put}
+use Rattle.gh_core.specs.Grace.{CpuGrace, HasGrace, entered_now, holds_grant, is_open_at, objects_of, open_now, scan_of, sections}
 use Rattle.gh_core.specs.References.{grants_at}
-use Rattle.gh_core.proofs.CpuMoves.{with_part}
 use Rattle.gh_core.proofs.Finding.{put_here, put_other}
-use Rattle.gh_core.proofs.GraceCalls.{Begins, Ends, GoesToAct, StaysOpen, begins, ends, goes_to_act, granting_open, open_left, open_one, same_calls, stays_open}
+use Rattle.gh_core.proofs.GraceCalls.{Begins, Ends, GoesToAct, begins, ends, goes_to_act, granting_open, open_left, open_one, same_calls, stays_open}
 use Rattle.gh_core.proofs.GraceFrames.{PartGraced, part_graced}
 
 -- a part with a counter that was put

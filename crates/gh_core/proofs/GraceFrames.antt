@@ -1,14 +1,14 @@
 -- What leaves grace: an event that changes one CPU's part, and one that changes words and what the
 -- holder keeps.
-use Rattle.std.proofs.Common.{◌≡◌, ◌==◌, ◌+◌, ◌<◌, ◌≤◌, ◌∙◌, ℕ, Bool, true, false, List, [], ◌∷◌, refl, subst, sym, ap, arith, Option, Some, None, is_some, slice_get, if◌then◌else◌}
+use Rattle.std.proofs.Common.{◌≡◌, ◌==◌, ◌<◌, ◌≤◌, ◌∙◌, ℕ, Bool, true, false, List, refl, subst, sym, ap, arith, Option, None, is_some, if◌then◌else◌}
 use Rattle.std.proofs.lemmas.Bool.{eqb-true}
 use Rattle.std.proofs.lemmas.Bool.Decides.{nat_tests}
 use Rattle.gh_base.specs.declared.limits.TheConstants.{CPUS}
 use Rattle.gh_model.specs.History.{Event}
 use Rattle.gh_core.specs.Config.{Config, Cpu, Holder, put}
-use Rattle.gh_core.specs.Grace.{AreRevived, CpuGrace, HasGrace, IsKept, Objects, Reads, objects_of, scan_of}
+use Rattle.gh_core.specs.Grace.{AreRevived, CpuGrace, HasGrace, Objects, Reads, objects_of, scan_of}
 use Rattle.gh_core.proofs.CpuMoves.{with_part}
-use Rattle.gh_core.proofs.Finding.{put_other, same_number}
+use Rattle.gh_core.proofs.Finding.{put_other}
 use Rattle.gh_core.proofs.WordsMove.{with_words}
 
 -- one CPU
@@ -43,10 +43,6 @@ module _ (conf : Config) (at : ℕ) (cpu : Cpu) (count counter : ℕ → ℕ)
     revived = graced.revived;
     seats = seats_on;
   }
-
--- the counters stay, or one rises
-pub counters_stay : (counter : ℕ → ℕ) (at n : ℕ) → (n == at) ≡ false → counter n ≡ counter n
-counters_stay counter at n apart = refl
 
 -- words and the holder
 

@@ -1,8 +1,7 @@
 -- A look keeps grace, where the words are those of the present state: what it grants isn't at its end.
-use Rattle.std.proofs.Common.{◌≡◌, ◌==◌, ◌+◌, ◌-◌, ◌<◌, ◌≤◌, ◌∙◌, ℕ, zero, suc, Bool, true, false, List, [], ◌∷◌, ◌++◌, ◌⊎◌, inl, inr, refl, subst, sym, ap, arith, Option, Some, None, find, is_some, length, take, if◌then◌else◌}
+use Rattle.std.proofs.Common.{◌≡◌, ◌==◌, ◌-◌, ◌<◌, ◌∙◌, ℕ, Bool, true, false, List, [], ◌∷◌, ◌++◌, ◌⊎◌, inl, inr, refl, subst, sym, ap, arith, Option, Some, None, is_some, length, take}
 use Rattle.std.specs.Prelude.{◌||◌, map, option_map}
 use Rattle.std.specs.List.{last_or, list_any}
-use Rattle.std.specs.Option.{option_map_or}
 use Rattle.std.proofs.lemmas.Bool.{eqb-true}
 use Rattle.std.proofs.lemmas.List.{length-append, map-append}
 use Rattle.gh_base.specs.declared.cap_word.Need.{Need}
@@ -20,14 +19,13 @@ use Rattle.gh_model.specs.Rows.{object_row}
 use Rattle.gh_model.specs.Word.{is_slot, look_reply, word_at}
 use Rattle.gh_model.specs.declared.rows.CapabilityRow.{CapabilityRow}
 use Rattle.gh_model.specs.declared.rows.ObjectRow.{ObjectRow}
-use Rattle.gh_model.specs.declared.state.State.{State}
 use Rattle.gh_model.specs.declared.word.Word.{Word}
 use Rattle.gh_core.specs.CallEvents.{MayLook, end_of_looks, found, looked, stage_after_look, with_call, with_look}
-use Rattle.gh_core.specs.Config.{Config, Cpu, Current, Reading, Stage, came_to, is_killed, present}
+use Rattle.gh_core.specs.Config.{Config, Cpu, Current, came_to, present}
 use Rattle.gh_core.specs.Grace.{HasGrace, Reads, granting_at, holds_grant, is_open_at, objects_of, scan_of}
 use Rattle.gh_core.specs.References.{HasReferences, grants_at}
 use Rattle.gh_core.proofs.Finding.{same_number}
-use Rattle.gh_core.proofs.GraceCalls.{StaysOpen, granting_open, stays_open}
+use Rattle.gh_core.proofs.GraceCalls.{same_some, StaysOpen, granting_open, stays_open}
 use Rattle.gh_core.proofs.GraceEvents.{same_part}
 use Rattle.gh_core.proofs.GraceFrames.{part_graced}
 use Rattle.gh_core.proofs.GraceTurn.{KilledRow, killed_row}
@@ -108,9 +106,6 @@ names_own : (found : Option CapabilityRow) (row : CapabilityRow) → found ≡ S
 names_own found row is =
     subst (λ (one : Option CapabilityRow). names_object (row_serial one).0 one ≡ true) (sym is) (same_number row.serial.0)
 
-some_seen : (one other : Seen) → Some one ≡ Some other → one ≡ other
-some_seen one other is = cc
-
 -- an object that isn't retired has no counters
 no_counters : (object : Option ObjectRow) (seen : List ℕ) → is_retired object ≡ false
     → retirement object ≡ Some seen → ⊥
@@ -174,7 +169,7 @@ module _ (conf : Config) (at slot : ℕ) (sound : HasReferences conf) (graced : 
       → last_or None (may.call.seen ++ new_look ∷ []) ≡ Some seen
       → list_any (finds (granted seen.word).0) (granting_at (stage_after_look came) came (may.call.seen ++ new_look ∷ [])) ≡ true
   new_last seen grants last =
-      let same : new_look ≡ seen = some_seen new_look seen (sym (last_or_snoc None may.call.seen new_look) ∙ last) in
+      let same : new_look ≡ seen = same_some new_look seen (sym (last_or_snoc None may.call.seen new_look) ∙ last) in
       ap (list_any (finds (granted seen.word).0)) (granting_open (stage_after_look came) came (may.call.seen ++ new_look ∷ []) (looks_open came) ∙ grants_all came (may.call.seen ++ new_look ∷ []) grants) ∙ subst (λ (one : Seen). list_any (finds (granted one.word).0) (may.call.seen ++ new_look ∷ []) ≡ true) same (new_granted grants)
 
   looking : Cpu

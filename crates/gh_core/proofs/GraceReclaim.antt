@@ -1,34 +1,31 @@
 -- A retirement and a reclaim keep grace.
-use Rattle.std.proofs.Common.{◌≡◌, ◌==◌, ◌+◌, ◌<◌, ◌≤◌, ◌∙◌, ℕ, zero, suc, Bool, true, false, List, [], ◌∷◌, ◌++◌, ◌⊎◌, inl, inr, refl, subst, sym, ap, arith, Option, Some, None, IsTrue, find, is_some, length, slice_get, if◌then◌else◌}
+use Rattle.std.proofs.Common.{◌≡◌, ◌==◌, ◌<◌, ◌≤◌, ◌∙◌, ℕ, Bool, true, false, List, [], ◌∷◌, ◌++◌, ◌⊎◌, inl, inr, refl, subst, sym, ap, arith, Option, Some, None, find, is_some, slice_get, if◌then◌else◌}
 use Rattle.std.specs.Prelude.{◌&&◌, not, option_map, slice_index}
 use Rattle.std.specs.Option.{option_map_or}
 use Rattle.std.proofs.lemmas.Bool.{and_from, eqb-true}
 use Rattle.std.proofs.lemmas.Bool.Decides.{eqb_tells, nat_tests}
 use Rattle.std.proofs.lemmas.List.Sums.{fold-append}
 use Rattle.std.proofs.lemmas.Option.{slice_get-get_or}
-use Rattle.gh_base.specs.declared.cap_word.CapWord.{CapWord}
 use Rattle.gh_base.specs.declared.ids.Serial.{Serial}
 use Rattle.gh_base.specs.declared.limits.TheConstants.{CPUS}
 use Rattle.gh_invariant.proofs.ChangedRow.{find_change, find_past_change}
 use Rattle.gh_invariant.proofs.RowsLeft.{find_gone, find_left}
 use Rattle.gh_model.specs.Act.{counted}
 use Rattle.gh_model.specs.Changes.{reclaim_object, retire_object, with_counters, without}
-use Rattle.gh_model.specs.Graced.{retirement, was_granted}
-use Rattle.gh_model.specs.History.{Event, after_event, counters, is_retired, is_unretired, numbered, reclaimed, replay, retired, retires}
-use Rattle.gh_model.specs.Marks.{Made}
+use Rattle.gh_model.specs.Graced.{retirement}
+use Rattle.gh_model.specs.History.{Event, after_event, counters, is_retired, is_unretired, numbered, replay}
 use Rattle.gh_model.specs.References.{is_doomed}
 use Rattle.gh_model.specs.Rows.{change_row, is_object, object_row}
-use Rattle.gh_model.specs.declared.entry.Entry.{Entry}
-use Rattle.gh_model.specs.declared.entry.Entry.TheVariants.{Acted, Part, Retired, Reclaimed}
+use Rattle.gh_model.specs.declared.entry.Entry.TheVariants.{Retired, Reclaimed}
 use Rattle.gh_model.specs.declared.rows.ObjectRow.{ObjectRow}
 use Rattle.gh_model.specs.declared.state.State.{State}
-use Rattle.gh_core.specs.Config.{Config, Cpu, Current, HasTurn, Holder, is_killed, present}
-use Rattle.gh_core.specs.Entries.{Allows, AreScans, IsReclaim, IsRetirement, logged, next_state}
-use Rattle.gh_core.specs.Grace.{AreAtMost, CpuGrace, HasGrace, IsKept, Objects, Reads, objects_of, scan_of}
+use Rattle.gh_core.specs.Config.{Config, Current, Holder, is_killed, present}
+use Rattle.gh_core.specs.Entries.{AreScans, logged, next_state}
+use Rattle.gh_core.specs.Grace.{HasGrace, Objects, Reads, objects_of, scan_of}
 use Rattle.gh_core.specs.TurnEvents.{MayCommit, committed, committed_by, with_entry}
-use Rattle.gh_core.proofs.Finding.{found_passes, same_number}
-use Rattle.gh_core.proofs.GraceTurn.{scans_kept, held_kept}
-use Rattle.gh_core.proofs.GraceEntries.{entry_stays, EntryFits, EntryGraced, entry_graced, same_some, with_event}
+use Rattle.gh_core.proofs.Finding.{found_passes}
+use Rattle.gh_core.proofs.GraceCalls.{same_some}
+use Rattle.gh_core.proofs.GraceEntries.{entry_stays, EntryFits, EntryGraced, entry_graced, with_event}
 
 -- the state behind an entry
 pub replay_more : (boot : State) (history : List Event) (event : Event)

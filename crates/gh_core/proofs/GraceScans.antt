@@ -1,28 +1,25 @@
 -- Scans, kills and turns that are taken and given back keep grace.
-use Rattle.std.proofs.Common.{◌≡◌, ◌==◌, ◌+◌, ◌-◌, ◌<◌, ◌≤◌, ◌∙◌, ℕ, zero, suc, Bool, true, false, List, [], ◌∷◌, ◌++◌, ◌⊎◌, inl, inr, refl, subst, sym, ap, arith, Option, Some, None, find, is_some, slice_get, if◌then◌else◌}
+use Rattle.std.proofs.Common.{◌≡◌, ◌==◌, ◌<◌, ◌≤◌, ◌∙◌, ℕ, Bool, true, false, List, inl, inr, refl, subst, sym, ap, arith, Option, Some, None, is_some, if◌then◌else◌}
 use Rattle.std.specs.Prelude.{nat_lt, option_map}
 use Rattle.std.specs.List.{list_any}
 use Rattle.std.specs.Option.{option_map_or}
 use Rattle.std.proofs.lemmas.Bool.{eqb-true}
 use Rattle.std.proofs.lemmas.Bool.Decides.{nat_tests}
 use Rattle.gh_base.specs.declared.limits.TheConstants.{CPUS}
-use Rattle.gh_model.specs.Graced.{finds, granting, was_granted}
 use Rattle.gh_model.specs.History.{Event}
-use Rattle.gh_model.specs.Marks.{Made, Seen, place}
 use Rattle.gh_model.specs.Rows.{object_row}
 use Rattle.gh_model.specs.declared.rows.ObjectRow.{ObjectRow}
-use Rattle.gh_core.specs.Config.{AtAct, Config, Cpu, Current, Given, Holder, Pin, has_acted, is_killed, object_at, present, put, some_killed}
+use Rattle.gh_core.specs.Config.{Config, Cpu, Current, Holder, has_acted, is_killed, object_at, present, put, some_killed}
 use Rattle.gh_core.specs.Entries.{is_that_index}
-use Rattle.gh_core.specs.Grace.{AreRevived, CpuGrace, HasGrace, IsLeft, Objects, Reads, has_section, holds_grant, is_open_at, objects_of, scan_of, sections}
-use Rattle.gh_core.specs.HolderEvents.{MayKill, MayScan, kill_failed, killed, scanned, with_failed, with_scan, without_scans}
+use Rattle.gh_core.specs.Grace.{AreRevived, CpuGrace, HasGrace, IsLeft, Objects, Reads, is_open_at, objects_of, scan_of}
+use Rattle.gh_core.specs.HolderEvents.{MayKill, kill_failed, killed, scanned, with_failed, with_scan, without_scans}
 use Rattle.gh_core.specs.References.{HasReferences}
 use Rattle.gh_core.specs.TurnEvents.{MayQuit, quit}
 use Rattle.gh_core.proofs.Finding.{put_here, put_other}
 use Rattle.gh_core.proofs.GraceFrames.{unscanned}
-use Rattle.gh_core.proofs.GraceTurn.{KeepsRevived, KilledRow, killed_row, none_killed, revived_kept, words_graced}
+use Rattle.gh_core.proofs.GraceTurn.{KilledRow, killed_row, none_killed, revived_kept, words_graced}
 use Rattle.gh_core.proofs.Living.{LivesAt, lives_there}
 use Rattle.gh_core.proofs.ReviveKeeps.{apart_by}
-use Rattle.gh_core.proofs.WordsMove.{with_words}
 
 -- Scan
 

@@ -1,32 +1,21 @@
 -- Grace before any event, and the events of the holder on words, counters and the turn that keep it.
-use Rattle.std.proofs.Common.{◌≡◌, ◌==◌, ◌+◌, ◌-◌, ◌<◌, ◌≤◌, ◌∙◌, ℕ, zero, suc, Bool, true, false, List, [], ◌∷◌, ◌++◌, ◌⊎◌, inl, inr, refl, subst, sym, ap, arith, Option, Some, None, find, is_some, slice_get, if◌then◌else◌}
-use Rattle.std.specs.Prelude.{◌||◌, not, count_by, nat_lt, option_map}
+use Rattle.std.proofs.Common.{◌≡◌, ◌==◌, ◌+◌, ◌-◌, ◌∙◌, ℕ, Bool, true, false, List, [], ◌∷◌, ◌++◌, refl, subst, sym, ap, Option, Some, None, find, is_some, if◌then◌else◌}
+use Rattle.std.specs.Prelude.{◌||◌, option_map}
 use Rattle.std.specs.List.{list_any}
 use Rattle.std.specs.Option.{option_map_or}
 use Rattle.std.proofs.lemmas.Bool.{eqb-true}
-use Rattle.std.proofs.lemmas.Bool.Decides.{eqb_tells, nat_tests}
-use Rattle.gh_base.specs.declared.limits.TheConstants.{CPUS}
-use Rattle.gh_base.specs.declared.mark.End.{End}
-use Rattle.gh_base.specs.declared.mark.End.TheVariants as finish
-use Rattle.gh_model.specs.Act.{Verdict, Done, Refused}
-use Rattle.gh_model.specs.Graced.{finds, granting, retirement, was_granted}
-use Rattle.gh_model.specs.History.{Event}
-use Rattle.gh_model.specs.Marks.{Made, Seen, place}
+use Rattle.gh_model.specs.Graced.{retirement}
 use Rattle.gh_model.specs.Rows.{is_object, object_row}
 use Rattle.gh_model.specs.declared.rows.ObjectRow.{ObjectRow}
 use Rattle.gh_model.specs.declared.state.State.{State}
-use Rattle.gh_core.specs.CallEvents.{begun, finished, has_needs}
-use Rattle.gh_core.specs.Config.{AtAct, Config, Cpu, Current, Given, HasTurn, Holder, Pin, came_to, has_acted, is_killed, object_at, present, put, some_killed}
+use Rattle.gh_core.specs.Config.{Config, Holder, has_acted, is_killed, object_at, present, put, some_killed}
 use Rattle.gh_core.specs.Entries.{is_that_index}
-use Rattle.gh_core.specs.Grace.{AreRevived, CpuGrace, HasGrace, IsKept, Objects, Reads, has_section, holds_grant, objects_of, scan_of, sections}
-use Rattle.gh_core.specs.HolderEvents.{MayKill, MayOwe, MayRevive, MayScan, MaySettle, kill_failed, killed, one_less, one_more, owed, revived, scanned, settled, with_failed, with_revived, with_scan, without_scans}
-use Rattle.gh_core.specs.References.{HasReferences, IsRow}
+use Rattle.gh_core.specs.Grace.{AreRevived, CpuGrace, HasGrace, objects_of, scan_of}
+use Rattle.gh_core.specs.HolderEvents.{MayRevive, killed, one_less, one_more, owed, revived, settled, with_revived}
+use Rattle.gh_core.specs.References.{IsRow}
 use Rattle.gh_core.specs.Start.{AreIndices, IsUnretired, boot_dead, new_cpu, start}
-use Rattle.gh_core.specs.TurnEvents.{Ending, MayEnd, MayQuit, MayTake, end_call, ended, ending, new_holder, quit, ready, taken, with_ending}
-use Rattle.gh_core.proofs.Finding.{found_passes, put_here, put_other, same_number}
-use Rattle.gh_core.proofs.GraceCalls.{Begins, Ends, begins, ends, same_calls}
-use Rattle.gh_core.proofs.GraceEvents.{same_part}
-use Rattle.gh_core.proofs.GraceFrames.{KeepRetired, PartGraced, TurnGraced, part_graced, turn_graced, unscanned}
+use Rattle.gh_core.proofs.Finding.{found_passes, put_here, put_other}
+use Rattle.gh_core.proofs.GraceFrames.{turn_graced}
 use Rattle.gh_core.proofs.Living.{index_apart, stands_there}
 use Rattle.gh_core.proofs.ReviveKeeps.{apart_by}
 use Rattle.gh_core.proofs.WordsMove.{with_words}
@@ -42,7 +31,8 @@ pub record KilledRow (s : State) (dead : ℕ → Bool) (index : ℕ → ℕ) (se
   pub unretired : row.retired ≡ None
   pub is_dead : dead (index row.serial.0) ≡ true
 
-unretired_by : (retired : Option (List ℕ)) (dead : Bool)
+-- an object that is killed isn't retired
+pub unretired_by : (retired : Option (List ℕ)) (dead : Bool)
     → (if is_some retired then false else dead) ≡ true → (retired ≡ None) × (dead ≡ true)
 unretired_by None dead is = (refl, is)
 unretired_by (Some seen) dead is = absurd (let never : ⊥ = cc in never)

@@ -26,7 +26,8 @@ pub record Objects : Type 0 where
 abbrev pub objects_of : Config → Objects
 objects_of conf = record {
   kept = λ serial. retirement (object_row (present conf) serial);
-  killed = λ serial. option_map_or (is_killed conf.dead conf.index) (object_row (present conf) serial) false;
+  killed = λ serial.
+      option_map_or (is_killed conf.dead conf.index) (object_row (present conf) serial) false;
 }
 
 -- the counter of a CPU that the holder scanned in this turn. A kill clears the scans, and none is
@@ -68,7 +69,7 @@ IsLeft counter section = (section ≡ 0) ⊎ ((section % 2 ≡ 1) × (section < 
 
 -- grants
 
--- the looks that granted a call in progress its objects: of a call that was refused all but the last
+-- the looks that granted a call in progress its objects: of one that was refused all but the last
 abbrev pub granting_at : Stage → Outcome → List Seen → List Seen
 granting_at Reading came seen = granting (end_of_looks came) seen
 granting_at Looked came seen = granting (end_of_looks came) seen
@@ -80,8 +81,8 @@ granting_at AtAct came seen = seen
 abbrev pub holds_grant : ℕ → Current → Bool
 holds_grant serial call = list_any (finds serial) (granting_at call.stage (came_to call) call.seen)
 
--- a section in which an object was granted isn't above the CPU's counter of the object's retirement,
--- nor above its scan since the object's kill
+-- a section in which an object was granted isn't above the CPU's counter of the object's
+-- retirement, nor above its scan since the object's kill
 pub record Reads (objects : Objects) (at : ℕ) (scan : Option ℕ) (section serial : ℕ) : Type 0 where
   pub retired : (seen : List ℕ) → objects.kept serial ≡ Some seen → section ≤ slice_index seen at
   pub killed : (counter : ℕ) → objects.killed serial ≡ true → scan ≡ Some counter
@@ -118,7 +119,7 @@ pub record CpuGrace (objects : Objects) (history : List Event) (at : ℕ) (cpu :
   -- each grant, of the call in progress and of finished ones
   pub reads : (call : Current) (serial : ℕ) → cpu.current ≡ Some call
       → holds_grant serial call ≡ true → Reads objects at scan call.section serial
-  -- the grant that a call in its section has beside its pins is one of these: so a reclaim spares it
+  -- the grant that a call in its section has beside its pins is one of these: a reclaim spares it
   pub grants : (call : Current) (seen : Seen) → cpu.current ≡ Some call
       → grants_at call.stage ≡ true → last_or None call.seen ≡ Some seen
       → holds_grant (granted seen.word).0 call ≡ true
@@ -143,7 +144,8 @@ AreRevived turn dead =
 -- words, with the references
 pub record HasGrace (conf : Config) : Type 0 where
   pub each : (cpu : ℕ) → cpu < CPUS
-      → CpuGrace (objects_of conf) conf.history cpu (conf.cpu cpu) (conf.counter cpu) (scan_of conf.turn cpu)
+      → CpuGrace (objects_of conf) conf.history cpu (conf.cpu cpu) (conf.counter cpu)
+      (scan_of conf.turn cpu)
   -- so no counter of a retirement is above the CPU's counter, nor above a scan
   pub kept : (serial : ℕ) (seen : List ℕ) → (objects_of conf).kept serial ≡ Some seen
       → IsKept conf.history serial seen

@@ -1,4 +1,5 @@
-//! Every event keeps the grace of a configuration. The functions do nothing; their clauses are laws.
+//! Every event keeps the grace of a configuration. The functions do nothing; their clauses are
+//! laws.
 
 ghost use Rattle.std.specs.Prelude.{◌≡◌, ◌<◌, ℕ, List, Some, slice_index, true, false};
 ghost use Rattle.gh_base.specs.declared.cap_word.CapWord.{CapWord};
@@ -36,7 +37,8 @@ pub fn enter_keeps_grace()
 /// neither retired nor killed.
 pub fn look_keeps_grace()
     ensures { (conf : Config) (cpu : CpuNo) (slot : ℕ) → HasReferences conf → HasGrace conf
-        → IsValid (present conf) → Possible conf (Look cpu slot) → HasGrace (after conf (Look cpu slot)) }
+        → IsValid (present conf) → Possible conf (Look cpu slot)
+        → HasGrace (after conf (Look cpu slot)) }
 {}
 
 /// So does a pin of a call, on a word that is dead or not.
@@ -92,7 +94,8 @@ pub fn scan_keeps_grace()
 /// So does an index that gets a new count.
 pub fn revive_keeps_grace()
     ensures { (conf : Config) (cpu : CpuNo) (object : ObjIndex) (count : ℕ) → HasGrace conf
-        → Possible conf (Revive cpu object count) → HasGrace (after conf (Revive cpu object count)) }
+        → Possible conf (Revive cpu object count)
+        → HasGrace (after conf (Revive cpu object count)) }
 {}
 
 /// So does a turn that is given back, before its act or behind it, with the call's end.
@@ -103,8 +106,8 @@ pub fn free_keeps_grace()
         → HasGrace (after conf (Free cpu true)) }
 {}
 
-/// So does an entry that sets no slot: an act, a part of one, a retirement, whose counters are scans
-/// since the kill, and a reclaim.
+/// So does an entry that sets no slot: an act, a part of one, a retirement, whose counters are
+/// scans since the kill, and a reclaim.
 pub fn commit_keeps_grace()
     ensures { (conf : Config) (cpu : CpuNo) (entry : Entry) → HasGrace conf
         → Possible conf (Commit cpu entry) → HasGrace (after conf (Commit cpu entry)) }
@@ -141,8 +144,8 @@ pub fn seats_keep_grace()
         → HasGrace (after conf (Split cpu)) }
 {}
 
-/// Together: where the references are sound, the present state is valid and the words are those of it,
-/// every event keeps grace and sound references.
+/// Together: where the references are sound, the present state is valid and the words are those of
+/// it, every event keeps grace and sound references.
 pub fn events_keep_grace()
     ensures grace { (conf : Config) (event : Event) → HasReferences conf → HasGrace conf
         → HasState conf → IsValid (present conf) → Possible conf event
