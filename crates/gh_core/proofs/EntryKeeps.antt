@@ -253,7 +253,7 @@ module _ (conf : Config) (at : ℕ) (entry : Entry) (holder : Holder) (call : Cu
 
 -- Commit
 
-commit_fits : (conf : Config) (at : ℕ) (entry : Entry) (may : MayCommit conf at entry)
+pub commit_fits : (conf : Config) (at : ℕ) (entry : Entry) (may : MayCommit conf at entry)
     → IndicesFit conf may.holder (next_state conf may.call entry) (changes_of (present conf) (logged entry may.call)) conf.index
 commit_fits conf at entry may = record {
   kept = λ serial was. refl;
@@ -314,7 +314,7 @@ born_by index next at serial false makes same = absurd (let never : ⊥ = cc in 
 index_bound : (bits : ℕ) → object_of bits < OBJECT_INDICES
 index_bound bits = omega arith
 
-set_fits : (conf : Config) (at : ℕ) (entry : Entry) (space slot : ℕ) (word : CapWord)
+pub set_fits : (conf : Config) (at : ℕ) (entry : Entry) (space slot : ℕ) (word : CapWord)
     → HasState conf → (may : MaySetCap conf at entry space slot word)
     → IndicesFit conf may.holder (next_state conf may.call entry) (changes_of (present conf) (logged entry may.call))
     (index_after conf (next_state conf may.call entry) word)

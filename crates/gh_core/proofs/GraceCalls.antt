@@ -1,20 +1,21 @@
 -- The grace of one CPU behind each step of its calls.
-use Rattle.std.proofs.Common.{◌≡◌, ◌==◌, ◌+◌, ◌*◌, ◌%◌, ◌<◌, ◌≤◌, ◌∙◌, ℕ, zero, suc, Bool, true, false, List, [], ◌∷◌, ◌++◌, ◌⊎◌, inl, inr, refl, subst, sym, ap, arith, Option, Some, None, is_some, slice_get, if◌then◌else◌}
-use Rattle.std.specs.Prelude.{count_by, cond, nat_lt, slice_index}
-use Rattle.std.specs.List.{list_any}
-use Rattle.std.proofs.lemmas.Bool.Decides.{nat_tests}
+use Rattle.std.proofs.Common.{◌≡◌, ◌+◌, ◌*◌, ◌%◌, ◌<◌, ◌≤◌, ◌∙◌, ℕ, Bool, true, false, List, [], ◌∷◌, ◌++◌, ◌⊎◌, inl, inr, refl, subst, sym, ap, arith, Option, Some, None, is_some, slice_get, if◌then◌else◌}
+use Rattle.std.specs.Prelude.{count_by, cond, nat_lt}
+use Rattle.std.specs.List.{last_or}
 use Rattle.std.proofs.lemmas.List.Sums.{sum_by-append}
-use Rattle.gh_base.specs.declared.mark.End.{End}
-use Rattle.gh_model.specs.Graced.{finds, granting, was_granted}
-use Rattle.gh_model.specs.History.{Event, counters}
+use Rattle.gh_model.specs.Act.{granted}
+use Rattle.gh_model.specs.Graced.{granting, was_granted}
+use Rattle.gh_model.specs.History.{Event}
 use Rattle.gh_model.specs.Marks.{Made, Outcome, Seen, place}
-use Rattle.gh_core.specs.CallEvents.{begun, end_of_looks, finished}
-use Rattle.gh_core.specs.Config.{AtAct, Cpu, Current, DeadPin, Failed, Given, Looked, Reading, Stage, Undone, came_to}
+use Rattle.gh_core.specs.CallEvents.{end_of_looks}
+use Rattle.gh_core.specs.Config.{AtAct, Cpu, Current, DeadPin, Failed, Looked, Reading, Stage, Undone}
 use Rattle.gh_core.specs.Grace.{AreAtMost, CpuGrace, IsLeft, Objects, Reads, entered_now, granting_at, has_section, holds_grant, is_open_at, open_now, sections}
+use Rattle.gh_core.specs.References.{grants_at}
 use Rattle.gh_core.proofs.PinKeeps.{stands_in}
 
-pub some_same : (one other : Current) → Some one ≡ Some other → one ≡ other
-some_same one other is = cc
+-- what is there is one
+pub same_some : {X : Type 0} (one other : X) → Some one ≡ Some other → one ≡ other
+same_some one other is = cc
 
 -- a section that was left stays below a counter that rises
 pub left_on : (counter more section : ℕ) → counter ≤ more → IsLeft counter section → IsLeft more section
@@ -47,6 +48,15 @@ granting_open DeadPin came seen opened = refl
 granting_open Undone came seen opened = refl
 granting_open Failed came seen opened = refl
 granting_open AtAct came seen opened = absurd (let never : ⊥ = cc in never)
+
+-- a call with a grant beside its pins is in its open section
+pub grants_open : (stage : Stage) → grants_at stage ≡ true → is_open_at stage ≡ true
+grants_open Reading grants = refl
+grants_open Looked grants = refl
+grants_open DeadPin grants = refl
+grants_open Undone grants = refl
+grants_open Failed grants = refl
+grants_open AtAct grants = absurd (let never : ⊥ = cc in never)
 
 -- one more finished call
 pub count_more : (made : List Made) (new : Made) → count_by has_section (made ++ new ∷ [])
@@ -91,6 +101,8 @@ module _ (objects : Objects) (history : List Event) (at : ℕ) (cpu next : Cpu) 
     pub made : next.made ≡ cpu.made
     pub grants : (serial : ℕ) → holds_grant serial other ≡ true
         → (holds_grant serial call ≡ true) ⊎ Reads objects at scan call.section serial
+    pub last : (seen : Seen) → grants_at other.stage ≡ true → last_or None other.seen ≡ Some seen
+        → holds_grant (granted seen.word).0 other ≡ true
 
   reads_by : (serial section : ℕ) (call : Current) → cpu.current ≡ Some call → section ≡ call.section
       → (holds_grant serial call ≡ true) ⊎ Reads objects at scan call.section serial
@@ -105,17 +117,25 @@ module _ (objects : Objects) (history : List Event) (at : ℕ) (cpu next : Cpu) 
   made_before made first second i one is =
       ap (λ (list : List Made). slice_get list i) (sym (first ∙ second)) ∙ is
 
+  last_same : (other call : Current) (seen : Seen) → other ≡ call → grants_at call.stage ≡ true
+      → last_or None call.seen ≡ Some seen
+      → ((one : Seen) → grants_at other.stage ≡ true → last_or None other.seen ≡ Some one → holds_grant (granted one.word).0 other ≡ true)
+      → holds_grant (granted seen.word).0 call ≡ true
+  last_same other call seen same grants last all =
+      sym (ap (holds_grant (granted seen.word).0) same) ∙ all seen (ap (λ (one : Current). grants_at one.stage) same ∙ grants) (ap (λ (one : Current). last_or None one.seen) same ∙ last)
+
   pub stays_open : StaysOpen → CpuGrace objects history at next counter scan
   stays_open on = record {
     counted = let old : open_now cpu.current ≡ 1 = open_one cpu.current on.call on.is on.was_open in let new : open_now next.current ≡ 1 = open_one next.current on.other on.now on.still in let entered : entered_now next.current ≡ entered_now cpu.current = ap entered_now on.now ∙ (ap (λ (n : ℕ). if nat_lt 0 n then 1 else 0) on.section ∙ sym (ap entered_now on.is)) in let count : count_by has_section next.made ≡ count_by has_section cpu.made = ap (count_by has_section) on.made in omega (arith, old, new, entered, count, grace.counted);
-    opened = λ call is opened. let same : on.other ≡ call = some_same on.other call (sym on.now ∙ is) in sym (ap (λ (one : Current). one.section) same) ∙ (on.section ∙ grace.opened on.call on.is on.was_open);
-    left = λ call is closed. let same : on.other ≡ call = some_same on.other call (sym on.now ∙ is) in let opened : is_open_at call.stage ≡ true = sym (ap (λ (one : Current). is_open_at one.stage) same) ∙ on.still in absurd (let never : ⊥ = cc in never);
+    opened = λ call is opened. let same : on.other ≡ call = same_some on.other call (sym on.now ∙ is) in sym (ap (λ (one : Current). one.section) same) ∙ (on.section ∙ grace.opened on.call on.is on.was_open);
+    left = λ call is closed. let same : on.other ≡ call = same_some on.other call (sym on.now ∙ is) in let opened : is_open_at call.stage ≡ true = sym (ap (λ (one : Current). is_open_at one.stage) same) ∙ on.still in absurd (let never : ⊥ = cc in never);
     ended = λ i made is. grace.ended i made (made_before next.made refl on.made i made is);
     scanned = grace.scanned;
     acts = λ n i made scan_is is. grace.acts n i made scan_is (made_before next.made refl on.made i made is);
     kept_below = grace.kept_below;
     kept_scanned = grace.kept_scanned;
-    reads = λ call serial is held. let same : on.other ≡ call = some_same on.other call (sym on.now ∙ is) in reads_by serial call.section on.call on.is (sym (ap (λ (one : Current). one.section) same) ∙ on.section) (on.grants serial (ap (holds_grant serial) same ∙ held));
+    grants = λ call seen is grants last. last_same on.other call seen (same_some on.other call (sym on.now ∙ is)) grants last on.last;
+    reads = λ call serial is held. let same : on.other ≡ call = same_some on.other call (sym on.now ∙ is) in reads_by serial call.section on.call on.is (sym (ap (λ (one : Current). one.section) same) ∙ on.section) (on.grants serial (ap (holds_grant serial) same ∙ held));
     made_reads = λ i serial made is. grace.made_reads i serial made (made_before next.made refl on.made i made is);
   }
 
@@ -131,6 +151,7 @@ module _ (objects : Objects) (history : List Event) (at : ℕ) (cpu next : Cpu) 
     acts = λ n i one scan_is is. grace.acts n i one scan_is (made_before next.made refl made i one is);
     kept_below = grace.kept_below;
     kept_scanned = grace.kept_scanned;
+    grants = λ call seen is. grace.grants call seen (sym current ∙ is);
     reads = λ call serial is. grace.reads call serial (sym current ∙ is);
     made_reads = λ i serial one is. grace.made_reads i serial one (made_before next.made refl made i one is);
   }
@@ -142,6 +163,7 @@ module _ (objects : Objects) (history : List Event) (at : ℕ) (cpu next : Cpu) 
     pub now : next.current ≡ Some call
     pub made : next.made ≡ cpu.made
     pub no_looks : (serial : ℕ) → holds_grant serial call ≡ false
+    pub no_grant : grants_at call.stage ≡ false
     pub rises : counter ≤ more
     pub counts : more + open_now next.current ≡ counter + 2 * entered_now next.current
     pub opened : is_open_at call.stage ≡ true → call.section ≡ more
@@ -150,14 +172,15 @@ module _ (objects : Objects) (history : List Event) (at : ℕ) (cpu next : Cpu) 
   pub begins : (more : ℕ) → Begins more → CpuGrace objects history at next more scan
   begins more on = record {
     counted = let open_before : open_now cpu.current ≡ 0 = ap open_now on.none in let entered_before : entered_now cpu.current ≡ 0 = ap entered_now on.none in let count : count_by has_section next.made ≡ count_by has_section cpu.made = ap (count_by has_section) on.made in omega (arith, open_before, entered_before, count, on.counts, grace.counted);
-    opened = λ call is opened. let same : on.call ≡ call = some_same on.call call (sym on.now ∙ is) in subst (λ (one : Current). one.section ≡ more) same (on.opened (ap (λ (one : Current). is_open_at one.stage) same ∙ opened));
-    left = λ call is closed. let same : on.call ≡ call = some_same on.call call (sym on.now ∙ is) in subst (λ (one : Current). IsLeft more one.section) same (on.left (ap (λ (one : Current). is_open_at one.stage) same ∙ closed));
+    opened = λ call is opened. let same : on.call ≡ call = same_some on.call call (sym on.now ∙ is) in subst (λ (one : Current). one.section ≡ more) same (on.opened (ap (λ (one : Current). is_open_at one.stage) same ∙ opened));
+    left = λ call is closed. let same : on.call ≡ call = same_some on.call call (sym on.now ∙ is) in subst (λ (one : Current). IsLeft more one.section) same (on.left (ap (λ (one : Current). is_open_at one.stage) same ∙ closed));
     ended = λ i one is. left_on counter more one.mark.section on.rises (grace.ended i one (made_before next.made refl on.made i one is));
     scanned = λ n is. omega (arith, grace.scanned n is, on.rises);
     acts = λ n i one scan_is is. grace.acts n i one scan_is (made_before next.made refl on.made i one is);
     kept_below = at_most_on history at counter more on.rises grace.kept_below;
     kept_scanned = grace.kept_scanned;
-    reads = λ call serial is held. let same : on.call ≡ call = some_same on.call call (sym on.now ∙ is) in let none : holds_grant serial on.call ≡ false = on.no_looks serial in let some : holds_grant serial on.call ≡ true = ap (holds_grant serial) same ∙ held in absurd (let never : ⊥ = cc in never);
+    grants = λ call seen is grants last. let same : on.call ≡ call = same_some on.call call (sym on.now ∙ is) in let none : grants_at call.stage ≡ false = sym (ap (λ (one : Current). grants_at one.stage) same) ∙ on.no_grant in absurd (let never : ⊥ = cc in never);
+    reads = λ call serial is held. let same : on.call ≡ call = same_some on.call call (sym on.now ∙ is) in let none : holds_grant serial on.call ≡ false = on.no_looks serial in let some : holds_grant serial on.call ≡ true = ap (holds_grant serial) same ∙ held in absurd (let never : ⊥ = cc in never);
     made_reads = λ i serial one is. grace.made_reads i serial one (made_before next.made refl on.made i one is);
   }
 
@@ -182,14 +205,15 @@ module _ (objects : Objects) (history : List Event) (at : ℕ) (cpu next : Cpu) 
   pub goes_to_act : GoesToAct → CpuGrace objects history at next (counter + 1) scan
   goes_to_act on = record {
     counted = let old : open_now cpu.current ≡ 1 = open_one cpu.current on.call on.is on.was_open in let new : open_now next.current ≡ 0 = closed_one next.current on.other on.now on.closed in let entered : entered_now next.current ≡ entered_now cpu.current = ap entered_now on.now ∙ (ap (λ (n : ℕ). if nat_lt 0 n then 1 else 0) on.section ∙ sym (ap entered_now on.is)) in let count : count_by has_section next.made ≡ count_by has_section cpu.made = ap (count_by has_section) on.made in omega (arith, old, new, entered, count, grace.counted);
-    opened = λ call is opened. let same : on.other ≡ call = some_same on.other call (sym on.now ∙ is) in let closed : is_open_at call.stage ≡ false = sym (ap (λ (one : Current). is_open_at one.stage) same) ∙ on.closed in absurd (let never : ⊥ = cc in never);
-    left = λ call is closed. let same : on.other ≡ call = some_same on.other call (sym on.now ∙ is) in open_left counter (sections cpu) call.section (odd_counter on.call on.is on.was_open) (sym (ap (λ (one : Current). one.section) same) ∙ (on.section ∙ grace.opened on.call on.is on.was_open));
+    opened = λ call is opened. let same : on.other ≡ call = same_some on.other call (sym on.now ∙ is) in let closed : is_open_at call.stage ≡ false = sym (ap (λ (one : Current). is_open_at one.stage) same) ∙ on.closed in absurd (let never : ⊥ = cc in never);
+    left = λ call is closed. let same : on.other ≡ call = same_some on.other call (sym on.now ∙ is) in open_left counter (sections cpu) call.section (odd_counter on.call on.is on.was_open) (sym (ap (λ (one : Current). one.section) same) ∙ (on.section ∙ grace.opened on.call on.is on.was_open));
     ended = λ i one is. left_on counter (counter + 1) one.mark.section (omega arith) (grace.ended i one (made_before next.made refl on.made i one is));
     scanned = λ n is. omega (arith, grace.scanned n is);
     acts = λ n i one scan_is is. grace.acts n i one scan_is (made_before next.made refl on.made i one is);
     kept_below = at_most_on history at counter (counter + 1) (omega arith) grace.kept_below;
     kept_scanned = grace.kept_scanned;
-    reads = λ call serial is held. let same : on.other ≡ call = some_same on.other call (sym on.now ∙ is) in reads_by serial call.section on.call on.is (sym (ap (λ (one : Current). one.section) same) ∙ on.section) (inl (on.grants serial (ap (holds_grant serial) same ∙ held)));
+    grants = λ call seen is grants last. let same : on.other ≡ call = same_some on.other call (sym on.now ∙ is) in let closed : is_open_at call.stage ≡ false = sym (ap (λ (one : Current). is_open_at one.stage) same) ∙ on.closed in let opened : is_open_at call.stage ≡ true = grants_open call.stage grants in absurd (let never : ⊥ = cc in never);
+    reads = λ call serial is held. let same : on.other ≡ call = same_some on.other call (sym on.now ∙ is) in reads_by serial call.section on.call on.is (sym (ap (λ (one : Current). one.section) same) ∙ on.section) (inl (on.grants serial (ap (holds_grant serial) same ∙ held)));
     made_reads = λ i serial one is. grace.made_reads i serial one (made_before next.made refl on.made i one is);
   }
 
@@ -246,6 +270,7 @@ module _ (objects : Objects) (history : List Event) (at : ℕ) (cpu next : Cpu) 
     acts = λ n i one scan_is is. acts_by more on n i one scan_is (ends_in more on i one is);
     kept_below = at_most_on history at counter more (omega (arith, on.counts)) grace.kept_below;
     kept_scanned = grace.kept_scanned;
+    grants = λ call seen is grants last. absurd (no_next next.current call on.none is);
     reads = λ call serial is held. absurd (no_next next.current call on.none is);
     made_reads = λ i serial one is. made_by more on i serial one (ends_in more on i one is);
   }

@@ -1,23 +1,23 @@
 -- A turn that is taken, and one that is given back with its call ended, keep grace.
-use Rattle.std.proofs.Common.{◌≡◌, ◌==◌, ◌+◌, ◌<◌, ◌≤◌, ◌∙◌, ℕ, Bool, true, false, List, [], ◌∷◌, ◌++◌, ◌⊎◌, inl, inr, refl, subst, sym, ap, arith, Option, Some, None, is_some, slice_get, if◌then◌else◌}
+use Rattle.std.proofs.Common.{◌≡◌, ◌==◌, ◌<◌, ◌∙◌, ℕ, Bool, true, false, List, [], ◌∷◌, ◌⊎◌, inl, inr, refl, sym, ap, arith, Option, Some, None, is_some, if◌then◌else◌}
 use Rattle.std.specs.Prelude.{slice_index, ◌-◌}
 use Rattle.std.specs.List.{list_any}
 use Rattle.gh_base.specs.declared.call.Call.{Call}
 use Rattle.gh_base.specs.declared.frame.Reply.{Reply}
 use Rattle.gh_base.specs.declared.limits.TheConstants.{CPUS}
-use Rattle.gh_base.specs.declared.mark.End.{End}
 use Rattle.gh_base.specs.declared.mark.End.TheVariants as finish
 use Rattle.gh_base.specs.declared.mark.Held.{Held}
 use Rattle.gh_model.specs.Act.{Verdict, Done, Refused}
-use Rattle.gh_model.specs.Graced.{finds, granting, was_granted}
+use Rattle.gh_model.specs.Graced.{finds, granting}
 use Rattle.gh_model.specs.History.{state_at}
 use Rattle.gh_model.specs.Legal.{is_short}
-use Rattle.gh_model.specs.Marks.{Made, Seen}
+use Rattle.gh_model.specs.Marks.{Seen}
 use Rattle.gh_model.specs.declared.state.State.{State}
 use Rattle.gh_core.specs.CallEvents.{begun, finished, has_needs}
 use Rattle.gh_core.specs.Config.{AtAct, Config, Cpu, Current, Given, Holder, Pin, Stage, came_to, entries, has_acted, has_part, judged, present}
-use Rattle.gh_core.specs.Grace.{CpuGrace, HasGrace, entered_now, granting_at, holds_grant, is_open_at, objects_of, open_now, scan_of}
-use Rattle.gh_core.specs.TurnEvents.{Ending, MayEnd, MayTake, acted_ending, call_at_act, causes, has_causes, refused_ending, short_ending, end_call, ended, ending, if_at_act, if_lookless, new_holder, ready, taken, with_ending}
+use Rattle.gh_core.specs.Entries.{is_that_index}
+use Rattle.gh_core.specs.Grace.{AreRevived, CpuGrace, HasGrace, entered_now, granting_at, is_open_at, objects_of, open_now, scan_of}
+use Rattle.gh_core.specs.TurnEvents.{Ending, MayEnd, MayTake, acted_ending, call_at_act, causes, has_causes, refused_ending, short_ending, end_call, ended, ending, if_lookless, new_holder, ready, taken, with_ending}
 use Rattle.gh_core.proofs.CpuMoves.{with_part}
 use Rattle.gh_core.proofs.GraceCalls.{Begins, Ends, begins, closed_one, ends, same_calls}
 use Rattle.gh_core.proofs.GraceEvents.{same_part}
@@ -25,7 +25,6 @@ use Rattle.gh_core.proofs.GraceFrames.{part_graced, turn_graced}
 use Rattle.gh_core.proofs.GraceScans.{free_graced}
 use Rattle.gh_core.proofs.LeaveKeeps.{no_call}
 use Rattle.gh_core.proofs.TakeKeeps.{at_act_same, stage_ready}
-use Rattle.gh_core.proofs.WordsMove.{with_words}
 
 -- Take
 
@@ -67,6 +66,7 @@ module _ (conf : Config) (at : ℕ) (graced : HasGrace conf) (within : at < CPUS
         none = new.none;
         now = is;
         made = made;
+        no_grant = refl;
         no_looks = λ serial. refl;
         rises = omega arith;
         counts = omega (arith, opens, enters);
@@ -88,6 +88,13 @@ module _ (conf : Config) (at : ℕ) (graced : HasGrace conf) (within : at < CPUS
   taken_part call now new =
       part_graced conf at next conf.count conf.counter (same_part conf at next within (taken_cpu call now new)) graced
 
+-- at its begin a turn has revived nothing
+new_revived : (dead : ℕ → Bool) (at : ℕ) → AreRevived (Some (new_holder at)) dead
+new_revived dead at holder i is acted revived =
+    let same : new_holder at ≡ holder = cc in
+    let none : false ≡ true = ap (λ (one : Holder). list_any (is_that_index i) one.revived) same ∙ revived in
+    absurd (let never : ⊥ = cc in never)
+
 module _ (conf : Config) (at : ℕ) (graced : HasGrace conf) where
   taking : Cpu
   taking = record (conf.cpu at) {
@@ -100,7 +107,7 @@ module _ (conf : Config) (at : ℕ) (graced : HasGrace conf) where
   unfolding taking
   take_graced may =
       let part : HasGrace (with_part conf at taking conf.count conf.counter) = taken_part conf at graced may.is_cpu taking refl may.call may.is_ready (ready_new (conf.cpu at).current (conf.cpu at).pins (conf.cpu at).next may.call may.is_ready) in
-      turn_graced (with_part conf at taking conf.count conf.counter) conf.count conf.dead (Some (new_holder at)) (record { killed = λ serial. refl; scans = λ cpu. sym (ap (λ (one : Option Holder). scan_of one cpu) may.free); held = λ held. refl }) part
+      turn_graced (with_part conf at taking conf.count conf.counter) conf.count conf.dead (Some (new_holder at)) (record { killed = λ serial. refl; scans = λ cpu. sym (ap (λ (one : Option Holder). scan_of one cpu) may.free); held = λ held. refl; revived = new_revived conf.dead at }) part
 
 -- Free behind the act
 

@@ -1,38 +1,18 @@
 -- An entry of the holder keeps grace, where it keeps no counter above a scan, and each grant fits what is
 -- retired behind it.
-use Rattle.std.proofs.Common.{◌≡◌, ◌==◌, ◌+◌, ◌<◌, ◌≤◌, ◌∙◌, ℕ, zero, suc, Bool, true, false, List, [], ◌∷◌, ◌++◌, ◌⊎◌, inl, inr, refl, subst, sym, ap, arith, Option, Some, None, IsTrue, find, is_some, length, slice_get, if◌then◌else◌}
-use Rattle.std.specs.Prelude.{◌&&◌, not, option_map, slice_index}
-use Rattle.std.specs.Option.{option_map_or}
-use Rattle.std.proofs.lemmas.Bool.{eqb-true}
-use Rattle.std.proofs.lemmas.Bool.Decides.{eqb_tells, nat_tests}
-use Rattle.std.proofs.lemmas.List.Sums.{fold-append}
-use Rattle.std.proofs.lemmas.Option.{slice_get-get_or}
+use Rattle.std.proofs.Common.{◌≡◌, ◌<◌, ◌≤◌, ◌∙◌, ℕ, zero, suc, Bool, true, false, List, [], ◌∷◌, ◌++◌, ◌⊎◌, inl, inr, refl, subst, sym, ap, Option, Some, length, slice_get}
+use Rattle.std.specs.Prelude.{◌||◌, option_map, slice_index}
+use Rattle.std.specs.List.{list_any}
 use Rattle.gh_base.specs.declared.cap_word.CapWord.{CapWord}
-use Rattle.gh_base.specs.declared.ids.Serial.{Serial}
 use Rattle.gh_base.specs.declared.limits.TheConstants.{CPUS}
-use Rattle.gh_invariant.proofs.ChangedRow.{find_change, find_past_change}
-use Rattle.gh_invariant.proofs.RowsLeft.{find_gone, find_left}
-use Rattle.gh_model.specs.Act.{counted}
-use Rattle.gh_model.specs.Changes.{reclaim_object, retire_object, with_counters, without}
-use Rattle.gh_model.specs.Graced.{retirement, was_granted}
-use Rattle.gh_model.specs.History.{Event, after_event, counters, is_retired, is_unretired, numbered, reclaimed, replay, retired, retires}
-use Rattle.gh_model.specs.Marks.{Made}
-use Rattle.gh_model.specs.References.{is_doomed}
-use Rattle.gh_model.specs.Rows.{change_row, is_object, object_row}
+use Rattle.gh_model.specs.History.{Event, counters, retires}
 use Rattle.gh_model.specs.declared.entry.Entry.{Entry}
-use Rattle.gh_model.specs.declared.entry.Entry.TheVariants.{Acted, Part, Retired, Reclaimed}
-use Rattle.gh_model.specs.declared.rows.ObjectRow.{ObjectRow}
 use Rattle.gh_model.specs.declared.state.State.{State}
-use Rattle.gh_core.specs.Config.{Config, Cpu, Current, HasTurn, Holder, is_killed, present}
-use Rattle.gh_core.specs.Entries.{Allows, AreScans, IsReclaim, IsRetirement, logged, next_state}
+use Rattle.gh_core.specs.Config.{Config, Cpu, Holder, is_acted}
 use Rattle.gh_core.specs.Grace.{AreAtMost, CpuGrace, HasGrace, IsKept, Objects, Reads, objects_of, scan_of}
-use Rattle.gh_core.specs.TurnEvents.{MayCommit, committed, committed_by, with_entry}
-use Rattle.gh_core.proofs.Finding.{found_passes, same_number}
-use Rattle.gh_core.proofs.GraceTurn.{scans_kept, held_kept}
+use Rattle.gh_core.specs.TurnEvents.{with_entry}
+use Rattle.gh_core.proofs.GraceTurn.{KeepsRevived, held_kept, revived_kept, scans_kept}
 use Rattle.gh_core.proofs.PinKeeps.{stands_in}
-
-pub same_some : {X : Type 0} (one other : X) → Some one ≡ Some other → one ≡ other
-same_some one other is = cc
 
 -- one CPU behind an entry
 
@@ -74,6 +54,7 @@ entry_grace before behind history event at cpu counter scan fits grace = record 
   acts = grace.acts;
   kept_below = at_most_more history event at counter grace.kept_below fits.below;
   kept_scanned = λ n is. at_most_more history event at n (grace.kept_scanned n is) (λ seen keeps. fits.scanned seen n keeps is);
+  grants = grace.grants;
   reads = λ call serial is held. fits.reads call.section serial (grace.reads call serial is held);
   made_reads = λ i serial made is granted. fits.reads made.mark.section serial (grace.made_reads i serial made is granted);
 }
@@ -104,6 +85,7 @@ get_last (first ∷ items) new = get_last items new
 pub record EntryGraced (conf : Config) (event : Event) (index : ℕ → ℕ) (cap : ℕ → ℕ → CapWord)
     (change : Holder → Holder) : Type 0 where
   pub scans : (holder : Holder) → (change holder).scans ≡ holder.scans
+  pub stays : (holder : Holder) → KeepsRevived holder (change holder)
   pub kept : (serial : ℕ) (seen : List ℕ)
       → (objects_of (with_event conf event index cap change)).kept serial ≡ Some seen
       → ((objects_of conf).kept serial ≡ Some seen) ⊎ ((retires event.entry ≡ Some serial) × (counters event.entry ≡ Some seen))
@@ -142,5 +124,23 @@ module _ (conf : Config) (event : Event) (index : ℕ → ℕ) (cap : ℕ → �
     kept = λ serial seen kept. kept_on serial seen (entry.kept serial seen kept);
     one_killed = λ serial other one two. graced.one_killed serial other (entry.killed serial one) (entry.killed other two);
     held = λ serial killed. held_kept change conf.turn (graced.held serial (entry.killed serial killed));
+    revived = revived_kept change conf.dead conf.turn entry.stays graced.revived;
     seats = graced.seats;
   }
+
+any_more : {X : Type 0} (test : X → Bool) (items more : List X) → list_any test (items ++ more) ≡ false
+    → list_any test items ≡ false
+any_more test [] more none = refl
+any_more test (first ∷ items) more none =
+    by_first (test first) (list_any test items) (list_any test (items ++ more)) (any_more test items more) none
+  where
+    by_first : (here before behind : Bool) → (behind ≡ false → before ≡ false) → (here || behind) ≡ false
+        → (here || before) ≡ false
+    by_first true before behind rest none = none
+    by_first false before behind rest none = rest none
+
+-- one more entry takes back none
+pub entry_stays : (conf : Config) (entry : Entry) (new : State) (index : ℕ → ℕ) (holder : Holder)
+    → KeepsRevived holder (with_entry conf entry new index holder)
+entry_stays conf entry new index holder =
+    record { acted = any_more is_acted holder.entries (entry ∷ []); revived = refl }

@@ -1,17 +1,18 @@
 -- Events of calls that keep grace.
-use Rattle.std.proofs.Common.{◌≡◌, ◌==◌, ◌+◌, ◌-◌, ◌*◌, ◌%◌, ◌<◌, ◌≤◌, ◌∙◌, ℕ, zero, suc, Bool, true, false, List, [], ◌∷◌, ◌++◌, ◌⊎◌, inl, inr, refl, subst, sym, ap, arith, Option, Some, None, is_some, slice_get, if◌then◌else◌}
-use Rattle.std.specs.Prelude.{count_by, nat_lt, option_map}
-use Rattle.std.specs.List.{list_any}
+use Rattle.std.proofs.Common.{◌≡◌, ◌+◌, ◌-◌, ◌<◌, ◌∙◌, ℕ, Bool, true, false, List, [], ◌∷◌, ◌++◌, inl, refl, subst, sym, ap, arith, Option, Some, None, is_some, if◌then◌else◌}
+use Rattle.std.specs.Prelude.{nat_lt, option_map}
+use Rattle.std.specs.List.{last_or, list_any}
 use Rattle.std.proofs.lemmas.Bool.Decides.{nat_tests}
 use Rattle.gh_base.specs.declared.limits.TheConstants.{CPUS}
-use Rattle.gh_model.specs.Graced.{finds, granting, was_granted}
+use Rattle.gh_model.specs.Act.{granted}
+use Rattle.gh_model.specs.Graced.{finds, granting}
 use Rattle.gh_model.specs.Marks.{Made, Outcome, Wants, Fails, Grants, Seen, place}
 use Rattle.gh_core.specs.CallEvents.{MayEnter, MayLeave, MayPin, MayUndo, MayUnpin, after_leave, at_stage, begun, end_of_looks, entered, finished, has_grants, left, leaves_from, pinned, reply_of_looks, undone, unpinned, with_call, with_left, with_pin, without_pin}
-use Rattle.gh_core.specs.Config.{AtAct, Config, Cpu, Current, DeadPin, Failed, Given, Looked, Reading, Stage, Undone, came_to, put}
-use Rattle.gh_core.specs.Grace.{CpuGrace, HasGrace, Objects, Reads, entered_now, granting_at, holds_grant, is_open_at, objects_of, open_now, scan_of, sections}
-use Rattle.gh_core.proofs.CpuMoves.{with_part}
+use Rattle.gh_core.specs.Config.{AtAct, Config, Cpu, Current, DeadPin, Failed, Looked, Reading, Stage, Undone, came_to, put}
+use Rattle.gh_core.specs.Grace.{CpuGrace, HasGrace, entered_now, holds_grant, is_open_at, objects_of, open_now, scan_of, sections}
+use Rattle.gh_core.specs.References.{grants_at}
 use Rattle.gh_core.proofs.Finding.{put_here, put_other}
-use Rattle.gh_core.proofs.GraceCalls.{Begins, Ends, GoesToAct, StaysOpen, begins, ends, goes_to_act, granting_open, open_left, open_one, same_calls, stays_open}
+use Rattle.gh_core.proofs.GraceCalls.{Begins, Ends, GoesToAct, begins, ends, goes_to_act, granting_open, open_left, open_one, same_calls, stays_open}
 use Rattle.gh_core.proofs.GraceFrames.{PartGraced, part_graced}
 
 -- a part with a counter that was put
@@ -57,6 +58,7 @@ module _ (conf : Config) (at : ℕ) (graced : HasGrace conf) where
         none = may.between.none;
         now = now;
         made = refl;
+        no_grant = refl;
         no_looks = λ serial. no_looks (came_to (begun (conf.counter at + 1) Reading may.given)) serial;
         rises = omega arith;
         counts = omega (arith, opens, enters);
@@ -82,11 +84,18 @@ module _ (conf : Config) (at : ℕ) (cpu next : Cpu) (graced : HasGrace conf) wh
     pub was_open : is_open_at call.stage ≡ true
     pub still : is_open_at stage ≡ true
     pub made : next.made ≡ cpu.made
+    pub grants : grants_at stage ≡ true → grants_at call.stage ≡ true
 
   restage_grants : (on : Restages) (serial : ℕ) → holds_grant serial (at_stage on.stage on.call) ≡ true
       → holds_grant serial on.call ≡ true
   restage_grants on serial held =
       ap (list_any (finds serial)) (granting_open on.call.stage (came_to on.call) on.call.seen on.was_open) ∙ (sym (ap (list_any (finds serial)) (granting_open on.stage (came_to on.call) on.call.seen on.still)) ∙ held)
+
+  restage_last : (grace : CpuGrace (objects_of conf) conf.history at cpu (conf.counter at) (scan_of conf.turn at))
+      → (on : Restages) (seen : Seen) → grants_at on.stage ≡ true → last_or None on.call.seen ≡ Some seen
+      → holds_grant (granted seen.word).0 (at_stage on.stage on.call) ≡ true
+  restage_last grace on seen grants last =
+      ap (list_any (finds (granted seen.word).0)) (granting_open on.stage (came_to on.call) on.call.seen on.still) ∙ (sym (ap (list_any (finds (granted seen.word).0)) (granting_open on.call.stage (came_to on.call) on.call.seen on.was_open)) ∙ grace.grants on.call seen on.is (on.grants grants) last)
 
   pub restages : (grace : CpuGrace (objects_of conf) conf.history at cpu (conf.counter at) (scan_of conf.turn at))
       → Restages → CpuGrace (objects_of conf) conf.history at next (conf.counter at) (scan_of conf.turn at)
@@ -101,6 +110,7 @@ module _ (conf : Config) (at : ℕ) (cpu next : Cpu) (graced : HasGrace conf) wh
         section = refl;
         made = on.made;
         grants = λ serial held. inl (restage_grants on serial held);
+        last = λ seen grants last. restage_last grace on seen grants last;
       }
 
 module _ (conf : Config) (at object : ℕ) (graced : HasGrace conf) where
@@ -115,6 +125,7 @@ module _ (conf : Config) (at object : ℕ) (graced : HasGrace conf) where
         was_open = ap is_open_at may.is_looked.at_stage;
         still = refl;
         made = refl;
+        grants = λ is. ap grants_at may.is_looked.at_stage;
       }
   pin_by may false =
       restages conf at (conf.cpu at) (with_pin false (conf.cpu at)) graced (graced.each at may.is_cpu) record {
@@ -125,6 +136,7 @@ module _ (conf : Config) (at object : ℕ) (graced : HasGrace conf) where
         was_open = ap is_open_at may.is_looked.at_stage;
         still = refl;
         made = refl;
+        grants = λ is. ap grants_at may.is_looked.at_stage;
       }
 
   -- a pin keeps grace
@@ -142,6 +154,7 @@ module _ (conf : Config) (at object : ℕ) (graced : HasGrace conf) where
     was_open = ap is_open_at may.dead.at_stage;
     still = refl;
     made = refl;
+    grants = λ is. ap grants_at may.dead.at_stage;
   }
 
   -- so does an undone pin

@@ -1,14 +1,14 @@
 -- What leaves grace: an event that changes one CPU's part, and one that changes words and what the
 -- holder keeps.
-use Rattle.std.proofs.Common.{◌≡◌, ◌==◌, ◌+◌, ◌<◌, ◌≤◌, ◌∙◌, ℕ, Bool, true, false, List, [], ◌∷◌, refl, subst, sym, ap, arith, Option, Some, None, is_some, slice_get, if◌then◌else◌}
+use Rattle.std.proofs.Common.{◌≡◌, ◌==◌, ◌<◌, ◌≤◌, ◌∙◌, ℕ, Bool, true, false, List, refl, subst, sym, ap, arith, Option, None, is_some, if◌then◌else◌}
 use Rattle.std.proofs.lemmas.Bool.{eqb-true}
 use Rattle.std.proofs.lemmas.Bool.Decides.{nat_tests}
 use Rattle.gh_base.specs.declared.limits.TheConstants.{CPUS}
 use Rattle.gh_model.specs.History.{Event}
 use Rattle.gh_core.specs.Config.{Config, Cpu, Holder, put}
-use Rattle.gh_core.specs.Grace.{CpuGrace, HasGrace, IsKept, Objects, Reads, objects_of, scan_of}
+use Rattle.gh_core.specs.Grace.{AreRevived, CpuGrace, HasGrace, Objects, Reads, objects_of, scan_of}
 use Rattle.gh_core.proofs.CpuMoves.{with_part}
-use Rattle.gh_core.proofs.Finding.{put_other, same_number}
+use Rattle.gh_core.proofs.Finding.{put_other}
 use Rattle.gh_core.proofs.WordsMove.{with_words}
 
 -- one CPU
@@ -40,12 +40,9 @@ module _ (conf : Config) (at : ℕ) (cpu : Cpu) (count counter : ℕ → ℕ)
     kept = graced.kept;
     one_killed = graced.one_killed;
     held = graced.held;
+    revived = graced.revived;
     seats = seats_on;
   }
-
--- the counters stay, or one rises
-pub counters_stay : (counter : ℕ → ℕ) (at n : ℕ) → (n == at) ≡ false → counter n ≡ counter n
-counters_stay counter at n apart = refl
 
 -- words and the holder
 
@@ -66,6 +63,7 @@ unscanned before behind history at cpu counter scan same grace = record {
   acts = λ n i made is. absurd (let never : ⊥ = cc in never);
   kept_below = grace.kept_below;
   kept_scanned = λ n is. absurd (let never : ⊥ = cc in never);
+  grants = grace.grants;
   reads = λ call serial is held. record { retired = λ seen kept. (grace.reads call serial is held).retired seen (sym (same serial) ∙ kept); killed = λ n killed is. absurd (let never : ⊥ = cc in never) };
   made_reads = λ i serial made is granted. record { retired = λ seen kept. (grace.made_reads i serial made is granted).retired seen (sym (same serial) ∙ kept); killed = λ n killed is. absurd (let never : ⊥ = cc in never) };
 }
@@ -77,6 +75,7 @@ pub record TurnGraced (conf : Config) (dead : ℕ → Bool) (turn : Option Holde
       → (objects_of (record conf { dead = dead })).killed serial ≡ (objects_of conf).killed serial
   pub scans : (cpu : ℕ) → scan_of turn cpu ≡ scan_of conf.turn cpu
   pub held : is_some conf.turn ≡ true → is_some turn ≡ true
+  pub revived : AreRevived turn dead
 
 module _ (conf : Config) (count : ℕ → ℕ) (dead : ℕ → Bool) (turn : Option Holder)
     (stays : TurnGraced conf dead turn) (graced : HasGrace conf) where
@@ -99,6 +98,7 @@ module _ (conf : Config) (count : ℕ → ℕ) (dead : ℕ → Bool) (turn : Opt
     acts = grace.acts;
     kept_below = grace.kept_below;
     kept_scanned = grace.kept_scanned;
+    grants = grace.grants;
     reads = λ call serial is held. same_reads at call.section serial scan (grace.reads call serial is held);
     made_reads = λ i serial made is granted. same_reads at made.mark.section serial scan (grace.made_reads i serial made is granted);
   }
@@ -109,5 +109,6 @@ module _ (conf : Config) (count : ℕ → ℕ) (dead : ℕ → Bool) (turn : Opt
     kept = graced.kept;
     one_killed = λ serial other one two. graced.one_killed serial other (sym (stays.killed serial) ∙ one) (sym (stays.killed other) ∙ two);
     held = λ serial killed. stays.held (graced.held serial (sym (stays.killed serial) ∙ killed));
+    revived = stays.revived;
     seats = graced.seats;
   }

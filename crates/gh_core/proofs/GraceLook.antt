@@ -1,14 +1,15 @@
 -- A look keeps grace, where the words are those of the present state: what it grants isn't at its end.
-use Rattle.std.proofs.Common.{◌≡◌, ◌==◌, ◌+◌, ◌-◌, ◌<◌, ◌≤◌, ◌∙◌, ℕ, zero, suc, Bool, true, false, List, [], ◌∷◌, ◌++◌, ◌⊎◌, inl, inr, refl, subst, sym, ap, arith, Option, Some, None, find, is_some, length, take, if◌then◌else◌}
+use Rattle.std.proofs.Common.{◌≡◌, ◌==◌, ◌-◌, ◌<◌, ◌∙◌, ℕ, Bool, true, false, List, [], ◌∷◌, ◌++◌, ◌⊎◌, inl, inr, refl, subst, sym, ap, arith, Option, Some, None, is_some, length, take}
 use Rattle.std.specs.Prelude.{◌||◌, map, option_map}
-use Rattle.std.specs.List.{list_any}
-use Rattle.std.specs.Option.{option_map_or}
+use Rattle.std.specs.List.{last_or, list_any}
 use Rattle.std.proofs.lemmas.Bool.{eqb-true}
 use Rattle.std.proofs.lemmas.List.{length-append, map-append}
 use Rattle.gh_base.specs.declared.cap_word.Need.{Need}
 use Rattle.gh_invariant.proofs.FactLemmas.{names_living}
 use Rattle.gh_invariant.specs.NamesLiving.{NamesLiving}
 use Rattle.gh_invariant.specs.Valid.{IsValid}
+use Rattle.gh_model.proofs.RunLists.{last_or_snoc}
+use Rattle.gh_model.specs.Act.{granted, row_serial}
 use Rattle.gh_model.specs.Graced.{finds, granting, names_object, retirement}
 use Rattle.gh_model.specs.History.{is_retired}
 use Rattle.gh_model.specs.Marks.{Outcome, Wants, Fails, Grants, Seen, cspace_of, outcome, word_of}
@@ -18,13 +19,13 @@ use Rattle.gh_model.specs.Rows.{object_row}
 use Rattle.gh_model.specs.Word.{is_slot, look_reply, word_at}
 use Rattle.gh_model.specs.declared.rows.CapabilityRow.{CapabilityRow}
 use Rattle.gh_model.specs.declared.rows.ObjectRow.{ObjectRow}
-use Rattle.gh_model.specs.declared.state.State.{State}
 use Rattle.gh_model.specs.declared.word.Word.{Word}
 use Rattle.gh_core.specs.CallEvents.{MayLook, end_of_looks, found, looked, stage_after_look, with_call, with_look}
-use Rattle.gh_core.specs.Config.{Config, Cpu, Current, Reading, Stage, came_to, is_killed, present}
+use Rattle.gh_core.specs.Config.{Config, Cpu, Current, came_to, present}
 use Rattle.gh_core.specs.Grace.{HasGrace, Reads, granting_at, holds_grant, is_open_at, objects_of, scan_of}
 use Rattle.gh_core.specs.References.{HasReferences, grants_at}
-use Rattle.gh_core.proofs.GraceCalls.{StaysOpen, granting_open, stays_open}
+use Rattle.gh_core.proofs.Finding.{same_number}
+use Rattle.gh_core.proofs.GraceCalls.{same_some, StaysOpen, granting_open, stays_open}
 use Rattle.gh_core.proofs.GraceEvents.{same_part}
 use Rattle.gh_core.proofs.GraceFrames.{part_graced}
 use Rattle.gh_core.proofs.GraceTurn.{KilledRow, killed_row}
@@ -83,6 +84,28 @@ wants_seen : (came : Outcome) (slot : ℕ) (need : Need) (seen : List Seen) → 
     → granting (end_of_looks came) seen ≡ seen
 wants_seen came slot need seen is = ap (λ (one : Outcome). granting (end_of_looks one) seen) is
 
+-- of a grant all looks are grants
+grants_all : (came : Outcome) (seen : List Seen) → grants_at (stage_after_look came) ≡ true
+    → granting (end_of_looks came) seen ≡ seen
+grants_all (Wants slot need) seen grants = refl
+grants_all (Fails errno) seen grants = absurd (let never : ⊥ = cc in never)
+grants_all Grants seen grants = refl
+
+either_true : (first second : Bool) → second ≡ true → (first || second) ≡ true
+either_true true second is = refl
+either_true false second is = is
+
+any_new : {X : Type 0} (test : X → Bool) (items : List X) (new : X) → test new ≡ true
+    → list_any test (items ++ new ∷ []) ≡ true
+any_new test [] new is = rw is refl
+any_new test (first ∷ items) new is =
+    either_true (test first) (list_any test (items ++ new ∷ [])) (any_new test items new is)
+
+names_own : (found : Option CapabilityRow) (row : CapabilityRow) → found ≡ Some row
+    → names_object (row_serial found).0 found ≡ true
+names_own found row is =
+    subst (λ (one : Option CapabilityRow). names_object (row_serial one).0 one ≡ true) (sym is) (same_number row.serial.0)
+
 -- an object that isn't retired has no counters
 no_counters : (object : Option ObjectRow) (seen : List ℕ) → is_retired object ≡ false
     → retirement object ≡ Some seen → ⊥
@@ -132,6 +155,23 @@ module _ (conf : Config) (at slot : ℕ) (sound : HasReferences conf) (graced : 
       let wanted : grants_at (stage_after_look (outcome (needs_of may.call.given.call) (map word_of may.call.seen ++ word_at (present conf) (cspace_of conf.boot at) slot ∷ []))) ≡ true = subst (λ (list : List Word). grants_at (stage_after_look (outcome (needs_of may.call.given.call) list)) ≡ true) split now.1 in
       inr (grants_read serial may.call.section (granted_by (look_reply (word_at (present conf) (cspace_of conf.boot at) slot) may.need) (needs_of may.call.given.call) (map word_of may.call.seen) slot may.need (word_at (present conf) (cspace_of conf.boot at) slot) refl may.asked wanted) now.0)
 
+  -- the last look of a call with a grant is the grant
+  new_granted : grants_at (stage_after_look came) ≡ true
+      → list_any (finds (granted new_look.word).0) (may.call.seen ++ new_look ∷ []) ≡ true
+  unfolding new_look came
+  new_granted grants =
+      let split : map word_of (may.call.seen ++ found conf at slot may.call ∷ []) ≡ map word_of may.call.seen ++ word_at (present conf) (cspace_of conf.boot at) slot ∷ [] = map-append word_of may.call.seen (found conf at slot may.call ∷ []) in
+      let wanted : grants_at (stage_after_look (outcome (needs_of may.call.given.call) (map word_of may.call.seen ++ word_at (present conf) (cspace_of conf.boot at) slot ∷ []))) ≡ true = subst (λ (list : List Word). grants_at (stage_after_look (outcome (needs_of may.call.given.call) list)) ≡ true) split grants in
+      let row : GrantsRow (word_at (present conf) (cspace_of conf.boot at) slot) = granted_by (look_reply (word_at (present conf) (cspace_of conf.boot at) slot) may.need) (needs_of may.call.given.call) (map word_of may.call.seen) slot may.need (word_at (present conf) (cspace_of conf.boot at) slot) refl may.asked wanted in
+      any_new (finds (granted (word_at (present conf) (cspace_of conf.boot at) slot)).0) may.call.seen (found conf at slot may.call) (names_own (word_at (present conf) (cspace_of conf.boot at) slot).row row.row row.is)
+
+  new_last : (seen : Seen) → grants_at (stage_after_look came) ≡ true
+      → last_or None (may.call.seen ++ new_look ∷ []) ≡ Some seen
+      → list_any (finds (granted seen.word).0) (granting_at (stage_after_look came) came (may.call.seen ++ new_look ∷ [])) ≡ true
+  new_last seen grants last =
+      let same : new_look ≡ seen = same_some new_look seen (sym (last_or_snoc None may.call.seen new_look) ∙ last) in
+      ap (list_any (finds (granted seen.word).0)) (granting_open (stage_after_look came) came (may.call.seen ++ new_look ∷ []) (looks_open came) ∙ grants_all came (may.call.seen ++ new_look ∷ []) grants) ∙ subst (λ (one : Seen). list_any (finds (granted one.word).0) (may.call.seen ++ new_look ∷ []) ≡ true) same (new_granted grants)
+
   looking : Cpu
   looking = with_call (λ call. with_look (found conf at slot call) call) (conf.cpu at)
 
@@ -146,6 +186,7 @@ module _ (conf : Config) (at slot : ℕ) (sound : HasReferences conf) (graced : 
     still = looks_open came;
     section = refl;
     made = refl;
+    last = new_last;
     grants = λ serial held. look_reads serial (look_adds came serial may.call.seen new_look (sym (ap (list_any (finds serial)) (granting_open (stage_after_look came) came (may.call.seen ++ new_look ∷ []) (looks_open came))) ∙ held));
   }
 

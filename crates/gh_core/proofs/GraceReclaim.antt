@@ -1,34 +1,31 @@
 -- A retirement and a reclaim keep grace.
-use Rattle.std.proofs.Common.{◌≡◌, ◌==◌, ◌+◌, ◌<◌, ◌≤◌, ◌∙◌, ℕ, zero, suc, Bool, true, false, List, [], ◌∷◌, ◌++◌, ◌⊎◌, inl, inr, refl, subst, sym, ap, arith, Option, Some, None, IsTrue, find, is_some, length, slice_get, if◌then◌else◌}
+use Rattle.std.proofs.Common.{◌≡◌, ◌==◌, ◌<◌, ◌≤◌, ◌∙◌, ℕ, Bool, true, false, List, [], ◌∷◌, ◌++◌, ◌⊎◌, inl, inr, refl, subst, sym, ap, arith, Option, Some, None, find, is_some, slice_get, if◌then◌else◌}
 use Rattle.std.specs.Prelude.{◌&&◌, not, option_map, slice_index}
 use Rattle.std.specs.Option.{option_map_or}
 use Rattle.std.proofs.lemmas.Bool.{and_from, eqb-true}
 use Rattle.std.proofs.lemmas.Bool.Decides.{eqb_tells, nat_tests}
 use Rattle.std.proofs.lemmas.List.Sums.{fold-append}
 use Rattle.std.proofs.lemmas.Option.{slice_get-get_or}
-use Rattle.gh_base.specs.declared.cap_word.CapWord.{CapWord}
 use Rattle.gh_base.specs.declared.ids.Serial.{Serial}
 use Rattle.gh_base.specs.declared.limits.TheConstants.{CPUS}
 use Rattle.gh_invariant.proofs.ChangedRow.{find_change, find_past_change}
 use Rattle.gh_invariant.proofs.RowsLeft.{find_gone, find_left}
 use Rattle.gh_model.specs.Act.{counted}
 use Rattle.gh_model.specs.Changes.{reclaim_object, retire_object, with_counters, without}
-use Rattle.gh_model.specs.Graced.{retirement, was_granted}
-use Rattle.gh_model.specs.History.{Event, after_event, counters, is_retired, is_unretired, numbered, reclaimed, replay, retired, retires}
-use Rattle.gh_model.specs.Marks.{Made}
+use Rattle.gh_model.specs.Graced.{retirement}
+use Rattle.gh_model.specs.History.{Event, after_event, counters, is_retired, is_unretired, numbered, replay}
 use Rattle.gh_model.specs.References.{is_doomed}
 use Rattle.gh_model.specs.Rows.{change_row, is_object, object_row}
-use Rattle.gh_model.specs.declared.entry.Entry.{Entry}
-use Rattle.gh_model.specs.declared.entry.Entry.TheVariants.{Acted, Part, Retired, Reclaimed}
+use Rattle.gh_model.specs.declared.entry.Entry.TheVariants.{Retired, Reclaimed}
 use Rattle.gh_model.specs.declared.rows.ObjectRow.{ObjectRow}
 use Rattle.gh_model.specs.declared.state.State.{State}
-use Rattle.gh_core.specs.Config.{Config, Cpu, Current, HasTurn, Holder, is_killed, present}
-use Rattle.gh_core.specs.Entries.{Allows, AreScans, IsReclaim, IsRetirement, logged, next_state}
-use Rattle.gh_core.specs.Grace.{AreAtMost, CpuGrace, HasGrace, IsKept, Objects, Reads, objects_of, scan_of}
+use Rattle.gh_core.specs.Config.{Config, Current, Holder, is_killed, present}
+use Rattle.gh_core.specs.Entries.{AreScans, logged, next_state}
+use Rattle.gh_core.specs.Grace.{HasGrace, Objects, Reads, objects_of, scan_of}
 use Rattle.gh_core.specs.TurnEvents.{MayCommit, committed, committed_by, with_entry}
-use Rattle.gh_core.proofs.Finding.{found_passes, same_number}
-use Rattle.gh_core.proofs.GraceTurn.{scans_kept, held_kept}
-use Rattle.gh_core.proofs.GraceEntries.{EntryFits, EntryGraced, entry_graced, same_some, with_event}
+use Rattle.gh_core.proofs.Finding.{found_passes}
+use Rattle.gh_core.proofs.GraceCalls.{same_some}
+use Rattle.gh_core.proofs.GraceEntries.{entry_stays, EntryFits, EntryGraced, entry_graced, with_event}
 
 -- the state behind an entry
 pub replay_more : (boot : State) (history : List Event) (event : Event)
@@ -160,6 +157,7 @@ module _ (conf : Config) (at : ℕ) (serial : Serial) (seen : List ℕ) (graced 
   retire_entry : EntryGraced conf (logged (Retired serial seen) may.call) conf.index conf.cap (with_entry conf (Retired serial seen) (next_state conf may.call (Retired serial seen)) conf.index)
   retire_entry = record {
     scans = λ holder. refl;
+    stays = entry_stays conf (Retired serial seen) (next_state conf may.call (Retired serial seen)) conf.index;
     kept = λ x kept is. kept_by x kept (row_behind x) is;
     killed = λ x is. killed_by x (row_behind x) is;
     fits = λ cpu within. scans_fit conf graced may.holder may.allows.has_turn.turn (logged (Retired serial seen) may.call) seen refl may.allows.allowed.scans cpu within (objects_of (with_event conf (logged (Retired serial seen) may.call) conf.index conf.cap (with_entry conf (Retired serial seen) (next_state conf may.call (Retired serial seen)) conf.index))) (λ section x reads. record { retired = λ kept is. retired_reads cpu section x kept within reads (kept_by x kept (row_behind x) is); killed = λ n is scan. reads.killed n (killed_by x (row_behind x) is) scan });
@@ -204,6 +202,7 @@ module _ (conf : Config) (at : ℕ) (serial : Serial) (seen : List ℕ) (graced 
   reclaim_entry : EntryGraced conf (logged (Reclaimed serial seen) may.call) conf.index conf.cap (with_entry conf (Reclaimed serial seen) (next_state conf may.call (Reclaimed serial seen)) conf.index)
   reclaim_entry = record {
     scans = λ holder. refl;
+    stays = entry_stays conf (Reclaimed serial seen) (next_state conf may.call (Reclaimed serial seen)) conf.index;
     kept = λ x kept is. inl (kept_left x kept (row_left x) is);
     killed = λ x is. killed_left x (row_left x) is;
     fits = λ cpu within. scans_fit conf graced may.holder may.allows.has_turn.turn (logged (Reclaimed serial seen) may.call) seen refl may.allows.allowed.scans cpu within (objects_of (with_event conf (logged (Reclaimed serial seen) may.call) conf.index conf.cap (with_entry conf (Reclaimed serial seen) (next_state conf may.call (Reclaimed serial seen)) conf.index))) (λ section x reads. record { retired = λ kept is. reads.retired kept (kept_left x kept (row_left x) is); killed = λ n is scan. reads.killed n (killed_left x (row_left x) is) scan });

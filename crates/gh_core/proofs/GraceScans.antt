@@ -1,26 +1,25 @@
 -- Scans, kills and turns that are taken and given back keep grace.
-use Rattle.std.proofs.Common.{◌≡◌, ◌==◌, ◌+◌, ◌-◌, ◌<◌, ◌≤◌, ◌∙◌, ℕ, zero, suc, Bool, true, false, List, [], ◌∷◌, ◌++◌, ◌⊎◌, inl, inr, refl, subst, sym, ap, arith, Option, Some, None, find, is_some, slice_get, if◌then◌else◌}
+use Rattle.std.proofs.Common.{◌≡◌, ◌==◌, ◌<◌, ◌≤◌, ◌∙◌, ℕ, Bool, true, false, List, inl, inr, refl, subst, sym, ap, arith, Option, Some, None, is_some, if◌then◌else◌}
 use Rattle.std.specs.Prelude.{nat_lt, option_map}
 use Rattle.std.specs.List.{list_any}
 use Rattle.std.specs.Option.{option_map_or}
 use Rattle.std.proofs.lemmas.Bool.{eqb-true}
 use Rattle.std.proofs.lemmas.Bool.Decides.{nat_tests}
 use Rattle.gh_base.specs.declared.limits.TheConstants.{CPUS}
-use Rattle.gh_model.specs.Graced.{finds, granting, was_granted}
 use Rattle.gh_model.specs.History.{Event}
-use Rattle.gh_model.specs.Marks.{Made, Seen, place}
 use Rattle.gh_model.specs.Rows.{object_row}
 use Rattle.gh_model.specs.declared.rows.ObjectRow.{ObjectRow}
-use Rattle.gh_core.specs.Config.{AtAct, Config, Cpu, Current, Given, Holder, Pin, is_killed, object_at, present, put, some_killed}
-use Rattle.gh_core.specs.Grace.{CpuGrace, HasGrace, IsLeft, Objects, Reads, has_section, holds_grant, is_open_at, objects_of, scan_of, sections}
-use Rattle.gh_core.specs.HolderEvents.{MayKill, MayScan, kill_failed, killed, scanned, with_failed, with_scan, without_scans}
+use Rattle.gh_core.specs.Config.{Config, Cpu, Current, Holder, has_acted, is_killed, object_at, present, put, some_killed}
+use Rattle.gh_core.specs.Entries.{is_that_index}
+use Rattle.gh_core.specs.Grace.{AreRevived, CpuGrace, HasGrace, IsLeft, Objects, Reads, is_open_at, objects_of, scan_of}
+use Rattle.gh_core.specs.HolderEvents.{MayKill, kill_failed, killed, scanned, with_failed, with_scan, without_scans}
 use Rattle.gh_core.specs.References.{HasReferences}
 use Rattle.gh_core.specs.TurnEvents.{MayQuit, quit}
 use Rattle.gh_core.proofs.Finding.{put_here, put_other}
 use Rattle.gh_core.proofs.GraceFrames.{unscanned}
-use Rattle.gh_core.proofs.GraceTurn.{KilledRow, killed_row, none_killed, words_graced}
+use Rattle.gh_core.proofs.GraceTurn.{KilledRow, killed_row, none_killed, revived_kept, words_graced}
 use Rattle.gh_core.proofs.Living.{LivesAt, lives_there}
-use Rattle.gh_core.proofs.WordsMove.{with_words}
+use Rattle.gh_core.proofs.ReviveKeeps.{apart_by}
 
 -- Scan
 
@@ -69,6 +68,7 @@ module _ (objects : Objects) (history : List Event) (at : ℕ) (cpu : Cpu) (coun
     acts = λ n i made scan_is is placed some. acts_scanned made.mark.section n scan_is (left_below counter made.mark.section (grace.ended i made is) some);
     kept_below = grace.kept_below;
     kept_scanned = λ n is. let same : counter ≡ n = cc in λ k event seen there keeps. omega (arith, same, grace.kept_below k event seen there keeps);
+    grants = grace.grants;
     reads = λ call serial is held. reads_scanned call.section serial (section_within call (is_open_at call.stage) is refl) (grace.reads call serial is held);
     made_reads = λ i serial made is granted. reads_scanned made.mark.section serial (left_within counter made.mark.section (grace.ended i made is)) (grace.made_reads i serial made is granted);
   }
@@ -98,6 +98,7 @@ module _ (conf : Config) (of : ℕ) (graced : HasGrace conf) where
     kept = graced.kept;
     one_killed = graced.one_killed;
     held = λ serial killed. held_on conf.turn (graced.held serial killed);
+    revived = revived_kept (with_scan of (conf.counter of)) conf.dead conf.turn (λ holder. record { acted = λ acted. acted; revived = refl }) graced.revived;
     seats = graced.seats;
   }
 
@@ -133,19 +134,33 @@ module _ (conf : Config) (at object : ℕ) (sound : HasReferences conf) (graced 
   turn_held : is_some (option_map without_scans conf.turn) ≡ true
   turn_held = ap (λ (one : Option Holder). is_some (option_map without_scans one)) may.has_turn.turn
 
+  -- at an index that was revived nothing lives yet, so nothing is killed
+  kill_apart : (i : ℕ) → object_at (present conf) conf.index i ≡ None → (i == object) ≡ false
+  kill_apart i none =
+      apart_by i object (λ (same : i ≡ object). let empty : object_at (present conf) conf.index object ≡ None = subst (λ (n : ℕ). object_at (present conf) conf.index n ≡ None) same none in let some : object_at (present conf) conf.index object ≡ Some may.row = may.lives_there in cc)
+
+  kill_revived : AreRevived (option_map without_scans conf.turn) (put conf.dead object true)
+  kill_revived holder i is acted some =
+      let now : Some (without_scans may.holder) ≡ Some holder = sym (ap (option_map without_scans) may.has_turn.turn) ∙ is in
+      let same : without_scans may.holder ≡ holder = cc in
+      let before : has_acted may.holder ≡ false = ap has_acted same ∙ acted in
+      let list : list_any (is_that_index i) may.holder.revived ≡ true = ap (λ (one : Holder). list_any (is_that_index i) one.revived) same ∙ some in
+      put_other conf.dead object true i (kill_apart i (sound.placed.fresh may.holder i may.has_turn.turn before list)) ∙ graced.revived may.holder i may.has_turn.turn before list
+
   kill_succeeds : HasGrace (record conf { turn = option_map without_scans conf.turn; dead = put conf.dead object true })
   kill_succeeds = record {
     each = λ n within. subst (λ (scan : Option ℕ). CpuGrace (objects_of (record conf { turn = option_map without_scans conf.turn; dead = put conf.dead object true })) conf.history n (conf.cpu n) (conf.counter n) scan) (sym (cleared conf.turn n)) (unscanned (objects_of conf) (objects_of (record conf { turn = option_map without_scans conf.turn; dead = put conf.dead object true })) conf.history n (conf.cpu n) (conf.counter n) (scan_of conf.turn n) (λ serial. refl) (graced.each n within));
     kept = graced.kept;
     one_killed = λ serial other one two. kills_only serial one ∙ sym (kills_only other two);
     held = λ serial killed. turn_held;
+    revived = kill_revived;
     seats = graced.seats;
   }
 
   kill_fails : (found : Option ObjectRow) → HasGrace (kill_failed conf object found)
   kill_fails None = graced
   kill_fails (Some row) =
-      words_graced conf conf.count (with_failed row.serial.0 (conf.count object)) (λ holder. refl) graced
+      words_graced conf conf.count (with_failed row.serial.0 (conf.count object)) (λ holder. refl) (λ holder. record { acted = λ acted. acted; revived = refl }) graced
 
   kill_by : (here : Bool) → HasGrace (if here
       then record conf { turn = option_map without_scans conf.turn; dead = put conf.dead object true }
@@ -167,6 +182,7 @@ free_graced conf none graced = record {
   kept = graced.kept;
   one_killed = graced.one_killed;
   held = λ serial killed. absurd (none_killed conf serial none killed);
+  revived = λ holder i is. absurd (let never : ⊥ = cc in never);
   seats = graced.seats;
 }
 

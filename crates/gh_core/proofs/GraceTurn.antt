@@ -1,31 +1,21 @@
 -- Grace before any event, and the events of the holder on words, counters and the turn that keep it.
-use Rattle.std.proofs.Common.{◌≡◌, ◌==◌, ◌+◌, ◌-◌, ◌<◌, ◌≤◌, ◌∙◌, ℕ, zero, suc, Bool, true, false, List, [], ◌∷◌, ◌++◌, ◌⊎◌, inl, inr, refl, subst, sym, ap, arith, Option, Some, None, find, is_some, slice_get, if◌then◌else◌}
-use Rattle.std.specs.Prelude.{◌||◌, not, count_by, nat_lt, option_map}
+use Rattle.std.proofs.Common.{◌≡◌, ◌==◌, ◌+◌, ◌-◌, ◌∙◌, ℕ, Bool, true, false, List, [], ◌∷◌, ◌++◌, refl, subst, sym, ap, Option, Some, None, find, is_some, if◌then◌else◌}
+use Rattle.std.specs.Prelude.{◌||◌, option_map}
 use Rattle.std.specs.List.{list_any}
 use Rattle.std.specs.Option.{option_map_or}
 use Rattle.std.proofs.lemmas.Bool.{eqb-true}
-use Rattle.std.proofs.lemmas.Bool.Decides.{eqb_tells, nat_tests}
-use Rattle.gh_base.specs.declared.limits.TheConstants.{CPUS}
-use Rattle.gh_base.specs.declared.mark.End.{End}
-use Rattle.gh_base.specs.declared.mark.End.TheVariants as finish
-use Rattle.gh_model.specs.Act.{Verdict, Done, Refused}
-use Rattle.gh_model.specs.Graced.{finds, granting, retirement, was_granted}
-use Rattle.gh_model.specs.History.{Event}
-use Rattle.gh_model.specs.Marks.{Made, Seen, place}
+use Rattle.gh_model.specs.Graced.{retirement}
 use Rattle.gh_model.specs.Rows.{is_object, object_row}
 use Rattle.gh_model.specs.declared.rows.ObjectRow.{ObjectRow}
 use Rattle.gh_model.specs.declared.state.State.{State}
-use Rattle.gh_core.specs.CallEvents.{begun, finished, has_needs}
-use Rattle.gh_core.specs.Config.{AtAct, Config, Cpu, Current, Given, HasTurn, Holder, Pin, came_to, is_killed, object_at, present, put, some_killed}
-use Rattle.gh_core.specs.Grace.{CpuGrace, HasGrace, IsKept, Objects, Reads, has_section, holds_grant, objects_of, scan_of, sections}
-use Rattle.gh_core.specs.HolderEvents.{MayKill, MayOwe, MayRevive, MayScan, MaySettle, kill_failed, killed, one_less, one_more, owed, revived, scanned, settled, with_failed, with_revived, with_scan, without_scans}
-use Rattle.gh_core.specs.References.{HasReferences, IsRow}
+use Rattle.gh_core.specs.Config.{Config, Holder, has_acted, is_killed, object_at, present, put, some_killed}
+use Rattle.gh_core.specs.Entries.{is_that_index}
+use Rattle.gh_core.specs.Grace.{AreRevived, CpuGrace, HasGrace, objects_of, scan_of}
+use Rattle.gh_core.specs.HolderEvents.{MayRevive, killed, one_less, one_more, owed, revived, settled, with_revived}
+use Rattle.gh_core.specs.References.{IsRow}
 use Rattle.gh_core.specs.Start.{AreIndices, IsUnretired, boot_dead, new_cpu, start}
-use Rattle.gh_core.specs.TurnEvents.{Ending, MayEnd, MayQuit, MayTake, end_call, ended, ending, new_holder, quit, ready, taken, with_ending}
-use Rattle.gh_core.proofs.Finding.{found_passes, put_here, put_other, same_number}
-use Rattle.gh_core.proofs.GraceCalls.{Begins, Ends, begins, ends, same_calls}
-use Rattle.gh_core.proofs.GraceEvents.{same_part}
-use Rattle.gh_core.proofs.GraceFrames.{KeepRetired, PartGraced, TurnGraced, part_graced, turn_graced, unscanned}
+use Rattle.gh_core.proofs.Finding.{found_passes, put_here, put_other}
+use Rattle.gh_core.proofs.GraceFrames.{turn_graced}
 use Rattle.gh_core.proofs.Living.{index_apart, stands_there}
 use Rattle.gh_core.proofs.ReviveKeeps.{apart_by}
 use Rattle.gh_core.proofs.WordsMove.{with_words}
@@ -41,7 +31,8 @@ pub record KilledRow (s : State) (dead : ℕ → Bool) (index : ℕ → ℕ) (se
   pub unretired : row.retired ≡ None
   pub is_dead : dead (index row.serial.0) ≡ true
 
-unretired_by : (retired : Option (List ℕ)) (dead : Bool)
+-- an object that is killed isn't retired
+pub unretired_by : (retired : Option (List ℕ)) (dead : Bool)
     → (if is_some retired then false else dead) ≡ true → (retired ≡ None) × (dead ≡ true)
 unretired_by None dead is = (refl, is)
 unretired_by (Some seen) dead is = absurd (let never : ⊥ = cc in never)
@@ -124,6 +115,7 @@ module _ (boot : State) (index : ℕ → ℕ) (indices : AreIndices boot index) 
       acts = λ n i made is. absurd (let never : ⊥ = cc in never);
       kept_below = λ n event seen is. absurd (let never : ⊥ = cc in never);
       kept_scanned = λ n is. absurd (let never : ⊥ = cc in never);
+      grants = λ call seen is. absurd (let never : ⊥ = cc in never);
       reads = λ call serial is. absurd (let never : ⊥ = cc in never);
       made_reads = λ i serial made is. absurd (let never : ⊥ = cc in never);
     }
@@ -135,6 +127,7 @@ module _ (boot : State) (index : ℕ → ℕ) (indices : AreIndices boot index) 
       kept = λ serial seen kept. absurd (no_retirement serial (object_row boot serial) seen refl kept);
       one_killed = λ serial other killed also. absurd (no_kill serial killed);
       held = λ serial killed. absurd (no_kill serial killed);
+      revived = λ holder i is. absurd (let never : ⊥ = cc in never);
       seats = λ cpu beyond. refl;
     }
 
@@ -154,19 +147,35 @@ pub held_kept : (change : Holder → Holder) (turn : Option Holder) → is_some 
 held_kept change None held = held
 held_kept change (Some holder) held = refl
 
+-- a change that takes back no act's entry, and leaves the revived indices
+pub record KeepsRevived (before behind : Holder) : Type 0 where
+  pub acted : has_acted behind ≡ false → has_acted before ≡ false
+  pub revived : behind.revived ≡ before.revived
+
+pub revived_kept : (change : Holder → Holder) (dead : ℕ → Bool) (turn : Option Holder)
+    → ((holder : Holder) → KeepsRevived holder (change holder)) → AreRevived turn dead
+    → AreRevived (option_map change turn) dead
+revived_kept change dead None keeps alive holder i is acted revived = absurd (let never : ⊥ = cc in never)
+revived_kept change dead (Some before) keeps alive holder i is acted revived =
+    let same : change before ≡ holder = cc in
+    let now : has_acted (change before) ≡ false = ap has_acted same ∙ acted in
+    let list : holder.revived ≡ before.revived = sym (ap (λ (one : Holder). one.revived) same) ∙ (keeps before).revived in
+    alive before i refl ((keeps before).acted now) (sym (ap (λ (one : List ℕ). list_any (is_that_index i) one) list) ∙ revived)
+
 pub words_graced : (conf : Config) (count : ℕ → ℕ) (change : Holder → Holder) → KeepsScans change
+    → ((holder : Holder) → KeepsRevived holder (change holder))
     → HasGrace conf → HasGrace (with_words conf count conf.dead (option_map change conf.turn))
-words_graced conf count change keeps graced =
-    turn_graced conf count conf.dead (option_map change conf.turn) (record { killed = λ serial. refl; scans = λ cpu. scans_kept change conf.turn cpu keeps; held = held_kept change conf.turn }) graced
+words_graced conf count change keeps stays graced =
+    turn_graced conf count conf.dead (option_map change conf.turn) (record { killed = λ serial. refl; scans = λ cpu. scans_kept change conf.turn cpu keeps; held = held_kept change conf.turn; revived = revived_kept change conf.dead conf.turn stays graced.revived }) graced
 
 -- references that are owed, and owed no more, keep grace
 pub owe_graced : (conf : Config) (object : ℕ) → HasGrace conf → HasGrace (owed conf object)
 owe_graced conf object graced =
-    words_graced conf (put conf.count object (conf.count object + 1)) (one_more object) (λ holder. refl) graced
+    words_graced conf (put conf.count object (conf.count object + 1)) (one_more object) (λ holder. refl) (λ holder. record { acted = λ acted. acted; revived = refl }) graced
 
 pub settle_graced : (conf : Config) (object : ℕ) → HasGrace conf → HasGrace (settled conf object)
 settle_graced conf object graced =
-    words_graced conf (put conf.count object (conf.count object - 1)) (one_less object) (λ holder. refl) graced
+    words_graced conf (put conf.count object (conf.count object - 1)) (one_less object) (λ holder. refl) (λ holder. record { acted = λ acted. acted; revived = refl }) graced
 
 -- Revive
 
@@ -182,7 +191,19 @@ module _ (conf : Config) (at object amount : ℕ) (may : MayRevive conf at objec
       let apart : (conf.index row.serial.0 == object) ≡ false = apart_by (conf.index row.serial.0) object (index_apart (present conf) conf.index row object own may.uninhabited) in
       ap (λ (one : Bool). if is_some row.retired then false else one) (put_other conf.dead object false (conf.index row.serial.0) apart)
 
+  only_there : (here : Bool) (i : ℕ) → (object == i) ≡ here → (here || false) ≡ true → i ≡ object
+  only_there true i is some = sym (eqb-true object i is)
+  only_there false i is some = absurd (let never : ⊥ = cc in never)
+
+  revive_revived : AreRevived (option_map (with_revived object amount) conf.turn) (put conf.dead object false)
+  revive_revived holder i is acted some =
+      let now : Some (with_revived object amount may.holder) ≡ Some holder = sym (ap (option_map (with_revived object amount)) may.has_turn.turn) ∙ is in
+      let same : with_revived object amount may.holder ≡ holder = cc in
+      let list : list_any (is_that_index i) (may.holder.revived ++ object ∷ []) ≡ true = ap (λ (one : Holder). list_any (is_that_index i) one.revived) same ∙ some in
+      let one : list_any (is_that_index i) (object ∷ []) ≡ true = subst (λ (before : List ℕ). list_any (is_that_index i) (before ++ object ∷ []) ≡ true) may.first list in
+      subst (λ (n : ℕ). put conf.dead object false n ≡ false) (sym (only_there (object == i) i refl one)) (put_here conf.dead object false)
+
   -- a new count keeps grace
   pub revive_graced : HasGrace (revived conf object amount)
   revive_graced =
-      turn_graced conf (put conf.count object amount) (put conf.dead object false) (option_map (with_revived object amount) conf.turn) (record { killed = λ serial. revive_killed serial (object_row (present conf) serial) refl; scans = λ cpu. scans_kept (with_revived object amount) conf.turn cpu (λ holder. refl); held = held_kept (with_revived object amount) conf.turn }) graced
+      turn_graced conf (put conf.count object amount) (put conf.dead object false) (option_map (with_revived object amount) conf.turn) (record { killed = λ serial. revive_killed serial (object_row (present conf) serial) refl; scans = λ cpu. scans_kept (with_revived object amount) conf.turn cpu (λ holder. refl); held = held_kept (with_revived object amount) conf.turn; revived = revive_revived }) graced

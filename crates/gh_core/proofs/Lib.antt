@@ -9,9 +9,11 @@ pub mod EntryKeeps
 pub mod EntryMoves
 pub mod EventObjects
 pub mod EventRuns
+pub mod EventsKeep
 pub mod Finding
 pub mod GraceActs
 pub mod GraceCalls
+pub mod GraceCounters
 pub mod GraceEnds
 pub mod GraceEntries
 pub mod GraceEvents
@@ -19,6 +21,7 @@ pub mod GraceFrames
 pub mod GraceLook
 pub mod GraceReclaim
 pub mod GraceScans
+pub mod GraceSpares
 pub mod GraceTurn
 pub mod HolderCalls
 pub mod KillKeeps

@@ -1,18 +1,23 @@
-//! Which events are shown to keep the grace of a configuration. The functions do nothing; their
-//! clauses are laws. Of acts and their parts nothing is said yet.
+//! Every event keeps the grace of a configuration. The functions do nothing; their clauses are
+//! laws.
 
-ghost use Rattle.std.specs.Prelude.{ℕ, List, true, false};
+ghost use Rattle.std.specs.Prelude.{◌≡◌, ◌<◌, ℕ, List, Some, slice_index, true, false};
+ghost use Rattle.gh_base.specs.declared.cap_word.CapWord.{CapWord};
 ghost use Rattle.gh_base.specs.declared.ids.CpuNo.{CpuNo};
 ghost use Rattle.gh_base.specs.declared.ids.ObjIndex.{ObjIndex};
-ghost use Rattle.gh_base.specs.declared.ids.Serial.{Serial};
 ghost use Rattle.gh_core.specs.Config.{Config, present};
 ghost use Rattle.gh_core.specs.Events.{Possible, after};
-ghost use Rattle.gh_core.specs.Grace.{HasGrace};
+ghost use Rattle.gh_core.specs.Grace.{CounterFits, HasGrace};
 ghost use Rattle.gh_core.specs.References.{HasReferences};
+ghost use Rattle.gh_core.specs.Replayed.{HasState, SparesLooks};
 ghost use Rattle.gh_core.specs.Start.{AreIndices, IsUnretired, start};
-ghost use Rattle.gh_core.specs.declared.event.Event.TheVariants.{Commit, Enter, Free, Join, Kill, Leave, Look, Pin, Revive, Scan, Split, Take, Undo, Unpin};
+ghost use Rattle.gh_core.specs.Words.{ShowsWords};
+ghost use Rattle.gh_core.specs.declared.event.Event.{Event};
+ghost use Rattle.gh_core.specs.declared.event.Event.TheVariants.{Commit, Enter, Free, Join, Kill, Leave, Look, Pin, Revive, Scan, SetCap, Split, Take, Undo, Unpin};
 ghost use Rattle.gh_invariant.specs.Valid.{IsValid};
-ghost use Rattle.gh_model.specs.declared.entry.Entry.TheVariants.{Retired, Reclaimed};
+ghost use Rattle.gh_base.specs.declared.limits.TheConstants.{CPUS};
+ghost use Rattle.gh_model.specs.History.{counters};
+ghost use Rattle.gh_model.specs.declared.entry.Entry.{Entry};
 ghost use Rattle.gh_model.specs.declared.state.State.{State};
 
 /// Where a boot state's objects have indices, each its own, and none is retired, the configuration
@@ -32,7 +37,8 @@ pub fn enter_keeps_grace()
 /// neither retired nor killed.
 pub fn look_keeps_grace()
     ensures { (conf : Config) (cpu : CpuNo) (slot : ℕ) → HasReferences conf → HasGrace conf
-        → IsValid (present conf) → Possible conf (Look cpu slot) → HasGrace (after conf (Look cpu slot)) }
+        → IsValid (present conf) → Possible conf (Look cpu slot)
+        → HasGrace (after conf (Look cpu slot)) }
 {}
 
 /// So does a pin of a call, on a word that is dead or not.
@@ -88,7 +94,8 @@ pub fn scan_keeps_grace()
 /// So does an index that gets a new count.
 pub fn revive_keeps_grace()
     ensures { (conf : Config) (cpu : CpuNo) (object : ObjIndex) (count : ℕ) → HasGrace conf
-        → Possible conf (Revive cpu object count) → HasGrace (after conf (Revive cpu object count)) }
+        → Possible conf (Revive cpu object count)
+        → HasGrace (after conf (Revive cpu object count)) }
 {}
 
 /// So does a turn that is given back, before its act or behind it, with the call's end.
@@ -99,18 +106,34 @@ pub fn free_keeps_grace()
         → HasGrace (after conf (Free cpu true)) }
 {}
 
-/// So does an entry that retires an object: its counters are scans since the kill.
-pub fn retire_keeps_grace()
-    ensures { (conf : Config) (cpu : CpuNo) (serial : Serial) (seen : List ℕ) → HasGrace conf
-        → Possible conf (Commit cpu (Retired serial seen))
-        → HasGrace (after conf (Commit cpu (Retired serial seen))) }
+/// So does an entry that sets no slot: an act, a part of one, a retirement, whose counters are
+/// scans since the kill, and a reclaim.
+pub fn commit_keeps_grace()
+    ensures { (conf : Config) (cpu : CpuNo) (entry : Entry) → HasGrace conf
+        → Possible conf (Commit cpu entry) → HasGrace (after conf (Commit cpu entry)) }
 {}
 
-/// So does an entry that reclaims one.
-pub fn reclaim_keeps_grace()
-    ensures { (conf : Config) (cpu : CpuNo) (serial : Serial) (seen : List ℕ) → HasGrace conf
-        → Possible conf (Commit cpu (Reclaimed serial seen))
-        → HasGrace (after conf (Commit cpu (Reclaimed serial seen))) }
+/// So does an entry that sets one, be it the master capability of an object that it makes.
+pub fn set_cap_keeps_grace()
+    ensures { (conf : Config) (cpu : CpuNo) (entry : Entry) (space : ObjIndex) (slot : ℕ)
+        (word : CapWord) → HasState conf → HasGrace conf
+        → Possible conf (SetCap cpu entry space slot word)
+        → HasGrace (after conf (SetCap cpu entry space slot word)) }
+{}
+
+/// No call in its section was granted, by its last look beside its pins, what an entry reclaims.
+pub fn entries_spare_grants()
+    ensures { (conf : Config) (cpu : CpuNo) (entry : Entry) → HasGrace conf
+        → Possible conf (Commit cpu entry) → SparesLooks conf entry }
+{}
+
+/// The counters that an entry keeps are those of no earlier moment than the entries before it, and
+/// above the sections of the calls that had ended with their acts, and of those that were granted
+/// what it reclaims.
+pub fn entry_counters_fit()
+    ensures { (conf : Config) (cpu : CpuNo) (entry : Entry) (seen : List ℕ) (at : ℕ)
+        → HasGrace conf → Possible conf (Commit cpu entry) → counters entry ≡ Some seen → at < CPUS
+        → CounterFits conf entry at (slice_index seen at) }
 {}
 
 /// And a seat that is given back or made.
@@ -119,4 +142,15 @@ pub fn seats_keep_grace()
         → HasGrace (after conf (Join cpu)) }
     ensures split { (conf : Config) (cpu : CpuNo) → HasGrace conf → Possible conf (Split cpu)
         → HasGrace (after conf (Split cpu)) }
+{}
+
+/// Together: where the references are sound, the present state is valid and the words are those of
+/// it, every event keeps grace and sound references.
+pub fn events_keep_grace()
+    ensures grace { (conf : Config) (event : Event) → HasReferences conf → HasGrace conf
+        → HasState conf → IsValid (present conf) → Possible conf event
+        → HasGrace (after conf event) }
+    ensures references { (conf : Config) (event : Event) → HasReferences conf → HasGrace conf
+        → HasState conf → IsValid (present conf) → ShowsWords conf → Possible conf event
+        → HasReferences (after conf event) }
 {}

@@ -1,5 +1,5 @@
-//! Which events are shown to keep sound references. The functions do nothing; their clauses are
-//! laws. Of the other events nothing is said yet.
+//! Every event but the holder's entries keeps sound references. The functions do nothing; their
+//! clauses are laws.
 
 ghost use Rattle.std.specs.Prelude.{ℕ, true, false};
 ghost use Rattle.gh_base.specs.declared.ids.CpuNo.{CpuNo};
