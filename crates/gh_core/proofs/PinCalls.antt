@@ -30,7 +30,7 @@ use Rattle.gh_core.specs.CallEvents.{MayPin, pin_of_call, pinned, with_pin}
 use Rattle.gh_core.specs.Calls.{CurrentIs, DeathIs, HasCalls, but_last, came_fits}
 use Rattle.gh_core.specs.Config.{AtAct, Config, Current, DeadPin, IsIn, Looked, Pin, Reading, came_to, is_at, object_at, pin_of, present, put, seen_index}
 use Rattle.gh_core.specs.References.{HasReferences, IsGranted, grants_at}
-use Rattle.gh_core.specs.Replayed.{HasHistory}
+use Rattle.gh_core.specs.ValidState.{HasValid}
 use Rattle.gh_core.proofs.CallsGoOn.{its_came, its_counter, its_looked, its_needs, its_pinned, stage_sound}
 use Rattle.gh_core.proofs.CallsKeep.{stage_number}
 use Rattle.gh_core.proofs.CpuMoves.{with_part}
@@ -117,7 +117,7 @@ word_row s cspace slot row false none found =
     let empty : (word_at s cspace slot).row ≡ None = rw none refl in
     absurd (let never : ⊥ = cc in never)
 
-module _ (conf : Config) (at : ℕ) (sound : HasCalls conf) (past : HasHistory conf) (call : Current)
+module _ (conf : Config) (at : ℕ) (sound : HasCalls conf) (past : HasValid conf) (call : Current)
     (seen : Seen) (is_in : IsIn (conf.cpu at) call Looked) (last : last_or None call.seen ≡ Some seen)
   where
     now : CurrentIs conf.boot conf.history conf.index conf.dead at (conf.cpu at) call
@@ -136,7 +136,7 @@ module _ (conf : Config) (at : ℕ) (sound : HasCalls conf) (past : HasHistory c
     grants_reply : (reply : Result Serial Errno) → look_reply seen.word look.need ≡ reply → GrantsRow seen.word
     grants_reply (Err errno) refused =
         let fails : outcome (needs_of call.given.call) (map word_of (take item.at call.seen) ++ seen.word ∷ []) ≡ Fails errno =
-            fails_last (needs_of call.given.call) (map word_of (take item.at call.seen)) seen.look.slot look.need seen.word errno look.asked refused in
+        fails_last (needs_of call.given.call) (map word_of (take item.at call.seen)) seen.look.slot look.need seen.word errno look.asked refused in
         let came : came_to call ≡ Fails errno = ap (outcome (needs_of call.given.call)) words_are ∙ fails in
         let fits : came_fits Looked (came_to call) ≡ true = its_came conf at sound call Looked is_in in
         let not_so : came_fits Looked (came_to call) ≡ false = ap (came_fits Looked) came in
@@ -154,7 +154,7 @@ module _ (conf : Config) (at : ℕ) (sound : HasCalls conf) (past : HasHistory c
     then_ = state_at conf.boot conf.history seen.look.place
 
     valid_then : IsValid then_
-    valid_then = history_valid conf.boot conf.history seen.look.place past.valid past.fits
+    valid_then = history_valid conf.boot conf.history seen.look.place past.boot_valid past.events_fit
 
     found_then : find (fills (cspace_of conf.boot at) seen.look.slot) then_.caps ≡ Some row.row
     found_then =
@@ -176,7 +176,7 @@ module _ (conf : Config) (at : ℕ) (sound : HasCalls conf) (past : HasHistory c
         (living_by (find (is_object row.row.serial.0) then_.objects) row.row.kind names.object names.unretired)
 
     valid_now : IsValid (present conf)
-    valid_now = replay_valid conf.boot conf.history past.valid past.fits
+    valid_now = replay_valid conf.boot conf.history past.boot_valid past.events_fit
 
     -- a retired object that the look granted is retired behind it
     retired_behind : (object : ObjectRow) (counters : List ℕ)
@@ -186,11 +186,11 @@ module _ (conf : Config) (at : ℕ) (sound : HasCalls conf) (past : HasHistory c
     retired_behind object counters there is retired =
         let own : LivesAt (present conf) conf.index (seen_index seen) object.serial.0 = lives_there (present conf) conf.index (seen_index seen) object there in
         let found : find (is_object object.serial.0) (present conf).objects ≡ Some own.row =
-            subst (λ (n : ℕ). find (is_object n) (present conf).objects ≡ Some own.row) own.same own.is in
+        subst (λ (n : ℕ). find (is_object n) (present conf).objects ≡ Some own.row) own.same own.is in
         let same : object ≡ own.row =
-            same_found (is_at conf.index (seen_index seen)) (is_object object.serial.0) (present conf).objects object own.row (valid_now.objects.once object.serial.0) there (same_number object.serial.0) found in
+        same_found (is_at conf.index (seen_index seen)) (is_object object.serial.0) (present conf).objects object own.row (valid_now.objects.once object.serial.0) there (same_number object.serial.0) found in
         let now_retired : life (present conf).objects object.serial.0 ≡ Some (Some counters) =
-            ap (option_map counters_of) found ∙ ap Some (ap counters_of (sym same) ∙ retired) in
+        ap (option_map counters_of) found ∙ ap Some (ap counters_of (sym same) ∙ retired) in
         retired_since conf.boot conf.history seen.look.place serial counters look.within
         (given_serial then_ serial None valid_then lived) lived
         (subst (λ (n : ℕ). life (present conf).objects n ≡ Some (Some counters)) is now_retired)
@@ -213,7 +213,7 @@ module _ (conf : Config) (at : ℕ) (sound : HasCalls conf) (past : HasHistory c
 -- Pin
 
 pin_by : (conf : Config) (at object : ℕ) (dead : Bool) → conf.dead object ≡ dead → HasCalls conf
-    → HasReferences conf → HasHistory conf → MayPin conf at object
+    → HasReferences conf → HasValid conf → MayPin conf at object
     → HasCalls (with_part conf at (with_pin dead (conf.cpu at)) (put conf.count object (conf.count object + 1)) conf.counter)
 pin_by conf at object true dead sound refs past may =
     stage_sound conf at may.call DeadPin (conf.cpu at).pins (put conf.count object (conf.count object + 1)) conf.counter record {
@@ -272,6 +272,6 @@ pin_by conf at object false alive sound refs past may =
 
 -- a pin of a call keeps sound calls
 pub pin_keeps_calls : (conf : Config) (at object : ℕ) → HasCalls conf → HasReferences conf
-    → HasHistory conf → MayPin conf at object → HasCalls (pinned conf at object)
+    → HasValid conf → MayPin conf at object → HasCalls (pinned conf at object)
 pin_keeps_calls conf at object sound refs past may =
     pin_by conf at object (conf.dead object) refl sound refs past may

@@ -3,9 +3,7 @@
 use Rattle.std.specs.Prelude.{◌≡◌, ◌<◌, ⊤, ℕ, true, Some, None}
 use Rattle.std.specs.List.{last_or}
 use Rattle.gh_base.specs.declared.limits.TheConstants.{OBJECT_INDICES}
-use Rattle.gh_invariant.specs.Events.{EventsFit}
 use Rattle.gh_invariant.specs.Lives.{lives}
-use Rattle.gh_invariant.specs.Valid.{IsValid}
 use Rattle.gh_model.specs.Act.{granted}
 use Rattle.gh_model.specs.Marks.{Seen}
 use Rattle.gh_model.specs.declared.entry.Entry.{Entry}
@@ -31,8 +29,3 @@ SparesLooks conf (Acted cpu number) = ⊤
 SparesLooks conf (Part cpu number space slot) = ⊤
 SparesLooks conf (Retired serial seen) = ⊤
 SparesLooks conf (Reclaimed serial seen) = IsUnlooked conf serial.0
-
--- the history is one of a valid boot state, and each event fits the state before it
-pub record HasHistory (conf : Config) : Type 0 where
-  pub valid : IsValid conf.boot
-  pub fits : EventsFit conf.boot conf.history

@@ -1,6 +1,6 @@
 //! Which events are shown to keep sound calls: finished calls and looks that are legal so far. The
-//! functions do nothing; their clauses are laws. Of looks, of pins on dead words, of entries and of
-//! ends behind an act nothing is said yet.
+//! functions do nothing; their clauses are laws. Of looks, of entries and of ends behind an act nothing
+//! is said yet.
 
 ghost use Rattle.std.specs.Prelude.{ℕ, true, false};
 ghost use Rattle.gh_base.specs.declared.ids.CpuNo.{CpuNo};
@@ -8,6 +8,8 @@ ghost use Rattle.gh_base.specs.declared.ids.ObjIndex.{ObjIndex};
 ghost use Rattle.gh_core.specs.Calls.{HasCalls};
 ghost use Rattle.gh_core.specs.Config.{Config};
 ghost use Rattle.gh_core.specs.Events.{Possible, after};
+ghost use Rattle.gh_core.specs.References.{HasReferences};
+ghost use Rattle.gh_core.specs.ValidState.{HasValid};
 ghost use Rattle.gh_core.specs.declared.event.Event.TheVariants.{Enter, Free, Kill, Leave, Pin, Revive, Scan, Take, Undo, Unpin};
 
 /// A call that enters its section keeps sound calls.
@@ -20,6 +22,14 @@ pub fn enter_keeps_calls()
 pub fn undo_keeps_calls()
     ensures { (conf : Config) (cpu : CpuNo) (object : ObjIndex) → HasCalls conf
         → Possible conf (Undo cpu object) → HasCalls (after conf (Undo cpu object)) }
+{}
+
+/// So does a pin of a call, where the references are sound and the present state is valid: on a dead
+/// word, what the look granted is retired behind the look, or killed.
+pub fn pin_keeps_calls()
+    ensures { (conf : Config) (cpu : CpuNo) (object : ObjIndex) → HasCalls conf
+        → HasReferences conf → HasValid conf → Possible conf (Pin cpu object false)
+        → HasCalls (after conf (Pin cpu object false)) }
 {}
 
 /// So does a call that leaves its section, to its act or to its end.
