@@ -8,6 +8,7 @@ pub mod EventObjects
 pub mod EventRuns
 pub mod Finding
 pub mod LeaveKeeps
+pub mod LooksSpared
 pub mod NoPins
 pub mod PinKeeps
 pub mod StartSound

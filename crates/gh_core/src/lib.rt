@@ -10,8 +10,8 @@ mod validity;
 
 pub use bounds::{events_keep_bounded, objects_are_bounded, start_is_bounded};
 pub use entries::{
-    boot_file_has_references, commit_keeps_references, events_keep_state, set_cap_keeps_references,
-    start_has_state,
+    boot_file_has_references, commit_keeps_references, events_keep_state, reading_spares_looks,
+    set_cap_keeps_references, start_has_state,
 };
 pub use event::Event;
 pub use references::{
