@@ -1,26 +1,25 @@
 -- How much is owed stays within its bound, from the boot on and through every event.
-use Rattle.std.proofs.Common.{◌≡◌, ◌==◌, ◌+◌, ◌-◌, ◌<◌, ◌≤◌, ◌^◌, ◌∙◌, ◌⊎◌, inl, inr, ℕ, Bool, true, false, List, [], ◌∷◌, ◌++◌, refl, subst, sym, ap, arith, Option, Some, None, is_some, if◌then◌else◌}
+use Rattle.std.proofs.Common.{◌≡◌, ◌==◌, ◌+◌, ◌-◌, ◌<◌, ◌≤◌, ◌^◌, ◌∙◌, inl, inr, ℕ, Bool, true, false, [], ◌∷◌, ◌++◌, refl, subst, sym, ap, arith, Option, Some, None, if◌then◌else◌}
 use Rattle.std.specs.Prelude.{option_map}
 use Rattle.std.specs.Option.{option_map_or}
 use Rattle.std.proofs.lemmas.Bool.Decides.{eqb_tells}
 use Rattle.std.proofs.lemmas.List.Sums.{fold-append}
 use Rattle.gh_base.specs.declared.cap_word.CapWord.{CapWord}
 use Rattle.gh_base.specs.declared.limits.TheConstants.{OBJECT_INDICES}
-use Rattle.gh_invariant.specs.Lives.{lives}
 use Rattle.gh_model.specs.History.{after_event, replay}
 use Rattle.gh_model.specs.References.{references}
 use Rattle.gh_model.specs.declared.entry.Entry.{Entry}
 use Rattle.gh_model.specs.declared.rows.ObjectRow.{ObjectRow}
 use Rattle.gh_model.specs.declared.state.State.{State}
 use Rattle.gh_core.specs.Bounded.{FewReferences, IsBounded}
-use Rattle.gh_core.specs.Config.{Config, Cpu, Current, Holder, HasTurn, live_references, object_at, present, put, references_at}
+use Rattle.gh_core.specs.Config.{Config, Current, Holder, live_references, object_at, present, put, references_at}
 use Rattle.gh_core.specs.Entries.{Covers, index_after, logged, next_state}
 use Rattle.gh_core.specs.Events.{Possible, after}
-use Rattle.gh_core.specs.HolderEvents.{MayOwe, MayRevive, MaySettle, kill_failed, killed, one_less, one_more, owed, revived, scanned, settled, with_failed, with_revived, with_scan, with_turn, without_scans}
-use Rattle.gh_core.specs.References.{AreBounded, HasReferences, IsRow, owed_at}
+use Rattle.gh_core.specs.HolderEvents.{MayOwe, MayRevive, MaySettle, kill_failed, one_less, one_more, owed, revived, settled, with_failed, with_revived, with_scan, with_turn, without_scans}
+use Rattle.gh_core.specs.References.{AreBounded, HasReferences, owed_at}
 use Rattle.gh_core.specs.Replayed.{HasState}
-use Rattle.gh_core.specs.Start.{AreIndices, start}
-use Rattle.gh_core.specs.TurnEvents.{MayCommit, MaySetCap, MayTake, committed, committed_by, new_holder, next_index, put_word, set_cap, with_entry}
+use Rattle.gh_core.specs.Start.{start}
+use Rattle.gh_core.specs.TurnEvents.{MayCommit, MaySetCap, committed, committed_by, new_holder, next_index, put_word, set_cap, with_entry}
 use Rattle.gh_core.specs.declared.event.Event.{Event}
 use Rattle.gh_core.specs.declared.event.Event.TheVariants.{Enter, Leave, Take, Look, Pin, Unpin, Undo, Kill, Commit, SetCap, Free, Scan, Revive, Join, Split}
 use Rattle.gh_core.proofs.EntryMoves.{indices_of, row_lives, with_log}

@@ -26,7 +26,7 @@ use Rattle.gh_invariant.specs.Lives.{lives}
 use Rattle.gh_invariant.proofs.ChangedRow.{find_change_seen, find_past_change}
 use Rattle.gh_invariant.proofs.Counting.{find_push_found, find_push_new, find_push_other}
 use Rattle.gh_invariant.proofs.RowsLeft.{find_gone, find_left}
-use Rattle.gh_invariant.proofs.SetsOne.{MakesOne, SetsOne, decision_sets, keeps_objects}
+use Rattle.gh_invariant.proofs.SetsOne.{MakesOne, decision_sets, keeps_objects}
 
 -- the counters of an object's retirement
 abbrev pub counters_of : ObjectRow → Option (List ℕ)
@@ -147,13 +147,14 @@ behind s allowed decision =
 abbrev allowed_changes : Bool → Decision → List Change
 allowed_changes allowed decision = if allowed then made_by decision else []
 
-acted_goes : (s : State) (allowed : Bool) (decision : Decision) (serial : ℕ) → SetsOne s decision
+acted_goes : (s : State) (allowed : Bool) (decision : Decision) (serial : ℕ)
+    → IsTrue (list_all keeps_objects (made_by decision)) ⊎ MakesOne s (made_by decision)
     → (life (behind s allowed decision).objects serial ≡ life s.objects serial)
     ⊎ IsMade s (behind s allowed decision) (allowed_changes allowed decision) serial
-acted_goes s false decision serial sets = inl refl
-acted_goes s true (Refuse errno) serial sets = inl refl
-acted_goes s true Unfinished serial sets = inl refl
-acted_goes s true (Make changes reply) serial sets = made_goes s changes serial sets.makes
+acted_goes s false decision serial makes = inl refl
+acted_goes s true (Refuse errno) serial makes = inl refl
+acted_goes s true Unfinished serial makes = inl refl
+acted_goes s true (Make changes reply) serial makes = made_goes s changes serial makes
 
 -- other entries
 
@@ -216,7 +217,7 @@ entry_goes : (s : State) (event : Event) (entry : Entry) (serial : ℕ)
     → Goes s (after_entry s event entry) event entry serial
 entry_goes s event (Acted cpu number) serial =
     acted_goes s (may_act s cpu.0 event.call event.words) (judged_by s cpu.0 event) serial
-    (decision_sets s (has_moved s cpu.0 event.call event.words) cpu.0 event.call event.bytes (grants_of event.call event.words))
+    (decision_sets s (has_moved s cpu.0 event.call event.words) cpu.0 event.call event.bytes (grants_of event.call event.words)).makes
 entry_goes s event (Part cpu number space slot) serial =
     inl (parted_goes s _ (may_part (find (fills space.0 slot) s.caps)) serial refl)
 entry_goes s event (Retired retired seen) serial =

@@ -1,9 +1,11 @@
+pub mod ActFits
 pub mod BoundKeeps
 pub mod CallsKeep
 pub mod CpuMoves
 pub mod EntryKeeps
 pub mod EntryMoves
 pub mod EventObjects
+pub mod EventRuns
 pub mod EventsKeep
 pub mod Finding
 pub mod GraceActs
@@ -32,4 +34,8 @@ pub mod TakeKeeps
 pub mod TurnKeeps
 pub mod UndoKeeps
 pub mod UnpinKeeps
+pub mod ValidCalls
+pub mod ValidEntries
+pub mod ValidEvents
+pub mod ValidLaw
 pub mod WordsMove

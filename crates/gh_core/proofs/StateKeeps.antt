@@ -1,12 +1,13 @@
 -- Where objects live and which serials they have: so it is at the boot, and every event keeps it so.
-use Rattle.std.proofs.Common.{◌≡◌, ◌==◌, ◌<◌, ◌≤◌, ℕ, Bool, true, false, List, ap, arith, Option, Some, None, find, IsTrue, is_some, nat_le, refl, if◌then◌else◌}
+use Rattle.std.proofs.Common.{◌≡◌, ◌==◌, ◌<◌, ◌≤◌, ℕ, Bool, true, false, List, ap, arith, Option, Some, None, find, IsTrue, is_some, nat_le, refl, if◌then◌else◌, sym, ◌∙◌}
 use Rattle.std.proofs.lemmas.Bool.Decides.{nat_tests}
 use Rattle.gh_invariant.specs.Lives.{lives}
 use Rattle.gh_invariant.specs.Valid.{IsValid}
-use Rattle.gh_invariant.proofs.BootValid.{boot_valid}
+use Rattle.gh_invariant.proofs.BootValid.{boot_fresh, boot_valid}
 use Rattle.gh_invariant.proofs.Counting.{unfound}
 use Rattle.gh_invariant.proofs.MayMake.{below_by}
 use Rattle.gh_model.specs.Boot.{boot_fits, boot_state}
+use Rattle.gh_model.specs.History.{is_retired}
 use Rattle.gh_model.specs.Rows.{is_object}
 use Rattle.gh_model.specs.declared.boot_line.BootLine.{BootLine}
 use Rattle.gh_model.specs.declared.rows.ObjectRow.{ObjectRow}
@@ -14,11 +15,13 @@ use Rattle.gh_model.specs.declared.state.State.{State}
 use Rattle.gh_core.specs.Config.{Config, Cpu, Holder, object_at, present, put}
 use Rattle.gh_core.specs.Events.{Possible, after}
 use Rattle.gh_core.specs.HolderEvents.{kill_failed, with_turn, without_scans}
+use Rattle.gh_core.specs.References.{HasReferences}
 use Rattle.gh_core.specs.Replayed.{HasState}
 use Rattle.gh_core.specs.Start.{AreIndices, start}
 use Rattle.gh_core.specs.declared.event.Event.{Event}
 use Rattle.gh_core.specs.declared.event.Event.TheVariants.{Enter, Leave, Take, Look, Pin, Unpin, Undo, Kill, Commit, SetCap, Free, Scan, Revive, Join, Split}
 use Rattle.gh_core.proofs.EntryKeeps.{commit_keeps_state, set_cap_keeps_state}
+use Rattle.gh_core.proofs.StartSound.{start_sound}
 
 -- the boot
 
@@ -37,6 +40,12 @@ start_keeps_state lines index fits indices = record {
   given = λ serial. given_by (boot_state lines) serial (nat_le (boot_state lines).next_serial serial) refl (boot_valid lines fits);
   within = indices.within;
 }
+
+-- and the references of each boot file are sound
+pub file_sound : (lines : List BootLine) (index : ℕ → ℕ) → IsTrue (boot_fits lines)
+    → AreIndices (boot_state lines) index → HasReferences (start (boot_state lines) index)
+file_sound lines index fits indices =
+    start_sound (boot_state lines) index indices (λ row is. sym (ap is_retired is) ∙ boot_fresh lines row.serial.0 fits)
 
 -- events that leave the history and the indices
 

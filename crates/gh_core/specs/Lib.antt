@@ -9,4 +9,5 @@ pub mod References
 pub mod Replayed
 pub mod Start
 pub mod TurnEvents
+pub mod ValidState
 pub mod Words

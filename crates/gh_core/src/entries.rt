@@ -23,7 +23,13 @@ pub fn start_has_state()
         → AreIndices (boot_state lines) index → HasState (start (boot_state lines) index) }
 {}
 
-/// And every event keeps it so.
+/// So the references of each boot file are sound before any event.
+pub fn boot_file_has_references()
+    ensures { (lines : List BootLine) (index : ℕ → ℕ) → IsTrue (boot_fits lines)
+        → AreIndices (boot_state lines) index → HasReferences (start (boot_state lines) index) }
+{}
+
+/// Every event keeps where objects live and which serials they have.
 pub fn events_keep_state()
     ensures { (conf : Config) (event : Event) → HasState conf → Possible conf event
         → HasState (after conf event) }

@@ -7,10 +7,12 @@ mod event;
 mod grace;
 mod references;
 mod start;
+mod validity;
 
 pub use bounds::{events_keep_bounded, objects_are_bounded, start_is_bounded};
 pub use entries::{
-    commit_keeps_references, events_keep_state, set_cap_keeps_references, start_has_state,
+    boot_file_has_references, commit_keeps_references, events_keep_state, set_cap_keeps_references,
+    start_has_state,
 };
 pub use event::Event;
 pub use grace::{
@@ -26,3 +28,4 @@ pub use references::{
     take_keeps_references, undo_keeps_references, unpin_keeps_references,
 };
 pub use start::start_has_references;
+pub use validity::{events_keep_validity, given_call_keeps_validity, start_is_valid};
