@@ -15,6 +15,7 @@ pub mod GraceEnds
 pub mod GraceEntries
 pub mod GraceEvents
 pub mod GraceFrames
+pub mod GraceGiven
 pub mod GraceLook
 pub mod GraceReclaim
 pub mod GraceScans
