@@ -8,6 +8,7 @@ pub mod EventObjects
 pub mod EventRuns
 pub mod EventsKeep
 pub mod Finding
+pub mod GivenKeeps
 pub mod GraceActs
 pub mod GraceCalls
 pub mod GraceCounters

@@ -23,10 +23,11 @@ pub use grace::{
     undo_keeps_grace, unpin_keeps_grace,
 };
 pub use references::{
-    end_keeps_references, enter_keeps_references, kill_keeps_references, leave_keeps_references,
-    look_keeps_references, owe_keeps_references, pin_keeps_references, quit_keeps_references,
-    revive_keeps_references, scan_keeps_references, seats_keep_references, settle_keeps_references,
-    take_keeps_references, undo_keeps_references, unpin_keeps_references,
+    end_keeps_references, enter_keeps_references, given_call_keeps_references,
+    kill_keeps_references, leave_keeps_references, look_keeps_references, owe_keeps_references,
+    pin_keeps_references, quit_keeps_references, revive_keeps_references, scan_keeps_references,
+    seats_keep_references, settle_keeps_references, take_keeps_references, undo_keeps_references,
+    unpin_keeps_references,
 };
 pub use start::start_has_references;
 pub use validity::{events_keep_validity, given_call_keeps_validity, start_is_valid};
