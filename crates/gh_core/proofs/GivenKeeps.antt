@@ -1,12 +1,12 @@
 -- A CPU that is given a call keeps sound references: its pins and its call in progress stay.
-use Rattle.std.proofs.Common.{◌≡◌, ◌==◌, ◌+◌, ◌<◌, ◌≤◌, ◌∙◌, ℕ, zero, suc, Bool, true, false, ◌⊎◌, inl, inr, refl, subst, sym, ap, arith, Result, Ok, Err, if◌then◌else◌}
+use Rattle.std.proofs.Common.{◌≡◌, ◌==◌, ◌∙◌, ℕ, zero, suc, Bool, true, false, inl, inr, refl, sym, ap, arith, Result, Ok, Err, if◌then◌else◌}
 use Rattle.std.proofs.lemmas.Bool.{eqb-true}
 use Rattle.gh_base.specs.declared.call.Call.{Call}
 use Rattle.gh_base.specs.declared.errno.Errno.{Errno}
 use Rattle.gh_base.specs.declared.frame.Frame.{Frame}
 use Rattle.gh_base.specs.declared.limits.TheConstants.{CPUS}
 use Rattle.gh_model.specs.Registers.{call_of}
-use Rattle.gh_core.specs.Config.{Config, Cpu, put}
+use Rattle.gh_core.specs.Config.{Config, Cpu}
 use Rattle.gh_core.specs.References.{HasHome, HasReferences, HoldsSoundly, IsGranted, IsPinned, pins_at, pins_of, total}
 use Rattle.gh_core.specs.Start.{given, with_next}
 

@@ -1,5 +1,5 @@
 -- A CPU that is given a call keeps grace: its frame is refused, which ends the call, or it is the next.
-use Rattle.std.proofs.Common.{◌≡◌, ◌==◌, ◌+◌, ◌<◌, ◌≤◌, ◌∙◌, ℕ, Bool, true, false, List, [], ◌∷◌, ◌++◌, ◌⊎◌, inl, inr, refl, subst, sym, ap, arith, Option, Some, None, Result, Ok, Err, is_some, slice_get, if◌then◌else◌}
+use Rattle.std.proofs.Common.{◌≡◌, ◌==◌, ◌<◌, ◌≤◌, ◌∙◌, ℕ, Bool, true, false, List, [], ◌∷◌, ◌++◌, ◌⊎◌, inl, inr, refl, subst, sym, ap, arith, Option, Some, None, Result, Ok, Err, is_some, slice_get, if◌then◌else◌}
 use Rattle.std.specs.Prelude.{count_by}
 use Rattle.std.proofs.lemmas.Bool.{eqb-true}
 use Rattle.gh_base.specs.declared.call.Call.{Call}
@@ -10,7 +10,7 @@ use Rattle.gh_model.specs.Graced.{was_granted}
 use Rattle.gh_model.specs.History.{Event}
 use Rattle.gh_model.specs.Marks.{Made, place}
 use Rattle.gh_model.specs.Registers.{call_of}
-use Rattle.gh_core.specs.Config.{Config, Cpu, put}
+use Rattle.gh_core.specs.Config.{Config, Cpu}
 use Rattle.gh_core.specs.Grace.{CpuGrace, HasGrace, IsLeft, Objects, Reads, has_section, objects_of, scan_of}
 use Rattle.gh_core.specs.Start.{given, refused_frame, with_next}
 use Rattle.gh_core.proofs.GraceCalls.{count_more, same_calls}
