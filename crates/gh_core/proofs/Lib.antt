@@ -11,6 +11,7 @@ pub mod EventObjects
 pub mod EventRuns
 pub mod EventsKeep
 pub mod Finding
+pub mod GivenKeeps
 pub mod GraceActs
 pub mod GraceCalls
 pub mod GraceCounters
@@ -18,6 +19,7 @@ pub mod GraceEnds
 pub mod GraceEntries
 pub mod GraceEvents
 pub mod GraceFrames
+pub mod GraceGiven
 pub mod GraceLook
 pub mod GraceReclaim
 pub mod GraceScans

@@ -3,6 +3,7 @@
 
 ghost use Rattle.std.specs.Prelude.{◌≡◌, ◌<◌, ℕ, List, Some, slice_index, true, false};
 ghost use Rattle.gh_base.specs.declared.cap_word.CapWord.{CapWord};
+ghost use Rattle.gh_base.specs.declared.frame.Frame.{Frame};
 ghost use Rattle.gh_base.specs.declared.ids.CpuNo.{CpuNo};
 ghost use Rattle.gh_base.specs.declared.ids.ObjIndex.{ObjIndex};
 ghost use Rattle.gh_core.specs.Config.{Config, present};
@@ -10,7 +11,7 @@ ghost use Rattle.gh_core.specs.Events.{Possible, after};
 ghost use Rattle.gh_core.specs.Grace.{CounterFits, HasGrace};
 ghost use Rattle.gh_core.specs.References.{HasReferences};
 ghost use Rattle.gh_core.specs.Replayed.{HasState, SparesLooks};
-ghost use Rattle.gh_core.specs.Start.{AreIndices, IsUnretired, start};
+ghost use Rattle.gh_core.specs.Start.{AreIndices, IsUnretired, MayGive, given, start};
 ghost use Rattle.gh_core.specs.Words.{ShowsWords};
 ghost use Rattle.gh_core.specs.declared.event.Event.{Event};
 ghost use Rattle.gh_core.specs.declared.event.Event.TheVariants.{Commit, Enter, Free, Join, Kill, Leave, Look, Pin, Revive, Scan, SetCap, Split, Take, Undo, Unpin};
@@ -142,6 +143,12 @@ pub fn seats_keep_grace()
         → HasGrace (after conf (Join cpu)) }
     ensures split { (conf : Config) (cpu : CpuNo) → HasGrace conf → Possible conf (Split cpu)
         → HasGrace (after conf (Split cpu)) }
+{}
+
+/// So does a CPU that is given a call, or finishes it at once where its frame is refused.
+pub fn given_call_keeps_grace()
+    ensures { (conf : Config) (at number : ℕ) (frame : Frame) → HasGrace conf
+        → MayGive conf at number → HasGrace (given conf at number frame) }
 {}
 
 /// Together: where the references are sound, the present state is valid and the words are those of

@@ -22,15 +22,17 @@ pub use entries::{
 pub use event::Event;
 pub use grace::{
     commit_keeps_grace, enter_keeps_grace, entries_spare_grants, entry_counters_fit,
-    events_keep_grace, free_keeps_grace, kill_keeps_grace, leave_keeps_grace, look_keeps_grace,
-    owe_keeps_grace, pin_keeps_grace, revive_keeps_grace, scan_keeps_grace, seats_keep_grace,
-    set_cap_keeps_grace, start_has_grace, take_keeps_grace, undo_keeps_grace, unpin_keeps_grace,
+    events_keep_grace, free_keeps_grace, given_call_keeps_grace, kill_keeps_grace,
+    leave_keeps_grace, look_keeps_grace, owe_keeps_grace, pin_keeps_grace, revive_keeps_grace,
+    scan_keeps_grace, seats_keep_grace, set_cap_keeps_grace, start_has_grace, take_keeps_grace,
+    undo_keeps_grace, unpin_keeps_grace,
 };
 pub use references::{
-    end_keeps_references, enter_keeps_references, kill_keeps_references, leave_keeps_references,
-    look_keeps_references, owe_keeps_references, pin_keeps_references, quit_keeps_references,
-    revive_keeps_references, scan_keeps_references, seats_keep_references, settle_keeps_references,
-    take_keeps_references, undo_keeps_references, unpin_keeps_references,
+    end_keeps_references, enter_keeps_references, given_call_keeps_references,
+    kill_keeps_references, leave_keeps_references, look_keeps_references, owe_keeps_references,
+    pin_keeps_references, quit_keeps_references, revive_keeps_references, scan_keeps_references,
+    seats_keep_references, settle_keeps_references, take_keeps_references, undo_keeps_references,
+    unpin_keeps_references,
 };
 pub use start::start_has_references;
 pub use validity::{events_keep_validity, given_call_keeps_validity, start_is_valid};

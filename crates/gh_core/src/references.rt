@@ -2,11 +2,13 @@
 //! clauses are laws.
 
 ghost use Rattle.std.specs.Prelude.{ℕ, true, false};
+ghost use Rattle.gh_base.specs.declared.frame.Frame.{Frame};
 ghost use Rattle.gh_base.specs.declared.ids.CpuNo.{CpuNo};
 ghost use Rattle.gh_base.specs.declared.ids.ObjIndex.{ObjIndex};
 ghost use Rattle.gh_core.specs.Config.{Config, present};
 ghost use Rattle.gh_core.specs.Events.{Possible, after};
 ghost use Rattle.gh_core.specs.References.{HasReferences};
+ghost use Rattle.gh_core.specs.Start.{MayGive, given};
 ghost use Rattle.gh_core.specs.Words.{ShowsWords};
 ghost use Rattle.gh_invariant.specs.Valid.{IsValid};
 ghost use Rattle.gh_core.specs.declared.event.Event.TheVariants.{Enter, Free, Join, Kill, Leave, Look, Pin, Revive, Scan, Split, Take, Undo, Unpin};
@@ -97,6 +99,12 @@ pub fn quit_keeps_references()
 pub fn end_keeps_references()
     ensures { (conf : Config) (cpu : CpuNo) → HasReferences conf → Possible conf (Free cpu true)
         → HasReferences (after conf (Free cpu true)) }
+{}
+
+/// So does a CPU that is given a call, or finishes it at once where its frame is refused.
+pub fn given_call_keeps_references()
+    ensures { (conf : Config) (at number : ℕ) (frame : Frame) → HasReferences conf
+        → MayGive conf at number → HasReferences (given conf at number frame) }
 {}
 
 /// And a seat that is given back or made.
