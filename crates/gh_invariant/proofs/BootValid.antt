@@ -1,5 +1,5 @@
 -- The state of a boot file is valid.
-use Rattle.std.proofs.Common.{◌≡◌, ◌+◌, ◌≤◌, ◌<◌, ◌&&◌, ◌++◌, ℕ, true, List, [], ◌∷◌, length, take, drop, refl, arith, IsTrue, fold, nat_le}
+use Rattle.std.proofs.Common.{◌≡◌, ◌+◌, ◌≤◌, ◌<◌, ◌&&◌, ◌++◌, ℕ, true, false, Option, Some, None, find, is_some, List, [], ◌∷◌, length, take, drop, refl, arith, IsTrue, fold, nat_le}
 use Rattle.std.specs.Prelude.{count_by, replicate}
 use Rattle.std.proofs.lemmas.Bool.{and_parts, leb-true}
 use Rattle.std.proofs.lemmas.List.{length-append, length-drop, length-replicate, length-take}
@@ -7,12 +7,15 @@ use Rattle.gh_base.specs.declared.ids.Serial.{Serial}
 use Rattle.gh_base.specs.declared.limits.TheConstants.{MACHINE_PAGES}
 use Rattle.gh_model.specs.Boot.{after_line, boot_fits, boot_state, empty_state, first_page, is_complete, is_master_of, is_row_of, line_fits, lines_fit, move_pages, serial_of}
 use Rattle.gh_model.specs.Fitting.{IsNumbered}
-use Rattle.gh_model.specs.Rows.{fills, is_cpu, is_extent, is_object, tells_setting}
+use Rattle.gh_model.specs.History.{is_retired}
+use Rattle.gh_model.specs.Rows.{cpu_row, fills, is_cpu, is_extent, is_object, object_row, tells_setting}
 use Rattle.gh_model.specs.Units.{given_by, used_by}
 use Rattle.gh_model.specs.declared.boot_line.BootLine.{BootLine}
 use Rattle.gh_model.specs.declared.boot_line.BootLine.TheVariants.{Pages, Partition, Cspace, Addrspace, Doorbell, RootExtent, Extent, Msgqueue, Map, Cap, Vm, Rm, Link}
+use Rattle.gh_model.specs.declared.rows.CpuRow.{CpuRow}
 use Rattle.gh_model.specs.declared.state.State.{State}
 use Rattle.gh_model.proofs.CpuRows.{empty_numbered, line_numbered}
+use Rattle.gh_invariant.specs.Grants as grants
 use Rattle.gh_invariant.specs.Lives.{is_parentless}
 use Rattle.gh_invariant.specs.Valid.{IsValid, IsValidTo}
 use Rattle.gh_invariant.proofs.BootCpus.{AllRunning, is_running, link_valid, rm_valid, vm_valid}
@@ -21,7 +24,7 @@ use Rattle.gh_invariant.proofs.BootObjects.{NoneRetired, bell_valid, cspace_vali
 use Rattle.gh_invariant.proofs.BootPartition.{partition_valid}
 use Rattle.gh_invariant.proofs.BootSlots.{cap_valid}
 use Rattle.gh_invariant.proofs.BootSpans.{extent_valid, root_valid}
-use Rattle.gh_invariant.proofs.Counting.{all_push}
+use Rattle.gh_invariant.proofs.Counting.{all_push, found_all}
 use Rattle.gh_invariant.proofs.EntriesKept.{valid_more}
 
 -- behind lines that fit: a valid state, whose CPUs are numbered and run, with no object retired
@@ -220,9 +223,9 @@ pages_booted count few = record {
 }
 
 -- the state that a boot file makes
-pub boot_valid : (lines : List BootLine) → IsTrue (boot_fits lines) → IsValid (boot_state lines)
-boot_valid [] fit = absurd (let never : ⊥ = cc in never)
-boot_valid (Pages count ∷ lines) fit =
+boot_booted : (lines : List BootLine) → IsTrue (boot_fits lines) → IsBooted (boot_state lines)
+boot_booted [] fit = absurd (let never : ⊥ = cc in never)
+boot_booted (Pages count ∷ lines) fit =
     let last = and_parts _
     (is_complete (fold after_line (after_line empty_state (Pages count)) lines)) fit in
     let first =
@@ -231,9 +234,28 @@ boot_valid (Pages count ∷ lines) fit =
     let bounds : (nat_le 1 count ≡ true) × (nat_le count MACHINE_PAGES ≡ true) =
     and_parts _ _ first.0 in
     let some : 1 ≤ count = leb-true 1 count bounds.0 in
-    valid_more 0 (boot_state (Pages count ∷ lines)).entries (boot_state (Pages count ∷ lines))
-    (omega arith)
-    (lines_booted (after_line empty_state (Pages count)) lines
+    lines_booted (after_line empty_state (Pages count)) lines
     (omega (arith, length-replicate count (serial_of 0))) first.1
-    (pages_booted count (leb-true count MACHINE_PAGES bounds.1))).valid
-boot_valid (_ ∷ lines) fit = absurd (let never : ⊥ = cc in never)
+    (pages_booted count (leb-true count MACHINE_PAGES bounds.1))
+boot_booted (_ ∷ lines) fit = absurd (let never : ⊥ = cc in never)
+
+-- it is valid
+pub boot_valid : (lines : List BootLine) → IsTrue (boot_fits lines) → IsValid (boot_state lines)
+boot_valid lines fit =
+    valid_more 0 (boot_state lines).entries (boot_state lines) (omega arith) (boot_booted lines fit).valid
+
+running_by : (cpu : ℕ) (s : State) (found : Option CpuRow) → find (is_cpu cpu) s.cpus ≡ found
+    → AllRunning s → is_some found ≡ true → grants.is_running found ≡ true
+running_by cpu s None is all there = absurd (let never : ⊥ = cc in never)
+running_by cpu s (Some row) is all there = found_all (is_cpu cpu) is_running s.cpus row all is
+
+-- in it no object is retired, and no CPU has exited
+pub boot_fresh : (lines : List BootLine) (object : ℕ) → IsTrue (boot_fits lines)
+    → is_retired (object_row (boot_state lines) object) ≡ false
+boot_fresh lines object fit = (boot_booted lines fit).fresh object
+
+pub boot_running : (lines : List BootLine) (cpu : ℕ) → IsTrue (boot_fits lines)
+    → is_some (cpu_row (boot_state lines) cpu) ≡ true
+    → grants.is_running (cpu_row (boot_state lines) cpu) ≡ true
+boot_running lines cpu fit there =
+    running_by cpu (boot_state lines) (cpu_row (boot_state lines) cpu) refl (boot_booted lines fit).running there

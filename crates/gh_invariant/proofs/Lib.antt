@@ -55,3 +55,4 @@ pub mod UnitsMoved
 pub mod UnitsOfChange
 pub mod ValidKept
 pub mod WordsLeft
+pub mod WordsSince

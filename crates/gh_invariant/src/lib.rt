@@ -13,7 +13,7 @@ mod units;
 mod validity;
 mod words;
 
-pub use boot::boot_is_valid;
+pub use boot::{boot_is_unused, boot_is_valid};
 pub use decision::{decisions_give_to_referred, decisions_may_be_made};
 pub use entries::{act_keeps_valid, entries_keep_valid, entry_begins};
 pub use events::{doomed_stays_doomed, events_keep_valid};
@@ -28,4 +28,4 @@ pub use references::{
 };
 pub use units::{change_moves_units, changes_move_units};
 pub use validity::{change_keeps_valid, changes_keep_valid};
-pub use words::{change_sets_word, words_stay};
+pub use words::{change_sets_word, words_stand, words_stay};
