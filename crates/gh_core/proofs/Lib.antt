@@ -30,7 +30,6 @@ pub mod KillKeeps
 pub mod LeaveKeeps
 pub mod Living
 pub mod LookKeeps
-pub mod LooksSpared
 pub mod NoPins
 pub mod OweKeeps
 pub mod PinCalls
