@@ -13,4 +13,5 @@ pub record HasReferences (s : Objects) (index count : ℕ) : Type 0 where
 
 -- every partition place has a free index
 abbrev pub HaveRoom : Objects → Type 0
-HaveRoom s = (place : ℕ) → count_by is_some (headers_in s.table.headers place) < PARTITION_PLACES
+HaveRoom s =
+    (place : ℕ) → count_by is_some (headers_in s.table.headers place) < PARTITION_PLACES

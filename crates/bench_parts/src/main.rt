@@ -1,5 +1,5 @@
-//! Does one operation of a part many times, and prints a checksum of its answers: a program to be timed
-//! from outside.
+//! Does one operation of a part many times, and prints a checksum of its answers: a program to be
+//! timed from outside.
 #![tactic(auto)]
 
 mod checksum;

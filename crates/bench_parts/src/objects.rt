@@ -22,7 +22,8 @@ const SERIAL: Serial = Serial(1);
 /// The first serial of the other objects.
 const OTHER_SERIALS: u32 = 10;
 
-/// Doorbells that leave room for one more in the partition of a boot file, which has all partitions.
+/// Doorbells that leave room for one more in the partition of a boot file, which has all
+/// partitions.
 const BELLS: u32 = 952;
 
 /// Whether a live partition has the index.
@@ -178,8 +179,8 @@ fn header_answer(objects: &Objects, index: ObjIndex) -> u64 {
         .map_or(0, |header| header.serial.0 as u64)
 }
 
-/// Makes a doorbell among few objects, retires it and removes it. Besides, it looks whether there is
-/// room.
+/// Makes a doorbell among few objects, retires it and removes it. Besides, it looks whether there
+/// is room.
 pub fn insert(alloc: Global, count: u64) -> Result<u64, NoMemory> {
     let mut objects = home(alloc)?;
     Ok(checksum(count, |_| make_and_remove(&mut objects)))

@@ -26,8 +26,8 @@ fn read_boot_file(alloc: Global, text: &[u8]) -> Result<String, NoMemory> {
     Ok(found)
 }
 
-/// What a call file is, with room for the calls of a whole run: its count of lines, or its first bad
-/// one.
+/// What a call file is, with room for the calls of a whole run: its count of lines, or its first
+/// bad one.
 fn read_call_file(alloc: Global, text: &[u8]) -> Result<String, NoMemory> {
     let mut found = String::new(alloc);
     match read_calls(alloc, text, CALL_FILE_CALLS) {
