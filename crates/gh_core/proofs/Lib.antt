@@ -5,6 +5,7 @@ pub mod CallsEnd
 pub mod CallsGoOn
 pub mod CallsKeep
 pub mod CpuMoves
+pub mod CpusRun
 pub mod EntryKeeps
 pub mod EntryMoves
 pub mod EventObjects
@@ -35,6 +36,7 @@ pub mod PinKeeps
 pub mod Places
 pub mod RetiredSince
 pub mod ReviveKeeps
+pub mod SlotsLeft
 pub mod StartSound
 pub mod StateKeeps
 pub mod TakeCalls
@@ -47,4 +49,5 @@ pub mod ValidCalls
 pub mod ValidEntries
 pub mod ValidEvents
 pub mod ValidLaw
+pub mod WordsFollow
 pub mod WordsMove
