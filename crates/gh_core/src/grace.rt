@@ -11,13 +11,8 @@ ghost use Rattle.gh_core.specs.Events.{Possible, after};
 ghost use Rattle.gh_core.specs.Grace.{CounterFits, HasGrace};
 ghost use Rattle.gh_core.specs.References.{HasReferences};
 ghost use Rattle.gh_core.specs.Replayed.{HasState, SparesLooks};
-<<<<<<< HEAD
 ghost use Rattle.gh_core.specs.Start.{AreIndices, IsUnretired, MayGive, given, start};
-ghost use Rattle.gh_core.specs.Words.{ShowsWords};
-=======
-ghost use Rattle.gh_core.specs.Start.{AreIndices, IsUnretired, start};
 ghost use Rattle.gh_core.specs.Words.{HasRoom, ShowsWords};
->>>>>>> ee4c2cc6129f30ec8fd4d8a1016dfc7e3c50f28b
 ghost use Rattle.gh_core.specs.declared.event.Event.{Event};
 ghost use Rattle.gh_core.specs.declared.event.Event.TheVariants.{Commit, Enter, Free, Join, Kill, Leave, Look, Pin, Revive, Scan, SetCap, Split, Take, Undo, Unpin};
 ghost use Rattle.gh_invariant.specs.Valid.{IsValid};

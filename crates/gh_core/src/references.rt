@@ -8,12 +8,8 @@ ghost use Rattle.gh_base.specs.declared.ids.ObjIndex.{ObjIndex};
 ghost use Rattle.gh_core.specs.Config.{Config, present};
 ghost use Rattle.gh_core.specs.Events.{Possible, after};
 ghost use Rattle.gh_core.specs.References.{HasReferences};
-<<<<<<< HEAD
 ghost use Rattle.gh_core.specs.Start.{MayGive, given};
-ghost use Rattle.gh_core.specs.Words.{ShowsWords};
-=======
 ghost use Rattle.gh_core.specs.Words.{HasRoom, ShowsWords};
->>>>>>> ee4c2cc6129f30ec8fd4d8a1016dfc7e3c50f28b
 ghost use Rattle.gh_invariant.specs.Valid.{IsValid};
 ghost use Rattle.gh_core.specs.declared.event.Event.TheVariants.{Enter, Free, Join, Kill, Leave, Look, Pin, Revive, Scan, Split, Take, Undo, Unpin};
 
