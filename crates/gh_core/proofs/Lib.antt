@@ -30,6 +30,7 @@ pub mod HolderCalls
 pub mod KillKeeps
 pub mod LeaveKeeps
 pub mod Living
+pub mod LookCalls
 pub mod LookKeeps
 pub mod NoPins
 pub mod OweKeeps

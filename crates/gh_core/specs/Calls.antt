@@ -227,3 +227,7 @@ pub record HasCalls (conf : Config) : Type 0 where
   pub calls : AreCalls conf
   pub counters : (cpu : ℕ) → conf.counter cpu ≡ counted (conf.cpu cpu)
   pub entries : AreEntries conf
+
+-- the history begins with the boot: no entry was counted before it
+abbrev pub BeginsAtBoot : Config → Type 0
+BeginsAtBoot conf = conf.boot.entries ≡ 0

@@ -1,16 +1,17 @@
 //! Which events are shown to keep sound calls: finished calls and looks that are legal so far. The
-//! functions do nothing; their clauses are laws. Of looks, of entries and of ends behind an act nothing
-//! is said yet.
+//! functions do nothing; their clauses are laws. Of entries and of ends behind an act nothing is said
+//! yet.
 
 ghost use Rattle.std.specs.Prelude.{ℕ, true, false};
 ghost use Rattle.gh_base.specs.declared.ids.CpuNo.{CpuNo};
 ghost use Rattle.gh_base.specs.declared.ids.ObjIndex.{ObjIndex};
-ghost use Rattle.gh_core.specs.Calls.{HasCalls};
+ghost use Rattle.gh_core.specs.Calls.{BeginsAtBoot, HasCalls};
 ghost use Rattle.gh_core.specs.Config.{Config};
 ghost use Rattle.gh_core.specs.Events.{Possible, after};
 ghost use Rattle.gh_core.specs.References.{HasReferences};
 ghost use Rattle.gh_core.specs.ValidState.{HasValid};
-ghost use Rattle.gh_core.specs.declared.event.Event.TheVariants.{Enter, Free, Kill, Leave, Pin, Revive, Scan, Take, Undo, Unpin};
+ghost use Rattle.gh_core.specs.Words.{HasRoom, ShowsWords};
+ghost use Rattle.gh_core.specs.declared.event.Event.TheVariants.{Enter, Free, Kill, Leave, Look, Pin, Revive, Scan, Take, Undo, Unpin};
 
 /// A call that enters its section keeps sound calls.
 pub fn enter_keeps_calls()
@@ -22,6 +23,14 @@ pub fn enter_keeps_calls()
 pub fn undo_keeps_calls()
     ensures { (conf : Config) (cpu : CpuNo) (object : ObjIndex) → HasCalls conf
         → Possible conf (Undo cpu object) → HasCalls (after conf (Undo cpu object)) }
+{}
+
+/// So does a look, where the words are those of the present state and the number of each entry fits
+/// into a word: it finds what the slot holds, and has held since its setting.
+pub fn look_keeps_calls()
+    ensures { (conf : Config) (cpu : CpuNo) (slot : ℕ) → HasCalls conf → HasValid conf
+        → ShowsWords conf → HasRoom conf → BeginsAtBoot conf → Possible conf (Look cpu slot)
+        → HasCalls (after conf (Look cpu slot)) }
 {}
 
 /// So does a pin of a call, where the references are sound and the present state is valid: on a dead
