@@ -169,6 +169,7 @@ module _ (conf : Config) (at : ℕ) (cpu : Cpu) (count counter : ℕ → ℕ)
       entries = λ n event is. entry_kept n event event.entry (sound.entries.entries n event is);
       parts = λ n event is part. part_kept n event (sound.entries.parts n event is part);
       untaken = sound.entries.untaken;
+      unreferenced = sound.entries.unreferenced;
       deaths = deaths_kept;
     };
   }

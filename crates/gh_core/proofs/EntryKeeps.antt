@@ -286,7 +286,7 @@ none_set : (b : Bool) (one : Change) → slots_set (one ∷ []) ≡ 0
 none_set true one none = none
 none_set false one none = refl
 
-setting_spares : (conf : Config) (event : Event) (kind : Entry)
+pub setting_spares : (conf : Config) (event : Event) (kind : Entry)
     → slots_set (entry_changes (present conf) event kind) ≡ 1 → SparesLooks conf kind
 setting_spares conf event (Acted cpu number) one = tt
 setting_spares conf event (Part cpu number space slot) one = tt

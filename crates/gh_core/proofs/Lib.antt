@@ -1,3 +1,4 @@
+pub mod ActCalls
 pub mod ActFits
 pub mod BoundKeeps
 pub mod CallMoves
@@ -5,12 +6,15 @@ pub mod CallsEnd
 pub mod CallsGoOn
 pub mod CallsKeep
 pub mod CpuMoves
+pub mod DeathsOn
+pub mod EntryCalls
 pub mod EntryKeeps
 pub mod EntryMoves
 pub mod EventObjects
 pub mod EventRuns
 pub mod EventsKeep
 pub mod Finding
+pub mod GoneBehind
 pub mod GraceActs
 pub mod GraceCalls
 pub mod GraceCounters
@@ -30,6 +34,7 @@ pub mod Living
 pub mod LookKeeps
 pub mod NoPins
 pub mod OweKeeps
+pub mod PartCalls
 pub mod PinCalls
 pub mod PinKeeps
 pub mod Places

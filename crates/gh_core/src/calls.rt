@@ -1,16 +1,20 @@
 //! Which events are shown to keep sound calls: finished calls and looks that are legal so far. The
-//! functions do nothing; their clauses are laws. Of looks, of entries and of ends behind an act nothing
-//! is said yet.
+//! functions do nothing; their clauses are laws. Of looks and of ends behind an act nothing is said
+//! yet.
 
 ghost use Rattle.std.specs.Prelude.{ℕ, true, false};
+ghost use Rattle.gh_base.specs.declared.cap_word.CapWord.{CapWord};
 ghost use Rattle.gh_base.specs.declared.ids.CpuNo.{CpuNo};
 ghost use Rattle.gh_base.specs.declared.ids.ObjIndex.{ObjIndex};
 ghost use Rattle.gh_core.specs.Calls.{HasCalls};
 ghost use Rattle.gh_core.specs.Config.{Config};
 ghost use Rattle.gh_core.specs.Events.{Possible, after};
+ghost use Rattle.gh_core.specs.Grace.{HasGrace};
 ghost use Rattle.gh_core.specs.References.{HasReferences};
+ghost use Rattle.gh_core.specs.Replayed.{HasState};
 ghost use Rattle.gh_core.specs.ValidState.{HasValid};
-ghost use Rattle.gh_core.specs.declared.event.Event.TheVariants.{Enter, Free, Kill, Leave, Pin, Revive, Scan, Take, Undo, Unpin};
+ghost use Rattle.gh_core.specs.declared.event.Event.TheVariants.{Commit, Enter, Free, Kill, Leave, Pin, Revive, Scan, SetCap, Take, Undo, Unpin};
+ghost use Rattle.gh_model.specs.declared.entry.Entry.{Entry};
 
 /// A call that enters its section keeps sound calls.
 pub fn enter_keeps_calls()
@@ -68,4 +72,21 @@ pub fn words_keep_calls()
         → Possible conf (Scan cpu of_cpu) → HasCalls (after conf (Scan cpu of_cpu)) }
     ensures revive { (conf : Config) (cpu : CpuNo) (object : ObjIndex) (count : ℕ) → HasCalls conf
         → Possible conf (Revive cpu object count) → HasCalls (after conf (Revive cpu object count)) }
+{}
+
+/// So does an entry that sets no slot, where references and grace are sound, the present state is
+/// valid and objects live where they should: an act's entry ends the holder's call, a part waits for
+/// the next entry, and an object that a dead call was granted stays killed or is retired.
+pub fn commit_keeps_calls()
+    ensures { (conf : Config) (cpu : CpuNo) (entry : Entry) → HasCalls conf → HasReferences conf
+        → HasGrace conf → HasState conf → HasValid conf → Possible conf (Commit cpu entry)
+        → HasCalls (after conf (Commit cpu entry)) }
+{}
+
+/// So does an entry that sets one, be it the master capability of an object that it makes.
+pub fn set_cap_keeps_calls()
+    ensures { (conf : Config) (cpu : CpuNo) (entry : Entry) (space : ObjIndex) (slot : ℕ)
+        (word : CapWord) → HasCalls conf → HasReferences conf → HasGrace conf → HasState conf
+        → HasValid conf → Possible conf (SetCap cpu entry space slot word)
+        → HasCalls (after conf (SetCap cpu entry space slot word)) }
 {}
