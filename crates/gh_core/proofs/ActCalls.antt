@@ -34,9 +34,10 @@ use Rattle.gh_core.specs.Config.{AtAct, Config, Current, Holder, came_to, is_act
 use Rattle.gh_core.specs.Entries.{IsActOf, logged, next_state}
 use Rattle.gh_core.specs.References.{IsPinned}
 use Rattle.gh_core.specs.TurnEvents.{acted_ending}
-use Rattle.gh_core.proofs.CallMoves.{only_made}
+use Rattle.gh_core.proofs.CallMoves.{ends_more, only_made}
 use Rattle.gh_core.proofs.CallsGoOn.{its_pinned}
 use Rattle.gh_core.proofs.EntryCalls.{Before, Entering, EntryGoes, at_end, calls_behind, front, holder_behind, log_behind, made_before, now_passes}
+use Rattle.gh_core.proofs.EntryKeeps.{none_of}
 use Rattle.gh_core.proofs.EntryMoves.{there_lives}
 use Rattle.gh_core.proofs.EventObjects.{counters_of, life}
 use Rattle.gh_core.proofs.Finding.{same_number}
@@ -63,17 +64,6 @@ looks_for_needs boot events cspace last (need ∷ needs) (one ∷ seen) came loo
     some_below : (n : ℕ) → nat_lt 0 (suc n) ≡ true
     some_below n = grind (arith, nat_tests)
 
--- one more call leaves the ends of those before it
-ends_more : (calls : List Made) (made : Made) (number entry : ℕ) → IsEndOf calls number entry
-    → IsEndOf (calls ++ made ∷ []) number entry
-ends_more calls made number entry is = record {
-  at = is.at;
-  made = is.made;
-  is = slice_get_left calls (made ∷ []) is.at (slice_get_within calls is.at is.made is.is) ∙ is.is;
-  numbered = is.numbered;
-  ends = is.ends;
-}
-
 -- no slot is taken behind an act that is done
 done_taken : (s new : State) (reply : Reply) (decided : Decision) → verdict s decided ≡ Done new reply
     → new.taken ≡ []
@@ -82,11 +72,6 @@ done_taken s new reply Unfinished is = absurd (let never : ⊥ = cc in never)
 done_taken s new reply (Make changes made) is =
     let same : counted (changed_all s changes) ≡ new = cc in
     ap (λ (one : State). one.taken) (sym same)
-
--- what lives isn't gone
-not_gone : (found : Option ObjectRow) → option_map counters_of found ≡ None → is_some found ≡ true → ⊥
-not_gone None gone lives = let never : ⊥ = cc in never
-not_gone (Some row) gone lives = let never : ⊥ = cc in never
 
 both_hold : (here acted : Bool) (calls : List Made) → here ≡ true → acted ≡ true
     → (if here && acted then calls else []) ≡ calls
@@ -228,8 +213,10 @@ module _ (conf : Config) (at : ℕ) (cpu : CpuNo) (number : ℕ) (holder : Holde
         ap (λ (pins : List _). slice_get pins i) (its_pinned conf at before.sound call AtAct before.allows.in_act)
         ∙ slice_get-map pin_of call.seen i ∙ ap (option_map pin_of) is in
         let pinned : IsPinned conf (pin_of seen) = (before.refs.holds at).pinned i (pin_of seen) pins in
-        not_gone (find (is_object (granted seen.word).0) (present conf).objects) gone
-        (subst (λ (n : ℕ). is_some (find (is_object n) (present conf).objects) ≡ true) pinned.is_that (there_lives (present conf) conf.index (seen_index seen) pinned.row pinned.lives_there))
+        let there : is_some (find (is_object (granted seen.word).0) (present conf).objects) ≡ true =
+        subst (λ (n : ℕ). is_some (find (is_object n) (present conf).objects) ≡ true) pinned.is_that (there_lives (present conf) conf.index (seen_index seen) pinned.row pinned.lives_there) in
+        let none : is_some (find (is_object (granted seen.word).0) (present conf).objects) ≡ false = none_of (find (is_object (granted seen.word).0) (present conf).objects) gone in
+        cc
 
     keeps_by : (i n : ℕ) (seen : Seen) (event : history.Event) → slice_get call.seen i ≡ Some seen
         → ((n < length conf.history) × (slice_get conf.history n ≡ Some event))

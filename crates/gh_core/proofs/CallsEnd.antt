@@ -17,7 +17,7 @@ use Rattle.gh_model.proofs.RunLists.{count_snoc, in_turn_snoc, slice_get_left, s
 use Rattle.gh_core.specs.Calls.{CurrentIs, DeathIs, HasCalls, calls_in, section_behind, steps_at}
 use Rattle.gh_core.specs.CallEvents.{MayLeave, after_leave, at_stage, end_of_looks, finished, has_grants, has_needs, leaves_from, left, reply_of_looks, with_end, with_left}
 use Rattle.gh_core.specs.Config.{AtAct, Config, Cpu, Current, DeadPin, Failed, IsIn, Looked, Reading, Stage, Undone, came_to, put}
-use Rattle.gh_core.proofs.CallMoves.{CallMoves, DeathsAre, IsNotHolder, moved_sound, no_holder, only_made}
+use Rattle.gh_core.proofs.CallMoves.{CallMoves, DeathsAre, IsNotHolder, ends_more, moved_sound, no_holder, only_made}
 use Rattle.gh_core.proofs.CallsGoOn.{its_came, its_counter, its_death, its_looked, its_needs, its_pinned, none_acts, stage_sound}
 use Rattle.gh_core.proofs.CallsKeep.{stage_number}
 use Rattle.gh_core.proofs.CpuMoves.{with_part}
@@ -67,13 +67,7 @@ module _ (conf : Config) (at : ℕ) (call : Current) (end : End) (reply : Reply)
   -- every end is still there
   pub ends_stay : (number entry : ℕ) → IsEndOf before number entry
       → IsEndOf (before ++ made_now ∷ []) number entry
-  ends_stay number entry is = record {
-    at = is.at;
-    made = is.made;
-    is = slice_get_left before (made_now ∷ []) is.at (slice_get_within before is.at is.made is.is) ∙ is.is;
-    numbered = is.numbered;
-    ends = is.ends;
-  }
+  ends_stay number entry is = ends_more before made_now number entry is
 
   pub deaths_stay : DeathsAre conf (before ++ made_now ∷ [])
   deaths_stay i made seen is dead last =

@@ -15,6 +15,7 @@ use Rattle.gh_model.proofs.Stays.{front_more, retired_stays}
 use Rattle.gh_core.specs.Calls.{DeathIs, IsKilledThere}
 use Rattle.gh_core.specs.Config.{Config, is_at, object_at, present, seen_index}
 use Rattle.gh_core.specs.References.{IsRow}
+use Rattle.gh_core.proofs.EntryKeeps.{some_of}
 use Rattle.gh_core.proofs.EntryMoves.{RowOf, row_of, there_index}
 use Rattle.gh_core.proofs.EventObjects.{Goes, counters_of, event_goes, life}
 use Rattle.gh_core.proofs.Finding.{same_number}
@@ -60,16 +61,11 @@ module _ (s : State) (index : ℕ → ℕ) (dead : ℕ → Bool) (placed : IsPla
         killed = not_killed row.retired (dead (index row.serial.0)) lives_as (ap dead at_is ∙ is_dead);
       }
 
-  some_lives : (serial : ℕ) (found : Option ObjectRow) → find (is_object serial) s.objects ≡ found
-      → option_map counters_of found ≡ Some None → is_some found ≡ true
-  some_lives serial None is lived = absurd (let never : ⊥ = cc in never)
-  some_lives serial (Some row) is lived = refl
-
   -- an object that isn't retired, with a dead word, is killed at its index
   pub killed_there : (at serial : ℕ) → life s.objects serial ≡ Some None → index serial ≡ at
       → dead at ≡ true → IsKilledThere s index dead at serial
   killed_there at serial lived here is_dead =
-      let one : RowOf s serial = row_of s serial (some_lives serial (find (is_object serial) s.objects) refl lived) in
+      let one : RowOf s serial = row_of s serial (some_of (find (is_object serial) s.objects) None lived) in
       killed_by at serial (object_at s index at) refl
       (subst (λ (n : ℕ). is_some (object_at s index n) ≡ true) (ap index one.serial_is ∙ here) (stands_there s index one.row one.is_row)) one lived here is_dead
 

@@ -8,6 +8,7 @@ use Rattle.std.proofs.lemmas.List.Folds.{list_any-append}
 use Rattle.gh_base.specs.declared.cap_word.CapWord.{CapWord}
 use Rattle.gh_base.specs.declared.errno.Errno.{Errno}
 use Rattle.gh_base.specs.declared.call.Call.{Call}
+use Rattle.gh_base.specs.declared.ids.CpuNo.{CpuNo}
 use Rattle.gh_base.specs.declared.mark.End.TheVariants as ends
 use Rattle.gh_model.specs.Graced.{GoesUnreferenced}
 use Rattle.gh_model.specs.History as history
@@ -246,16 +247,17 @@ module _ (e : Entering) (goes : EntryGoes e) (sound : HasCalls e.conf) where
 
   -- parts
 
+  same_caller : (cpu : CpuNo) (number : ℕ) → cpu.0 ≡ e.holder.cpu → number ≡ e.call.given.number
+      → history.caller (Acted cpu number) ≡ Some (e.holder.cpu, e.call.given.number)
+  same_caller cpu number its_cpu its_number =
+      ap (λ (n : ℕ). Some (n, number)) its_cpu ∙ ap (λ (n : ℕ). Some (e.holder.cpu, n)) its_number
+
   kind_caller : (kind : Entry) → KindAllows e.conf e.holder e.call e.entry kind → has_part e.holder ≡ true
       → history.caller kind ≡ Some (e.holder.cpu, e.call.given.number)
   kind_caller (Acted cpu number) allowed part =
-      let its_cpu : cpu.0 ≡ e.holder.cpu = allowed.its_cpu in
-      let its_number : number ≡ e.call.given.number = allowed.its_number in
-      ap (λ (n : ℕ). Some (n, number)) its_cpu ∙ ap (λ (n : ℕ). Some (e.holder.cpu, n)) its_number
+      same_caller cpu number allowed.its_cpu allowed.its_number
   kind_caller (Part cpu number space slot) allowed part =
-      let its_cpu : cpu.0 ≡ e.holder.cpu = allowed.its_cpu in
-      let its_number : number ≡ e.call.given.number = allowed.its_number in
-      ap (λ (n : ℕ). Some (n, number)) its_cpu ∙ ap (λ (n : ℕ). Some (e.holder.cpu, n)) its_number
+      same_caller cpu number allowed.its_cpu allowed.its_number
   kind_caller (Retired serial seen) allowed part =
       let none : has_part e.holder ≡ false = allowed.no_part in absurd (let never : ⊥ = cc in never)
   kind_caller (Reclaimed serial seen) allowed part =
@@ -265,9 +267,7 @@ module _ (e : Entering) (goes : EntryGoes e) (sound : HasCalls e.conf) where
       → history.caller kind ≡ Some (e.holder.cpu, e.call.given.number)
   part_caller (Acted cpu number) allowed part = absurd (let never : ⊥ = cc in never)
   part_caller (Part cpu number space slot) allowed part =
-      let its_cpu : cpu.0 ≡ e.holder.cpu = allowed.its_cpu in
-      let its_number : number ≡ e.call.given.number = allowed.its_number in
-      ap (λ (n : ℕ). Some (n, number)) its_cpu ∙ ap (λ (n : ℕ). Some (e.holder.cpu, n)) its_number
+      same_caller cpu number allowed.its_cpu allowed.its_number
   part_caller (Retired serial seen) allowed part = absurd (let never : ⊥ = cc in never)
   part_caller (Reclaimed serial seen) allowed part = absurd (let never : ⊥ = cc in never)
 

@@ -1,6 +1,6 @@
 -- The other entries keep sound calls: a part, a retirement and a reclaim. And the holder's entries
 -- together.
-use Rattle.std.proofs.Common.{◌≡◌, ◌∙◌, ℕ, true, false, List, [], ◌∷◌, ◌++◌, length, refl, subst, sym, ap, Option, Some, None, is_some, option_map}
+use Rattle.std.proofs.Common.{◌≡◌, ◌∙◌, ℕ, true, false, List, [], ◌∷◌, ◌++◌, find, length, refl, subst, sym, ap, Option, Some, None, is_some, option_map}
 use Rattle.std.proofs.lemmas.List.{append-nil}
 use Rattle.gh_base.specs.declared.cap_word.CapWord.{CapWord}
 use Rattle.gh_invariant.specs.Events.{changes_of}
@@ -8,6 +8,7 @@ use Rattle.gh_invariant.proofs.EventsKept.{event_valid}
 use Rattle.gh_model.specs.History as history
 use Rattle.gh_model.specs.Legal.{CallIs, EntryIs, IsEndOf, IsNumbered, IsPart, is_part}
 use Rattle.gh_model.specs.Marks.{InTurn, Made}
+use Rattle.gh_model.specs.Rows.{is_object}
 use Rattle.gh_model.specs.declared.entry.Entry.{Entry}
 use Rattle.gh_model.specs.declared.entry.Entry.TheVariants.{Acted, Part, Retired, Reclaimed}
 use Rattle.gh_model.specs.declared.rows.ObjectRow.{ObjectRow}
@@ -23,7 +24,7 @@ use Rattle.gh_core.specs.ValidState.{HasValid}
 use Rattle.gh_core.proofs.ActCalls.{act_goes, old_calls, old_numbers}
 use Rattle.gh_core.proofs.DeathsOn.{IsPlaced}
 use Rattle.gh_core.proofs.EntryCalls.{Before, Entering, EntryGoes, at_end, calls_behind, entry_keeps_calls, holder_behind, log_behind, state_behind, still_fails}
-use Rattle.gh_core.proofs.EntryKeeps.{IndicesFit, commit_fits, entry_keeps, set_fits, setting_spares}
+use Rattle.gh_core.proofs.EntryKeeps.{IndicesFit, commit_fits, entry_keeps, set_fits, setting_spares, some_of}
 use Rattle.gh_core.proofs.EntryMoves.{with_log}
 use Rattle.gh_core.proofs.EventObjects.{counters_of}
 use Rattle.gh_core.proofs.GraceReclaim.{replay_more}
@@ -81,10 +82,6 @@ module _ (conf : Config) (at : ℕ) (holder : Holder) (call : Current) (index : 
       plain_goes (with_kind (Reclaimed serial seen)) before refl tt
       (λ no_part. rw (before.allows.allowed.unreferenced.0, before.allows.allowed.unreferenced.1) refl)
 
-some_lives : (found : Option ObjectRow) → option_map counters_of found ≡ Some None → is_some found ≡ true
-some_lives None lived = absurd (let never : ⊥ = cc in never)
-some_lives (Some row) lived = refl
-
 -- the facts of a configuration that an entry needs
 pub record EntrySound (conf : Config) : Type 0 where
   pub sound : HasCalls conf
@@ -123,7 +120,7 @@ module _ (conf : Config) (at : ℕ) (entry : Entry) (holder : Holder) (call : Cu
       deaths = record {
         before = record { valid = past.fit.valid; unique = past.refs.placed.unique };
         behind = placed_behind;
-        kept = λ serial lived. fits.kept serial (some_lives (_) lived);
+        kept = λ serial lived. fits.kept serial (some_of (find (is_object serial) (present conf).objects) None lived);
       };
       sound = past.sound;
       refs = past.refs;
