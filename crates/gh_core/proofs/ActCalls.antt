@@ -1,10 +1,10 @@
 -- An act's entry keeps sound calls: the holder's call comes to its end with it.
-use Rattle.std.proofs.Common.{◌≡◌, ◌==◌, ◌+◌, ◌*◌, ◌-◌, ◌<◌, ◌≤◌, ◌∙◌, ◌⊎◌, inl, inr, ℕ, suc, Bool, true, false, List, [], ◌∷◌, ◌++◌, length, map, refl, subst, sym, ap, arith, Option, Some, None, Result, count_by, find, is_some, option_map, slice_get, take, if◌then◌else◌}
+use Rattle.std.proofs.Common.{◌≡◌, ◌==◌, ◌+◌, ◌*◌, ◌-◌, ◌<◌, ◌≤◌, ◌∙◌, ◌⊎◌, inl, inr, ℕ, suc, Bool, true, false, List, [], ◌∷◌, ◌++◌, length, map, refl, subst, sym, ap, arith, Some, None, Result, count_by, find, is_some, option_map, slice_get, take, if◌then◌else◌}
 use Rattle.std.specs.Prelude.{◌&&◌, nat_lt}
 use Rattle.std.specs.List.{list_any}
 use Rattle.std.proofs.lemmas.Bool.Decides.{eqb_tells, nat_tests}
 use Rattle.std.proofs.lemmas.List.{length-append}
-use Rattle.std.proofs.lemmas.Option.{slice_get-map, slice_get_within}
+use Rattle.std.proofs.lemmas.Option.{slice_get-map}
 use Rattle.gh_base.specs.declared.cap_word.Need.{Need}
 use Rattle.gh_base.specs.declared.errno.Errno.{Errno}
 use Rattle.gh_base.specs.declared.call.Call.{Call}
@@ -22,11 +22,10 @@ use Rattle.gh_model.specs.Rows.{is_object}
 use Rattle.gh_model.specs.declared.change.Decision.{Decision}
 use Rattle.gh_model.specs.declared.change.Decision.TheVariants.{Refuse, Unfinished, Make}
 use Rattle.gh_model.specs.declared.entry.Entry.TheVariants.{Acted}
-use Rattle.gh_model.specs.declared.rows.ObjectRow.{ObjectRow}
 use Rattle.gh_model.specs.declared.state.State.{State}
 use Rattle.gh_model.specs.declared.word.Word.{Word}
 use Rattle.gh_model.proofs.Looks.{words_for}
-use Rattle.gh_model.proofs.RunLists.{in_turn_snoc, slice_get_left, slice_get_seam, snoc_cases, take_all}
+use Rattle.gh_model.proofs.RunLists.{in_turn_snoc, slice_get_seam, snoc_cases, take_all}
 use Rattle.gh_model.proofs.Stays.{calls_stay, look_stays}
 use Rattle.gh_core.specs.CallEvents.{finished}
 use Rattle.gh_core.specs.Calls.{CurrentIs, acted_call, as_made, last_ending}
@@ -39,7 +38,7 @@ use Rattle.gh_core.proofs.CallsGoOn.{its_pinned}
 use Rattle.gh_core.proofs.EntryCalls.{Before, Entering, EntryGoes, at_end, calls_behind, front, holder_behind, log_behind, made_before, now_passes}
 use Rattle.gh_core.proofs.EntryKeeps.{none_of}
 use Rattle.gh_core.proofs.EntryMoves.{there_lives}
-use Rattle.gh_core.proofs.EventObjects.{counters_of, life}
+use Rattle.gh_core.proofs.EventObjects.{life}
 use Rattle.gh_core.proofs.Finding.{same_number}
 use Rattle.gh_core.proofs.GoneBehind.{gone_behind}
 use Rattle.gh_core.proofs.GraceReclaim.{replay_more}

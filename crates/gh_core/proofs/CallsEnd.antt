@@ -2,7 +2,6 @@
 use Rattle.std.proofs.Common.{◌≡◌, ◌==◌, ◌+◌, ◌*◌, ◌<◌, ◌∙◌, ◌⊎◌, inl, inr, ℕ, Bool, true, false, List, [], ◌∷◌, ◌++◌, length, refl, is_some, not, subst, sym, ap, arith, Option, Some, None, Result, Ok, Err, count_by, option_map, slice_get, if◌then◌else◌}
 use Rattle.std.specs.Prelude.{nat_lt}
 use Rattle.std.specs.List.{last_or}
-use Rattle.std.proofs.lemmas.Option.{slice_get_within}
 use Rattle.gh_base.specs.Reply.{refusal}
 use Rattle.gh_base.specs.declared.call.Call.{Call}
 use Rattle.gh_base.specs.declared.errno.Errno.{Errno}
@@ -13,7 +12,7 @@ use Rattle.gh_base.specs.declared.mark.End.TheVariants as ends
 use Rattle.gh_model.specs.Legal.{CallIs, EndIs, FrameIs, IsEndOf, IsNumbered}
 use Rattle.gh_model.specs.Marks.{Fails, Grants, InTurn, Made, Outcome, Seen, Wants, cspace_of, failure, has_looks, place_after}
 use Rattle.gh_model.specs.Registers.{call_of}
-use Rattle.gh_model.proofs.RunLists.{count_snoc, in_turn_snoc, slice_get_left, snoc_cases}
+use Rattle.gh_model.proofs.RunLists.{count_snoc, in_turn_snoc, snoc_cases}
 use Rattle.gh_core.specs.Calls.{CurrentIs, DeathIs, HasCalls, calls_in, section_behind, steps_at}
 use Rattle.gh_core.specs.CallEvents.{MayLeave, after_leave, at_stage, end_of_looks, finished, has_grants, has_needs, leaves_from, left, reply_of_looks, with_end, with_left}
 use Rattle.gh_core.specs.Config.{AtAct, Config, Cpu, Current, DeadPin, Failed, IsIn, Looked, Reading, Stage, Undone, came_to, put}

@@ -42,9 +42,6 @@ pub record Entering : Type 0 where
   pub call : Current
   pub index : ℕ → ℕ
 
-abbrev pub event_of : Entering → history.Event
-event_of e = logged e.entry e.call
-
 -- the history, the state and the turn behind the entry
 abbrev pub log_behind : Entering → List history.Event
 log_behind e = e.conf.history ++ logged e.entry e.call ∷ []

@@ -1,6 +1,6 @@
 -- The other entries keep sound calls: a part, a retirement and a reclaim. And the holder's entries
 -- together.
-use Rattle.std.proofs.Common.{◌≡◌, ◌∙◌, ℕ, true, false, List, [], ◌∷◌, ◌++◌, find, length, refl, subst, sym, ap, Option, Some, None, is_some, option_map}
+use Rattle.std.proofs.Common.{◌≡◌, ◌∙◌, ℕ, false, List, [], ◌∷◌, ◌++◌, find, length, refl, subst, sym, ap, Option, Some, None, option_map}
 use Rattle.std.proofs.lemmas.List.{append-nil}
 use Rattle.gh_base.specs.declared.cap_word.CapWord.{CapWord}
 use Rattle.gh_invariant.specs.Events.{changes_of}
@@ -26,7 +26,6 @@ use Rattle.gh_core.proofs.DeathsOn.{IsPlaced}
 use Rattle.gh_core.proofs.EntryCalls.{Before, Entering, EntryGoes, at_end, calls_behind, entry_keeps_calls, holder_behind, log_behind, state_behind, still_fails}
 use Rattle.gh_core.proofs.EntryKeeps.{IndicesFit, commit_fits, entry_keeps, set_fits, setting_spares, some_of}
 use Rattle.gh_core.proofs.EntryMoves.{with_log}
-use Rattle.gh_core.proofs.EventObjects.{counters_of}
 use Rattle.gh_core.proofs.GraceReclaim.{replay_more}
 use Rattle.gh_core.proofs.GraceSpares.{entry_spares}
 use Rattle.gh_core.proofs.HolderCalls.{none_committed}
