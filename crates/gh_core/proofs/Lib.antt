@@ -40,6 +40,7 @@ pub mod PinKeeps
 pub mod Places
 pub mod RetiredSince
 pub mod ReviveKeeps
+pub mod StartCalls
 pub mod StartSound
 pub mod StateKeeps
 pub mod TakeCalls

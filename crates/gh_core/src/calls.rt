@@ -2,7 +2,7 @@
 //! functions do nothing; their clauses are laws. Of looks and of ends behind an act nothing is said
 //! yet.
 
-ghost use Rattle.std.specs.Prelude.{ℕ, true, false};
+ghost use Rattle.std.specs.Prelude.{ℕ, List, true, false};
 ghost use Rattle.gh_base.specs.declared.cap_word.CapWord.{CapWord};
 ghost use Rattle.gh_base.specs.declared.ids.CpuNo.{CpuNo};
 ghost use Rattle.gh_base.specs.declared.ids.ObjIndex.{ObjIndex};
@@ -12,9 +12,17 @@ ghost use Rattle.gh_core.specs.Events.{Possible, after};
 ghost use Rattle.gh_core.specs.Grace.{HasGrace};
 ghost use Rattle.gh_core.specs.References.{HasReferences};
 ghost use Rattle.gh_core.specs.Replayed.{HasState};
+ghost use Rattle.gh_core.specs.Start.{start};
 ghost use Rattle.gh_core.specs.ValidState.{HasValid};
 ghost use Rattle.gh_core.specs.declared.event.Event.TheVariants.{Commit, Enter, Free, Kill, Leave, Pin, Revive, Scan, SetCap, Take, Undo, Unpin};
+ghost use Rattle.gh_model.specs.Boot.{boot_state};
+ghost use Rattle.gh_model.specs.declared.boot_line.BootLine.{BootLine};
 ghost use Rattle.gh_model.specs.declared.entry.Entry.{Entry};
+
+/// Of each boot file, the calls are sound before any event.
+pub fn start_has_calls()
+    ensures { (lines : List BootLine) (index : ℕ → ℕ) → HasCalls (start (boot_state lines) index) }
+{}
 
 /// A call that enters its section keeps sound calls.
 pub fn enter_keeps_calls()
