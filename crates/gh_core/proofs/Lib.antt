@@ -14,6 +14,7 @@ pub mod EventObjects
 pub mod EventRuns
 pub mod EventsKeep
 pub mod Finding
+pub mod GivenCalls
 pub mod GoneBehind
 pub mod GraceActs
 pub mod GraceCalls

@@ -4,6 +4,7 @@
 
 ghost use Rattle.std.specs.Prelude.{ℕ, List, true, false};
 ghost use Rattle.gh_base.specs.declared.cap_word.CapWord.{CapWord};
+ghost use Rattle.gh_base.specs.declared.frame.Frame.{Frame};
 ghost use Rattle.gh_base.specs.declared.ids.CpuNo.{CpuNo};
 ghost use Rattle.gh_base.specs.declared.ids.ObjIndex.{ObjIndex};
 ghost use Rattle.gh_core.specs.Calls.{HasCalls};
@@ -12,7 +13,7 @@ ghost use Rattle.gh_core.specs.Events.{Possible, after};
 ghost use Rattle.gh_core.specs.Grace.{HasGrace};
 ghost use Rattle.gh_core.specs.References.{HasReferences};
 ghost use Rattle.gh_core.specs.Replayed.{HasState};
-ghost use Rattle.gh_core.specs.Start.{start};
+ghost use Rattle.gh_core.specs.Start.{MayGive, given, start};
 ghost use Rattle.gh_core.specs.ValidState.{HasValid};
 ghost use Rattle.gh_core.specs.declared.event.Event.TheVariants.{Commit, Enter, Free, Kill, Leave, Pin, Revive, Scan, SetCap, Take, Undo, Unpin};
 ghost use Rattle.gh_model.specs.Boot.{boot_state};
@@ -22,6 +23,12 @@ ghost use Rattle.gh_model.specs.declared.entry.Entry.{Entry};
 /// Of each boot file, the calls are sound before any event.
 pub fn start_has_calls()
     ensures { (lines : List BootLine) (index : ℕ → ℕ) → HasCalls (start (boot_state lines) index) }
+{}
+
+/// A call that a CPU is given keeps them sound, and so does one whose frame is refused at once.
+pub fn given_call_keeps_calls()
+    ensures { (conf : Config) (at number : ℕ) (frame : Frame) → HasCalls conf
+        → MayGive conf at number → HasCalls (given conf at number frame) }
 {}
 
 /// A call that enters its section keeps sound calls.
