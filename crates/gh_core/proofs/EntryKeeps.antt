@@ -46,12 +46,14 @@ lives_same : (new old : List ObjectRow) (serial : ℕ) → life new serial ≡ l
 lives_same new old serial same =
     some_same (find (is_object serial) new) (find (is_object serial) old) same
 
-some_of : (found : Option ObjectRow) (counters : Option (List ℕ))
+-- what has a life is found
+pub some_of : (found : Option ObjectRow) (counters : Option (List ℕ))
     → option_map counters_of found ≡ Some counters → is_some found ≡ true
 some_of None counters is = absurd (let never : ⊥ = cc in never)
 some_of (Some row) counters is = refl
 
-none_of : (found : Option ObjectRow) → option_map counters_of found ≡ None → is_some found ≡ false
+-- and what has none doesn't
+pub none_of : (found : Option ObjectRow) → option_map counters_of found ≡ None → is_some found ≡ false
 none_of None is = refl
 none_of (Some row) is = absurd (let never : ⊥ = cc in never)
 
@@ -286,7 +288,7 @@ none_set : (b : Bool) (one : Change) → slots_set (one ∷ []) ≡ 0
 none_set true one none = none
 none_set false one none = refl
 
-setting_spares : (conf : Config) (event : Event) (kind : Entry)
+pub setting_spares : (conf : Config) (event : Event) (kind : Entry)
     → slots_set (entry_changes (present conf) event kind) ≡ 1 → SparesLooks conf kind
 setting_spares conf event (Acted cpu number) one = tt
 setting_spares conf event (Part cpu number space slot) one = tt

@@ -1,3 +1,4 @@
+pub mod ActCalls
 pub mod ActFits
 pub mod BoundKeeps
 pub mod CallMoves
@@ -6,13 +7,17 @@ pub mod CallsGoOn
 pub mod CallsKeep
 pub mod CpuMoves
 pub mod CpusRun
+pub mod DeathsOn
+pub mod EntryCalls
 pub mod EntryKeeps
 pub mod EntryMoves
 pub mod EventObjects
 pub mod EventRuns
 pub mod EventsKeep
 pub mod Finding
+pub mod GivenCalls
 pub mod GivenKeeps
+pub mod GoneBehind
 pub mod GraceActs
 pub mod GraceCalls
 pub mod GraceCounters
@@ -34,12 +39,14 @@ pub mod LookCalls
 pub mod LookKeeps
 pub mod NoPins
 pub mod OweKeeps
+pub mod PartCalls
 pub mod PinCalls
 pub mod PinKeeps
 pub mod Places
 pub mod RetiredSince
 pub mod ReviveKeeps
 pub mod SlotsLeft
+pub mod StartCalls
 pub mod StartSound
 pub mod StateKeeps
 pub mod TakeCalls

@@ -4,6 +4,7 @@ use Rattle.std.specs.Prelude.{◌≡◌, ◌==◌, ◌&&◌, ◌+◌, ◌*◌, �
 use Rattle.std.specs.List.{last_or, list_any}
 use Rattle.gh_base.specs.declared.mark.End.TheVariants as ends
 use Rattle.gh_model.specs.Act.{granted}
+use Rattle.gh_model.specs.Graced.{GoesUnreferenced}
 use Rattle.gh_model.specs.History as history
 use Rattle.gh_model.specs.Legal.{CallIs, EntryIs, GoesOn, IsNumbered, IsRetiredBehind, LookIs, exits, is_part}
 use Rattle.gh_model.specs.Marks.{InTurn, Made, Outcome, Seen, cspace_of, failure, has_looks, place_after}
@@ -197,6 +198,9 @@ pub record AreEntries (conf : Config) : Type 0 where
       → is_part event.entry ≡ true
       → GoesOn conf.boot conf.history n event ⊎ Waits conf.history conf.turn conf.cpu n event
   pub untaken : stands_open conf.turn ≡ false → (present conf).taken ≡ []
+  -- what an entry retires or reclaims has no references just before it
+  pub unreferenced : (n : ℕ) (event : history.Event) → slice_get conf.history n ≡ Some event
+      → GoesUnreferenced (history.state_at conf.boot conf.history n) event.entry
   -- the object that a dead call's last look granted is retired behind it, or the holder killed it
   pub deaths : (cpu i : ℕ) (made : Made) (seen : Seen)
       → slice_get (conf.cpu cpu).made i ≡ Some made → made.mark.end ≡ ends.Dead
