@@ -15,6 +15,7 @@ pub mod EventObjects
 pub mod EventRuns
 pub mod EventsKeep
 pub mod Finding
+pub mod FreeCalls
 pub mod GivenCalls
 pub mod GivenKeeps
 pub mod GoneBehind
