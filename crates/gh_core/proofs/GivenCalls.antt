@@ -1,18 +1,17 @@
 -- A call that a CPU is given keeps sound calls, and so does one whose frame is refused at once.
-use Rattle.std.proofs.Common.{◌≡◌, ◌==◌, ◌+◌, ◌*◌, ◌∙◌, ◌⊎◌, inl, inr, ℕ, Bool, true, false, List, [], ◌∷◌, ◌++◌, refl, subst, sym, ap, arith, Option, Some, None, Result, Ok, Err, count_by, is_some, slice_get, if◌then◌else◌}
-use Rattle.std.specs.List.{last_or}
+use Rattle.std.proofs.Common.{◌≡◌, ◌+◌, ◌*◌, ◌∙◌, inl, inr, ℕ, Bool, true, List, [], ◌∷◌, ◌++◌, refl, subst, sym, ap, arith, Option, Some, None, Result, Ok, Err, count_by, is_some, if◌then◌else◌}
 use Rattle.gh_base.specs.declared.call.Call.{Call}
 use Rattle.gh_base.specs.declared.errno.Errno.{Errno}
 use Rattle.gh_base.specs.declared.frame.Frame.{Frame}
 use Rattle.gh_base.specs.declared.mark.End.TheVariants as ends
 use Rattle.gh_model.specs.Legal.{CallIs, FrameIs, IsNumbered}
-use Rattle.gh_model.specs.Marks.{InTurn, Made, Seen, cspace_of, has_looks, place_after}
+use Rattle.gh_model.specs.Marks.{InTurn, Made, cspace_of, has_looks, place_after}
 use Rattle.gh_model.specs.Registers.{call_of}
 use Rattle.gh_model.specs.Rows.{cpu_row}
 use Rattle.gh_model.specs.declared.rows.CpuRow.{CpuRow}
 use Rattle.gh_model.proofs.RunLists.{count_snoc, in_turn_snoc, snoc_cases}
 use Rattle.gh_core.specs.Calls.{DeathIs, HasCalls, calls_in, NextIs, counted, steps}
-use Rattle.gh_core.specs.Config.{Config, Cpu, Current, Given}
+use Rattle.gh_core.specs.Config.{Config, Cpu, Given}
 use Rattle.gh_core.specs.Start.{MayGive, given, refused_frame, with_next}
 use Rattle.gh_core.proofs.CallMoves.{CallMoves, DeathsAre, IsNotHolder, ends_more, moved_sound, no_holder, on_sound, only_made}
 use Rattle.gh_core.proofs.CallsGoOn.{none_acts}

@@ -16,7 +16,7 @@ ghost use Rattle.gh_core.specs.Replayed.{HasState};
 ghost use Rattle.gh_core.specs.Start.{MayGive, given, start};
 ghost use Rattle.gh_core.specs.ValidState.{HasValid};
 ghost use Rattle.gh_core.specs.Words.{HasRoom, ShowsWords};
-ghost use Rattle.gh_core.specs.declared.event.Event.TheVariants.{Commit, Enter, Free, Kill, Leave, Look, Pin, Revive, Scan, SetCap, Take, Undo, Unpin};
+ghost use Rattle.gh_core.specs.declared.event.Event.TheVariants.{Commit, Enter, Free, Join, Kill, Leave, Look, Pin, Revive, Scan, SetCap, Split, Take, Undo, Unpin};
 ghost use Rattle.gh_model.specs.Boot.{boot_state};
 ghost use Rattle.gh_model.specs.declared.boot_line.BootLine.{BootLine};
 ghost use Rattle.gh_model.specs.declared.entry.Entry.{Entry};
@@ -113,4 +113,12 @@ pub fn set_cap_keeps_calls()
         (word : CapWord) → HasCalls conf → HasReferences conf → HasGrace conf → HasState conf
         → HasValid conf → Possible conf (SetCap cpu entry space slot word)
         → HasCalls (after conf (SetCap cpu entry space slot word)) }
+{}
+
+/// And a seat that is given back or made.
+pub fn seats_keep_calls()
+    ensures join { (conf : Config) (cpu : CpuNo) → HasCalls conf → Possible conf (Join cpu)
+        → HasCalls (after conf (Join cpu)) }
+    ensures split { (conf : Config) (cpu : CpuNo) → HasCalls conf → Possible conf (Split cpu)
+        → HasCalls (after conf (Split cpu)) }
 {}
