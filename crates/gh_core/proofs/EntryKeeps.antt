@@ -41,12 +41,12 @@ some_same None (Some old) same = absurd (let never : ⊥ = cc in never)
 some_same (Some new) None same = absurd (let never : ⊥ = cc in never)
 some_same (Some new) (Some old) same = refl
 
-lives_same : (new old : List ObjectRow) (serial : ℕ) → life new serial ≡ life old serial
+pub lives_same : (new old : List ObjectRow) (serial : ℕ) → life new serial ≡ life old serial
     → lives new serial ≡ lives old serial
 lives_same new old serial same =
     some_same (find (is_object serial) new) (find (is_object serial) old) same
 
-some_of : (found : Option ObjectRow) (counters : Option (List ℕ))
+pub some_of : (found : Option ObjectRow) (counters : Option (List ℕ))
     → option_map counters_of found ≡ Some counters → is_some found ≡ true
 some_of None counters is = absurd (let never : ⊥ = cc in never)
 some_of (Some row) counters is = refl

@@ -50,4 +50,5 @@ pub mod ValidEntries
 pub mod ValidEvents
 pub mod ValidLaw
 pub mod WordsFollow
+pub mod WordsKeep
 pub mod WordsMove
