@@ -38,6 +38,7 @@ pub mod RetiredSince
 pub mod ReviveKeeps
 pub mod SlotsLeft
 pub mod StartSound
+pub mod StartWords
 pub mod StateKeeps
 pub mod TakeCalls
 pub mod TakeKeeps
