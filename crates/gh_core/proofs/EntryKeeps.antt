@@ -286,7 +286,7 @@ none_set : (b : Bool) (one : Change) → slots_set (one ∷ []) ≡ 0
 none_set true one none = none
 none_set false one none = refl
 
-setting_spares : (conf : Config) (event : Event) (kind : Entry)
+pub setting_spares : (conf : Config) (event : Event) (kind : Entry)
     → slots_set (entry_changes (present conf) event kind) ≡ 1 → SparesLooks conf kind
 setting_spares conf event (Acted cpu number) one = tt
 setting_spares conf event (Part cpu number space slot) one = tt
@@ -299,7 +299,7 @@ setting_spares conf event (Reclaimed serial seen) one =
 abbrev index_by : (ℕ → ℕ) → ℕ → ℕ → Bool → ℕ → ℕ
 index_by index next at makes = if makes then put index next at else index
 
-kept_by : (index : ℕ → ℕ) (next at serial : ℕ) (makes : Bool) → serial < next
+pub kept_by : (index : ℕ → ℕ) (next at serial : ℕ) (makes : Bool) → serial < next
     → index_by index next at makes serial ≡ index serial
 kept_by index next at serial true below =
     let other : (serial == next) ≡ false = grind (arith, nat_tests) in put_other index next at serial other

@@ -36,6 +36,8 @@ pub mod PinKeeps
 pub mod Places
 pub mod RetiredSince
 pub mod ReviveKeeps
+pub mod SetCapWords
+pub mod SlotsCame
 pub mod SlotsLeft
 pub mod StartSound
 pub mod StartWords
