@@ -54,4 +54,5 @@ pub mod ValidEvents
 pub mod ValidLaw
 pub mod WordsFollow
 pub mod WordsKeep
+pub mod WordsLaw
 pub mod WordsMove

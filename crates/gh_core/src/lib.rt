@@ -35,4 +35,4 @@ pub use references::{
 };
 pub use start::start_has_references;
 pub use validity::{events_keep_validity, given_call_keeps_validity, start_is_valid};
-pub use words::{commit_keeps_words, start_shows_words};
+pub use words::{commit_keeps_words, events_keep_words, start_shows_words};
