@@ -8,7 +8,6 @@ use Rattle.gh_model.specs.Changes.{as_revoked, changed, changed_all, is_in_cspac
 use Rattle.gh_model.specs.History.{Event, after_event}
 use Rattle.gh_model.specs.QueueCalls.{one_if}
 use Rattle.gh_model.specs.Rows.{fills}
-use Rattle.gh_model.specs.Word.{word_at}
 use Rattle.gh_model.specs.declared.change.Change.{Change}
 use Rattle.gh_model.specs.declared.change.Change.TheVariants as change
 use Rattle.gh_model.specs.declared.rows.CapabilityRow.{CapabilityRow}

@@ -1,12 +1,11 @@
 -- The capability words stay those of the present state: at the boot, and behind each event that sets
 -- no slot.
-use Rattle.std.proofs.Common.{◌≡◌, ◌<◌, ◌≤◌, ◌∙◌, ◌⊎◌, inl, inr, ℕ, Bool, true, false, List, [], ◌∷◌, ◌++◌, refl, subst, sym, ap, arith, IsTrue, Option, Some, None, find, is_some, if◌then◌else◌}
+use Rattle.std.proofs.Common.{◌≡◌, ◌<◌, ◌≤◌, ◌∙◌, ◌⊎◌, inl, inr, ℕ, Bool, true, false, [], ◌∷◌, ◌++◌, refl, subst, sym, ap, arith, Option, Some, None, find, if◌then◌else◌}
 use Rattle.std.specs.Prelude.{◌==◌, count_by, option_map}
 use Rattle.std.specs.List.{list_any}
 use Rattle.std.proofs.lemmas.Bool.Decides.{nat_tests}
 use Rattle.std.proofs.lemmas.List.Sums.{fold-append}
-use Rattle.gh_base.specs.declared.cap_word.CapWord.{CapWord}
-use Rattle.gh_invariant.specs.Effects.{sets_slot, slots_set}
+use Rattle.gh_invariant.specs.Effects.{sets_slot}
 use Rattle.gh_invariant.specs.Events.{changes_of}
 use Rattle.gh_invariant.specs.Lives.{lives}
 use Rattle.gh_invariant.specs.Valid.{IsValid}
@@ -32,11 +31,10 @@ use Rattle.gh_core.specs.ValidState.{HasValid}
 use Rattle.gh_core.specs.Words.{ShowsWords}
 use Rattle.gh_core.proofs.CpusRun.{entry_runs}
 use Rattle.gh_core.proofs.EntryKeeps.{lives_same, some_of}
-use Rattle.gh_core.proofs.EntryMoves.{with_log}
 use Rattle.gh_core.proofs.EventObjects.{Goes, event_goes}
 use Rattle.gh_core.proofs.SlotsLeft.{entry_left, none_set}
 use Rattle.gh_core.proofs.ValidEntries.{event_fits}
-use Rattle.gh_core.proofs.WordsFollow.{Fills, IsLeft, WordsFollow, filled_in, filled_lives, words_follow}
+use Rattle.gh_core.proofs.WordsFollow.{Fills, WordsFollow, filled_in, filled_lives, words_follow}
 
 -- a filled slot refers to its capability space, so that space isn't retired
 
@@ -82,9 +80,6 @@ slot_kept s event cspace slot unset alive =
 
 module _ (conf : Config) (at : ℕ) (entry : Entry) (fit : HasValid conf) (words : ShowsWords conf)
     (may : MayCommit conf at entry) where
-  new : State
-  new = next_state conf may.call entry
-
   now_valid : IsValid (next_state conf may.call entry)
   now_valid =
       event_valid (present conf) (logged entry may.call) fit.valid (event_fits conf at entry may.holder may.call conf.index may.allows fit)

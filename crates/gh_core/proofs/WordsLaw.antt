@@ -1,5 +1,5 @@
 -- Every event leaves the capability words those of the present state.
-use Rattle.std.proofs.Common.{◌≡◌, ◌==◌, ◌<◌, ◌++◌, ℕ, [], ◌∷◌, true, false, subst, Option, Some}
+use Rattle.std.proofs.Common.{◌≡◌, ◌==◌, ◌<◌, ◌++◌, ℕ, [], ◌∷◌, true, false, subst, Option}
 use Rattle.std.proofs.lemmas.List.Sums.{fold-append}
 use Rattle.gh_base.specs.CapWord.{settings}
 use Rattle.gh_base.specs.declared.cap_word.CapWord.{CapWord}
