@@ -41,7 +41,7 @@ some_same None (Some old) same = absurd (let never : ⊥ = cc in never)
 some_same (Some new) None same = absurd (let never : ⊥ = cc in never)
 some_same (Some new) (Some old) same = refl
 
-lives_same : (new old : List ObjectRow) (serial : ℕ) → life new serial ≡ life old serial
+pub lives_same : (new old : List ObjectRow) (serial : ℕ) → life new serial ≡ life old serial
     → lives new serial ≡ lives old serial
 lives_same new old serial same =
     some_same (find (is_object serial) new) (find (is_object serial) old) same
@@ -301,7 +301,7 @@ setting_spares conf event (Reclaimed serial seen) one =
 abbrev index_by : (ℕ → ℕ) → ℕ → ℕ → Bool → ℕ → ℕ
 index_by index next at makes = if makes then put index next at else index
 
-kept_by : (index : ℕ → ℕ) (next at serial : ℕ) (makes : Bool) → serial < next
+pub kept_by : (index : ℕ → ℕ) (next at serial : ℕ) (makes : Bool) → serial < next
     → index_by index next at makes serial ≡ index serial
 kept_by index next at serial true below =
     let other : (serial == next) ≡ false = grind (arith, nat_tests) in put_other index next at serial other

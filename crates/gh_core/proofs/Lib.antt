@@ -46,9 +46,12 @@ pub mod PinKeeps
 pub mod Places
 pub mod RetiredSince
 pub mod ReviveKeeps
+pub mod SetCapWords
+pub mod SlotsCame
 pub mod SlotsLeft
 pub mod StartCalls
 pub mod StartSound
+pub mod StartWords
 pub mod StateKeeps
 pub mod TakeCalls
 pub mod TakeKeeps
@@ -61,4 +64,6 @@ pub mod ValidEntries
 pub mod ValidEvents
 pub mod ValidLaw
 pub mod WordsFollow
+pub mod WordsKeep
+pub mod WordsLaw
 pub mod WordsMove

@@ -1,9 +1,8 @@
 -- Which slots an event leaves: all that it doesn't set, in capability spaces that live behind it.
-use Rattle.std.proofs.Common.{◌≡◌, ◌+◌, ◌∙◌, ◌⊎◌, inl, inr, ℕ, Bool, true, false, not, List, [], ◌∷◌, refl, subst, sym, ap, arith, IsTrue, Option, Some, None, find, is_some, if◌then◌else◌}
-use Rattle.std.specs.Prelude.{◌&&◌, ◌||◌, ◌==◌, count_by}
+use Rattle.std.proofs.Common.{◌≡◌, ◌+◌, ◌≤◌, ◌∙◌, ◌⊎◌, inl, inr, ℕ, Bool, true, false, not, List, [], ◌∷◌, refl, subst, sym, ap, arith, IsTrue, Option, Some, None, find, is_some, if◌then◌else◌}
+use Rattle.std.specs.Prelude.{◌&&◌, ◌||◌, ◌==◌}
 use Rattle.std.specs.List.{list_all, list_any}
 use Rattle.std.proofs.lemmas.Bool.{and_from, eqb-true, or_parts}
-use Rattle.std.proofs.lemmas.Bool.Decides.{nat_tests}
 use Rattle.gh_model.specs.Act.{counted, grants_of}
 use Rattle.gh_model.specs.Changes.{changed, without}
 use Rattle.gh_model.specs.Decide.{has_moved}
@@ -23,6 +22,7 @@ use Rattle.gh_invariant.specs.Lives.{lives}
 use Rattle.gh_invariant.proofs.Counting.{all_by, count_cons, one_true}
 use Rattle.gh_invariant.proofs.RowsLeft.{find_gone}
 use Rattle.gh_invariant.proofs.SetsOne.{MakesOne, decision_sets, keeps_objects}
+use Rattle.gh_core.specs.Entries.{or_else, slot_set}
 
 -- the change reclaims nothing
 abbrev pub keeps_spaces : Change → Bool
@@ -33,12 +33,12 @@ keeps_by : (one : Change) → IsTrue (keeps_objects one) → IsTrue (keeps_space
 keeps_by (change.Reclaim object) keeps = absurd (let never : ⊥ = cc in never)
 keeps_by _ keeps = refl
 
-left_one : (cspace slot : ℕ) (one : Change) → keeps_spaces one ≡ true
+pub left_one : (cspace slot : ℕ) (one : Change) → keeps_spaces one ≡ true
     → sets_slot cspace slot one ≡ false → leaves cspace slot one ≡ true
 left_one cspace slot (change.Reclaim object) keeps unset = absurd (let never : ⊥ = cc in never)
 left_one cspace slot _ keeps unset = ap not unset
 
-left_all : (cspace slot : ℕ) (changes : List Change) → IsTrue (list_all keeps_spaces changes)
+pub left_all : (cspace slot : ℕ) (changes : List Change) → IsTrue (list_all keeps_spaces changes)
     → list_any (sets_slot cspace slot) changes ≡ false
     → IsTrue (list_all (leaves cspace slot) changes)
 left_all cspace slot [] keep unset = refl
@@ -125,3 +125,51 @@ none_set cspace slot (one ∷ others) none =
     let first : sets_slot cspace slot one ≡ false = unset_by cspace slot (sets one) (none_here (sets_some one) (slots_set others) all) in
     let rest : list_any (sets_slot cspace slot) others ≡ false = none_set cspace slot others (omega (arith, all)) in
     rw first rest
+
+-- an entry that sets a slot reclaims nothing
+no_reclaim : (cspace slot : ℕ) (one : Change) (allowed : Bool) → sets_slot cspace slot one ≡ false
+    → list_any (sets_slot cspace slot) (if allowed then one ∷ [] else []) ≡ true → ⊥
+no_reclaim cspace slot one true unset set =
+    let none : list_any (sets_slot cspace slot) (one ∷ []) ≡ false = rw unset refl in
+    let never : ⊥ = cc in never
+no_reclaim cspace slot one false unset set = let never : ⊥ = cc in never
+
+pub setting_keeps : (s : State) (event : Event) (entry : Entry) (cspace slot : ℕ)
+    → list_any (sets_slot cspace slot) (entry_changes s event entry) ≡ true
+    → IsTrue (list_all keeps_spaces (entry_changes s event entry))
+setting_keeps s event (Acted cpu number) cspace slot set =
+    if_keep (may_act s cpu.0 event.call event.words) (made_by (judged_by s cpu.0 event)) (makes_keep s (made_by (judged_by s cpu.0 event))
+    (decision_sets s (has_moved s cpu.0 event.call event.words) cpu.0 event.call event.bytes (grants_of event.call event.words)).makes)
+setting_keeps s event (Part cpu number space n) cspace slot set =
+    if_keep (may_part (find (fills space.0 n) s.caps)) (change.RevokeCapability space n ∷ []) refl
+setting_keeps s event (Retired serial seen) cspace slot set =
+    if_keep (is_doomed s serial.0 && is_unretired (object_row s serial.0)) (change.Retire serial seen ∷ []) refl
+setting_keeps s event (Reclaimed serial seen) cspace slot set =
+    absurd (no_reclaim cspace slot (change.Reclaim serial) (is_doomed s serial.0 && is_retired (object_row s serial.0)) refl set)
+
+-- changes that set just one slot set no other
+
+place_by : (cspace slot home n : ℕ) → ((home == cspace) && (n == slot)) ≡ false
+    → (place : Option (ℕ × ℕ)) (others : Option (ℕ × ℕ)) (later : Bool)
+    → or_else place others ≡ Some (home, n) → (is_some place ≡ false → later ≡ false)
+    → (is_some place ≡ true → later ≡ false) → (is_place cspace slot place || later) ≡ false
+place_by cspace slot home n other None others later is without behind = without refl
+place_by cspace slot home n other (Some place) others later is without behind =
+    let same : place ≡ (home, n) = cc in
+    let first : is_place cspace slot (Some place) ≡ false = ap (λ (p : ℕ × ℕ). is_place cspace slot (Some p)) same ∙ other in
+    rw first (behind refl)
+
+pub other_set : (cspace slot home n : ℕ) (changes : List Change)
+    → ((home == cspace) && (n == slot)) ≡ false → slots_set changes ≤ 1
+    → slot_set changes ≡ Some (home, n) → list_any (sets_slot cspace slot) changes ≡ false
+other_set cspace slot home n [] other few is = refl
+other_set cspace slot home n (one ∷ others) other few is =
+    let all : one_if (sets_some one) + slots_set others ≤ 1 = omega (arith, count_cons sets_some one others, few) in
+    place_by cspace slot home n other (sets one) (slot_set others) (list_any (sets_slot cspace slot) others) is
+    (λ none. other_set cspace slot home n others other (omega arith) (rest_by (sets one) (slot_set others) none is))
+    (λ some. none_set cspace slot others (omega (arith, one_true (sets_some one) some, all)))
+  where
+    rest_by : (place others : Option (ℕ × ℕ)) → is_some place ≡ false → or_else place others ≡ Some (home, n)
+        → others ≡ Some (home, n)
+    rest_by None others none is = is
+    rest_by (Some place) others none is = absurd (let never : ⊥ = cc in never)

@@ -9,6 +9,7 @@ mod grace;
 mod references;
 mod start;
 mod validity;
+mod words;
 
 pub use bounds::{events_keep_bounded, objects_are_bounded, start_is_bounded};
 pub use calls::{
@@ -36,3 +37,4 @@ pub use references::{
 };
 pub use start::start_has_references;
 pub use validity::{events_keep_validity, given_call_keeps_validity, start_is_valid};
+pub use words::{commit_keeps_words, events_keep_words, start_shows_words};
