@@ -45,7 +45,7 @@ use Rattle.gh_core.proofs.GraceReclaim.{replay_more}
 use Rattle.gh_core.proofs.Places.{calls_within, looks_within}
 
 -- a call with its grants has looks where it has needs
-looks_for_needs : (boot : State) (events : List history.Event) (cspace last : ℕ)
+pub looks_for_needs : (boot : State) (events : List history.Event) (cspace last : ℕ)
     (needs : List (ℕ × Need)) (seen : List Seen) → outcome needs (map word_of seen) ≡ Grants
     → InTurn (LookIs boot events cspace last needs) seen
     → nat_lt 0 (length seen) ≡ nat_lt 0 (length needs)

@@ -13,8 +13,8 @@ mod words;
 
 pub use bounds::{events_keep_bounded, objects_are_bounded, start_is_bounded};
 pub use calls::{
-    enter_keeps_calls, leave_keeps_calls, look_keeps_calls, pin_keeps_calls, quit_keeps_calls,
-    take_keeps_calls, undo_keeps_calls, unpin_keeps_calls, words_keep_calls,
+    enter_keeps_calls, free_keeps_calls, leave_keeps_calls, look_keeps_calls, pin_keeps_calls,
+    quit_keeps_calls, take_keeps_calls, undo_keeps_calls, unpin_keeps_calls, words_keep_calls,
 };
 pub use entries::{
     boot_file_has_references, commit_keeps_references, events_keep_state, set_cap_keeps_references,
