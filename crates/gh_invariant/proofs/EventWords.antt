@@ -19,12 +19,12 @@ use Rattle.gh_model.specs.declared.entry.Entry.{Entry}
 use Rattle.gh_model.specs.declared.entry.Entry.TheVariants.{Acted, Part, Retired, Reclaimed}
 use Rattle.gh_model.specs.declared.state.State.{State}
 use Rattle.gh_model.specs.declared.word.Word.{Word}
+use Rattle.gh_model.proofs.RoomLemmas.{change_counts}
 use Rattle.gh_invariant.specs.Effects.{is_place, leaves_in, sets, sets_last, sets_slot, sets_some, slots_set}
 use Rattle.gh_invariant.specs.Events.{EntryFits, EventFits, changes_of, entry_changes, judged_by, made_by}
 use Rattle.gh_invariant.specs.Grants.{MayMake}
 use Rattle.gh_invariant.specs.Premises.{MayChangeAll}
 use Rattle.gh_invariant.specs.Valid.{IsValid}
-use Rattle.gh_invariant.proofs.ChangesInOrder.{entries_stay}
 use Rattle.gh_invariant.proofs.Counting.{count_cons, one_false}
 use Rattle.gh_invariant.proofs.DecisionMade.{decision_made}
 use Rattle.gh_invariant.proofs.EntriesKept.{part_filled}
@@ -81,7 +81,7 @@ set_number s (one ∷ next ∷ changes) cspace slot may last is set =
     let later : IsTrue (list_any (sets_slot cspace slot) (next ∷ changes)) = or_later (sets_slot cspace slot one) _ other set in
     let rest : (word_at (changed_all (changed s one) (next ∷ changes)) cspace slot).set_at ≡ (changed s one).entries + 1 =
     set_number (changed s one) (next ∷ changes) cspace slot may.others both.1 is later in
-    rest ∙ ap (λ (n : ℕ). n + 1) (entries_stay s one)
+    rest ∙ ap (λ (n : ℕ). n + 1) (change_counts s one).entries
 
 -- an event's changes set a slot by the last of them at most
 if_last : (allowed : Bool) (changes : List Change) → IsTrue (sets_last changes) → IsTrue (sets_last (if allowed then changes else []))
