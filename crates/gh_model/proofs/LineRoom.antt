@@ -47,12 +47,11 @@ pub line_serials : (s : State) (line : BootLine) (changes : List Change) → IsF
 line_serials s line changes h is =
     omega (arith, ap (sum_by new_serials) is, (line_counts s line).serials, few_serials s h)
 
--- and there is room for such changes in any state whose counts fit 32 bits
-pub unnumbered_room : (s : State) (changes : List Change) → s.entries < 2 ^ 32 → s.rings < 2 ^ 32
-    → sum_by new_settings changes ≡ 0 → s.next_serial + sum_by new_serials changes < 2 ^ 32
-    → sum_by new_rings changes ≡ 0 → HasRoom s changes
-unnumbered_room s changes entries rings settings serials unrung = record {
-  entries = omega (arith, settings, entries);
+-- and there is room for such changes in any state
+pub unnumbered_room : (s : State) (changes : List Change) → sum_by new_settings changes ≡ 0
+    → s.next_serial + sum_by new_serials changes < 2 ^ 32 → sum_by new_rings changes ≡ 0 → HasRoom s changes
+unnumbered_room s changes settings serials unrung = record {
+  entries = omega (arith, settings);
   serials = serials;
-  rings = omega (arith, unrung, rings);
+  rings = omega (arith, unrung);
 }

@@ -1,5 +1,5 @@
 -- The room that changes need in the counts of the state, and the changes that may want memory.
-use Rattle.std.specs.Prelude.{◌+◌, ◌<◌, ◌^◌, ℕ, Bool, true, false, List, min, sum_by}
+use Rattle.std.specs.Prelude.{◌+◌, ◌-◌, ◌<◌, ◌≤◌, ◌^◌, ℕ, Bool, true, false, List, min, sum_by}
 use Rattle.gh_model.specs.declared.change.Change.{Change}
 use Rattle.gh_model.specs.declared.change.Change.TheVariants.{PutCapability, DropCapability, RevokeCapability, AddObject, AddExtent, PutMapping, PutMessage, Ring, SetPages, AddPartition, AddRoot, FillSlot, AddCpu, AddLink}
 use Rattle.gh_model.specs.declared.state.State.{State}
@@ -23,11 +23,11 @@ new_settings (RevokeCapability cspace slot) = 1
 new_settings _ = 0
 
 -- the next entry, where a change sets a slot, and the serials and rings of the changes can be
--- counted
+-- counted in 32 bits. Changes that set no slot, or don't ring, ask nothing of that count
 pub record HasRoom (s : State) (changes : List Change) : Type 0 where
-  pub entries : s.entries + min 1 (sum_by new_settings changes) < 2 ^ 32
+  pub entries : min 1 (sum_by new_settings changes) ≤ 2 ^ 32 - 1 - s.entries
   pub serials : s.next_serial + sum_by new_serials changes < 2 ^ 32
-  pub rings : s.rings + sum_by new_rings changes < 2 ^ 32
+  pub rings : sum_by new_rings changes ≤ 2 ^ 32 - 1 - s.rings
 
 -- a change that puts a row or a message, and may want memory for it
 abbrev pub takes_memory : Change → Bool

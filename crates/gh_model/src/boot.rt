@@ -118,7 +118,6 @@ fn make_unnumbered(
     requires rings { sum_by new_rings changes ≡ 0 }
     ensures { OnOk result (state.new ≡ changed_all state.old changes) }
 {
-    let _ = (state.entries, state.rings);
     make_each(alloc, state, changes)
 }
 
