@@ -1,9 +1,9 @@
 -- Events of calls that keep sound references: each changes one CPU's part and at most one count.
-use Rattle.std.proofs.Common.{◌≡◌, ◌==◌, ◌+◌, ◌-◌, ◌<◌, ◌≤◌, ◌∙◌, ℕ, true, false, [], ◌∷◌, ◌++◌, ◌⊎◌, inl, refl, subst, ap, arith, Option, Some, None, if◌then◌else◌}
+use Rattle.std.proofs.Common.{◌≡◌, ◌==◌, ◌+◌, ◌∙◌, ℕ, true, false, inl, refl, subst, ap, arith, Option, Some, None}
 use Rattle.std.specs.Prelude.{count_by, option_map}
-use Rattle.gh_core.specs.CallEvents.{MayEnter, at_stage, begun, entered, pinned}
+use Rattle.gh_core.specs.CallEvents.{MayEnter, begun, entered}
 use Rattle.gh_core.specs.Config.{AtAct, Config, Cpu, Current, DeadPin, Failed, Given, Looked, Reading, Stage, Undone, is_pin_at, put}
-use Rattle.gh_core.specs.References.{HasReferences, dead_pin}
+use Rattle.gh_core.specs.References.{HasReferences, dead_pin, grants_at, has_grant}
 use Rattle.gh_core.proofs.CpuMoves.{Moves, part_sound}
 use Rattle.gh_core.proofs.Finding.{same_number}
 
@@ -26,7 +26,19 @@ stages_apart call other stage is there apart =
     let always : (stage_number stage == stage_number stage) ≡ true = same_number (stage_number stage) in
     cc
 
+-- a call without a grant beside its pins has none
+pub no_grant : (current : Option Current) (other : Current) → has_grant current ≡ false
+    → current ≡ Some other → grants_at other.stage ≡ true → ⊥
+no_grant current other none is grants =
+    let some : has_grant current ≡ true = ap has_grant is ∙ grants in
+    cc
+
 -- Enter
+
+begun_grants : (section : ℕ) (next : Option Given)
+    → has_grant (option_map (begun section Reading) next) ≡ false
+begun_grants section None = refl
+begun_grants section (Some given) = refl
 
 -- a call that begins has no pins and no looks
 begun_pins : (section at : ℕ) (next : Option Given) (before : Option Current) → before ≡ None
@@ -57,7 +69,7 @@ module _ (conf : Config) (at : ℕ) (sound : HasReferences conf) where
     homed = λ i. inl refl;
     holding = record {
       pinned = (sound.holds at).pinned;
-      granted = λ call seen looked last. absurd (begun_reads (conf.counter at + 1) (conf.cpu at).next call Looked looked.is_current looked.at_stage refl);
+      granted = λ call seen grant last. absurd (no_grant (option_map (begun (conf.counter at + 1) Reading) (conf.cpu at).next) call (begun_grants (conf.counter at + 1) (conf.cpu at).next) grant.is_current grant.grants);
       dying = λ call seen dead last. absurd (begun_reads (conf.counter at + 1) (conf.cpu at).next call DeadPin dead.is_current dead.at_stage refl);
     };
   }

@@ -1,11 +1,11 @@
 -- A call that leaves its section keeps sound references.
-use Rattle.std.proofs.Common.{◌≡◌, ◌==◌, ◌+◌, ◌<◌, ◌≤◌, ◌∙◌, ℕ, true, false, List, [], ◌∷◌, ◌++◌, ◌⊎◌, inl, refl, subst, sym, ap, arith, Option, Some, None, slice_get}
+use Rattle.std.proofs.Common.{◌≡◌, ◌==◌, ◌+◌, ◌∙◌, ℕ, true, false, List, [], inl, refl, subst, sym, ap, arith, Option, Some, None, slice_get}
 use Rattle.std.specs.Prelude.{count_by}
 use Rattle.gh_model.specs.Marks.{Outcome, Seen}
 use Rattle.gh_core.specs.CallEvents.{MayLeave, after_leave, at_stage, left, leaves_from, with_left}
 use Rattle.gh_core.specs.Config.{AtAct, Config, Cpu, Current, DeadPin, Failed, Looked, Pin, Reading, Stage, Undone, came_to, is_pin_at, put}
-use Rattle.gh_core.specs.References.{HasReferences, HoldsSoundly, dead_pin, pin_at_stage, pins_of}
-use Rattle.gh_core.proofs.CallsKeep.{stage_number, stages_apart}
+use Rattle.gh_core.specs.References.{HasReferences, HoldsSoundly, dead_pin, has_grant, pin_at_stage, pins_of}
+use Rattle.gh_core.proofs.CallsKeep.{no_grant, stage_number, stages_apart}
 use Rattle.gh_core.proofs.CpuMoves.{Moves, part_sound}
 
 -- a call that may leave has no pin on a dead word
@@ -37,7 +37,16 @@ left_dead at cpu call Undone = refl
 left_dead at cpu call Failed = refl
 left_dead at cpu call AtAct = refl
 
-no_call : (other : Current) → None ≡ Some other → ⊥
+left_grants : (at : ℕ) (cpu : Cpu) (call : Current) (stage : Stage)
+    → has_grant (with_left at cpu call stage).current ≡ false
+left_grants at cpu call Reading = refl
+left_grants at cpu call Looked = refl
+left_grants at cpu call DeadPin = refl
+left_grants at cpu call Undone = refl
+left_grants at cpu call Failed = refl
+left_grants at cpu call AtAct = refl
+
+pub no_call : (other : Current) → None ≡ Some other → ⊥
 no_call other is = cc
 
 -- it is at its act, or has ended
@@ -68,7 +77,7 @@ module _ (conf : Config) (at : ℕ) (sound : HasReferences conf) where
   left_holds : (call : Current) → HoldsSoundly conf (with_left at (conf.cpu at) call call.stage)
   left_holds call = record {
     pinned = λ i pin is. (sound.holds at).pinned i pin (ap (λ (pins : List Pin). slice_get pins i) (sym (left_pins at (conf.cpu at) call call.stage)) ∙ is);
-    granted = λ other seen looked last. absurd (left_apart at (conf.cpu at) call other call.stage Looked looked.is_current looked.at_stage refl);
+    granted = λ other seen grant last. absurd (no_grant (with_left at (conf.cpu at) call call.stage).current other (left_grants at (conf.cpu at) call call.stage) grant.is_current grant.grants);
     dying = λ other seen dead last. absurd (left_apart at (conf.cpu at) call other call.stage DeadPin dead.is_current dead.at_stage refl);
   }
 

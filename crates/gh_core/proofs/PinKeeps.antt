@@ -1,5 +1,5 @@
 -- A pin of a call, on a word that is dead or not, keeps sound references.
-use Rattle.std.proofs.Common.{◌≡◌, ◌==◌, ◌+◌, ◌<◌, ◌≤◌, ◌∙◌, ℕ, zero, suc, Bool, true, false, List, [], ◌∷◌, ◌++◌, ◌⊎◌, inl, inr, refl, subst, sym, ap, arith, Option, Some, None, is_some, slice_get, if◌then◌else◌}
+use Rattle.std.proofs.Common.{◌≡◌, ◌==◌, ◌+◌, ◌∙◌, ℕ, zero, suc, Bool, true, false, List, [], ◌∷◌, ◌++◌, ◌⊎◌, inl, inr, refl, subst, sym, ap, arith, Option, Some, None, is_some, slice_get}
 use Rattle.std.specs.Prelude.{count_by, option_map, cond}
 use Rattle.std.specs.List.{last_or}
 use Rattle.std.proofs.lemmas.Bool.Decides.{eqb_tells, nat_tests}
@@ -7,8 +7,8 @@ use Rattle.std.proofs.lemmas.List.Sums.{sum_by-append}
 use Rattle.gh_model.specs.Marks.{Seen}
 use Rattle.gh_core.specs.CallEvents.{MayPin, at_stage, pin_of_call, pinned, with_call, with_pin}
 use Rattle.gh_core.specs.Config.{Config, Cpu, Current, DeadPin, Looked, Pin, Reading, Stage, is_pin_at, object_at, pin_of, present, put, seen_index}
-use Rattle.gh_core.specs.References.{HasReferences, IsGranted, IsPinned, dead_pin, pins_of}
-use Rattle.gh_core.proofs.CallsKeep.{stage_number, stages_apart}
+use Rattle.gh_core.specs.References.{HasGrant, HasReferences, IsGranted, IsPinned, dead_pin, grants_at, pins_of}
+use Rattle.gh_core.proofs.CallsKeep.{no_grant, stage_number, stages_apart}
 use Rattle.gh_core.proofs.CpuMoves.{Moves, part_sound}
 use Rattle.gh_core.proofs.Finding.{put_other}
 
@@ -39,12 +39,26 @@ staged_apart (Some call) other stage wanted is there apart =
 looked_pins : (call : Current) (stage : Stage) → call.stage ≡ Looked → dead_pin (Some call) ≡ []
 looked_pins call stage is = rw is refl
 
-stands_in : (pins : List Pin) (new pin : Pin) (i : ℕ) → slice_get (pins ++ new ∷ []) i ≡ Some pin
-    → ((slice_get pins i ≡ Some pin) ⊎ (new ≡ pin))
-stands_in [] new pin zero is = inr cc
-stands_in [] new pin (suc i) is = let never : None ≡ Some pin = is in absurd (let no_more : ⊥ = cc in no_more)
-stands_in (first ∷ pins) new pin zero is = inl is
-stands_in (first ∷ pins) new pin (suc i) is = stands_in pins new pin i is
+-- an item of a list with one more is one of the list or the new one
+pub stands_in : {X : Type 0} (items : List X) (new item : X) (i : ℕ)
+    → slice_get (items ++ new ∷ []) i ≡ Some item
+    → ((slice_get items i ≡ Some item) ⊎ (new ≡ item))
+stands_in [] new item zero is = inr cc
+stands_in [] new item (suc i) is = let never : None ≡ Some item = is in absurd (let no_more : ⊥ = cc in no_more)
+stands_in (first ∷ items) new item zero is = inl is
+stands_in (first ∷ items) new item (suc i) is = stands_in items new item i is
+
+-- a call at another stage has the same last look
+pub same_last : (current : Option Current) (call other : Current) (stage : Stage) (first seen : Seen)
+    → current ≡ Some call → last_or None call.seen ≡ Some first
+    → option_map (at_stage stage) current ≡ Some other → last_or None other.seen ≡ Some seen
+    → first ≡ seen
+same_last current call other stage first seen is is_last there last =
+    let made : Some (at_stage stage call) ≡ Some other = ap (option_map (at_stage stage)) (sym is) ∙ there in
+    let same : at_stage stage call ≡ other = cc in
+    let looks : call.seen ≡ other.seen = ap (λ (one : Current). one.seen) same in
+    let both : Some first ≡ Some seen = sym is_last ∙ (ap (λ (one : List Seen). last_or None one) looks ∙ last) in
+    cc
 
 module _ (conf : Config) (at object : ℕ) (sound : HasReferences conf) (may : MayPin conf at object)
   where
@@ -57,6 +71,15 @@ module _ (conf : Config) (at object : ℕ) (sound : HasReferences conf) (may : M
     no_old : (i : ℕ) → count_by (is_pin_at i) (dead_pin (conf.cpu at).current) ≡ 0
     no_old i =
         ap (λ (pins : List Pin). count_by (is_pin_at i) pins) (ap dead_pin may.is_looked.is_current ∙ looked_pins may.call Looked may.is_looked.at_stage)
+
+    is_grant : HasGrant (conf.cpu at) may.call
+    is_grant = record {
+      is_current = may.is_looked.is_current;
+      grants = ap grants_at may.is_looked.at_stage;
+    }
+
+    grant : IsGranted conf may.granted.seen
+    grant = (sound.holds at).granted may.call may.granted.seen is_grant last_is
 
     -- on a dead word
     dead_new : dead_pin (option_map (at_stage DeadPin) (conf.cpu at).current)
@@ -82,12 +105,7 @@ module _ (conf : Config) (at object : ℕ) (sound : HasReferences conf) (may : M
         → option_map (at_stage DeadPin) (conf.cpu at).current ≡ Some other
         → last_or None other.seen ≡ Some seen → conf.dead (seen_index seen) ≡ true
     dying_there other seen dead is last =
-        let current : (conf.cpu at).current ≡ Some may.call = may.is_looked.is_current in
-        let made : Some (at_stage DeadPin may.call) ≡ Some other = ap (option_map (at_stage DeadPin)) (sym current) ∙ is in
-        let same : at_stage DeadPin may.call ≡ other = cc in
-        let looks : may.call.seen ≡ other.seen = ap (λ (one : Current). one.seen) same in
-        let first : Some may.granted.seen ≡ Some seen = sym last_is ∙ (ap (λ (one : List Seen). last_or None one) looks ∙ last) in
-        let equal : may.granted.seen ≡ seen = cc in
+        let equal : may.granted.seen ≡ seen = same_last (conf.cpu at).current may.call other DeadPin may.granted.seen seen may.is_looked.is_current last_is is last in
         subst (λ (n : ℕ). conf.dead n ≡ true) (sym may.granted.index_is ∙ ap seen_index equal) dead
 
     dead_moves : conf.dead object ≡ true
@@ -98,7 +116,7 @@ module _ (conf : Config) (at object : ℕ) (sound : HasReferences conf) (may : M
       homed = λ i. homed_by i (inr dead);
       holding = record {
         pinned = (sound.holds at).pinned;
-        granted = λ other seen looked last. absurd (staged_apart (conf.cpu at).current other DeadPin Looked looked.is_current looked.at_stage refl);
+        granted = λ other seen now last. subst (λ (one : Seen). IsGranted conf one) (same_last (conf.cpu at).current may.call other DeadPin may.granted.seen seen may.is_looked.is_current last_is now.is_current last) grant;
         dying = λ other seen there last. dying_there other seen dead there.is_current last;
       };
     }
@@ -120,9 +138,6 @@ module _ (conf : Config) (at object : ℕ) (sound : HasReferences conf) (may : M
         let split : count_by (is_pin_at i) ((conf.cpu at).pins ++ pin_of_call (conf.cpu at).current) ≡ count_by (is_pin_at i) (conf.cpu at).pins + count_by (is_pin_at i) (pin_of_call (conf.cpu at).current) = sum_by-append (λ (pin : Pin). cond (is_pin_at i pin) 1 0) (conf.cpu at).pins (pin_of_call (conf.cpu at).current) in
         let new : count_by (is_pin_at i) (pin_of_call (conf.cpu at).current) ≡ count_by (is_pin_at i) (pin_of may.granted.seen ∷ []) = ap (λ (pins : List Pin). count_by (is_pin_at i) pins) call_pin in
         omega (arith, none, split, new, no_old i, pin_counts conf.count object i (pin_of may.granted.seen) may.granted.index_is)
-
-    grant : IsGranted conf may.granted.seen
-    grant = (sound.holds at).granted may.call may.granted.seen may.is_looked last_is
 
     new_pinned : conf.dead object ≡ false → IsPinned conf (pin_of may.granted.seen)
     new_pinned alive = record {
@@ -157,7 +172,7 @@ module _ (conf : Config) (at object : ℕ) (sound : HasReferences conf) (may : M
       homed = λ i. homed_by i (inl home_there);
       holding = record {
         pinned = live_pinned alive;
-        granted = λ other seen looked last. absurd (staged_apart (conf.cpu at).current other Reading Looked looked.is_current looked.at_stage refl);
+        granted = λ other seen now last. absurd (no_grant (option_map (at_stage Reading) (conf.cpu at).current) other (rw may.is_looked.is_current refl) now.is_current now.grants);
         dying = λ other seen dead last. absurd (staged_apart (conf.cpu at).current other Reading DeadPin dead.is_current dead.at_stage refl);
       };
     }

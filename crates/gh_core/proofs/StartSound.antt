@@ -45,7 +45,7 @@ module _ (boot : State) (index : ℕ → ℕ) (indices : AreIndices boot index) 
       ap (λ (serial : ℕ). references boot serial) (stands_alone row found is there)
 
   -- the word at an object's index is its references
-  counted_there : (row : ObjectRow) → IsRow boot row
+  pub counted_there : (row : ObjectRow) → IsRow boot row
       → references_at boot index (index row.serial.0) ≡ references boot row.serial.0
   counted_there row is =
       counts_by row (object_at boot index (index row.serial.0)) is refl (stands row is)

@@ -1,8 +1,9 @@
 -- Events that change only what the holder keeps, and no amount that is owed, keep sound references.
-use Rattle.std.proofs.Common.{◌≡◌, ◌==◌, ◌+◌, ◌<◌, ◌≤◌, ◌∙◌, ℕ, true, false, [], ◌∷◌, ◌⊎◌, inl, inr, refl, subst, sym, ap, arith, Option, Some, None}
+use Rattle.std.proofs.Common.{◌≡◌, ◌<◌, ◌∙◌, ℕ, true, false, List, inl, inr, refl, subst, sym, ap, arith, Option, Some, None}
 use Rattle.std.specs.Prelude.{option_map}
 use Rattle.std.specs.List.{list_any}
-use Rattle.gh_core.specs.Config.{Config, Cpu, Holder, has_acted, object_at, present}
+use Rattle.gh_model.specs.declared.entry.Entry.{Entry}
+use Rattle.gh_core.specs.Config.{Config, Cpu, Holder, has_acted, is_acted, object_at, present}
 use Rattle.gh_core.specs.Entries.{is_that_index}
 use Rattle.gh_core.specs.References.{AreCounted, ArePlaced, HasHome, HasReferences, HoldsSoundly, IsGranted, IsPinned, is_revived, owed_at}
 use Rattle.gh_core.specs.HolderEvents.{scanned, with_scan}
@@ -70,27 +71,34 @@ module _ (conf : Config) (turn : Option Holder) (stays : TurnStays conf turn)
 
 -- Scan
 
-scan_stays : (conf : Config) (of counter : ℕ) (turn : Option Holder) → conf.turn ≡ turn
-    → HasReferences conf → TurnStays conf (option_map (with_scan of counter) turn)
-scan_stays conf of counter None is sound = record {
+-- what a change of the holder leaves as it was: what is owed, the revived indices and the entries
+pub record KeepsOwed (before behind : Holder) : Type 0 where
+  pub owed : behind.owed ≡ before.owed
+  pub revived : behind.revived ≡ before.revived
+  pub entries : behind.entries ≡ before.entries
+
+pub keeps_stays : (conf : Config) (change : Holder → Holder)
+    → ((holder : Holder) → KeepsOwed holder (change holder)) → (turn : Option Holder)
+    → conf.turn ≡ turn → HasReferences conf → TurnStays conf (option_map change turn)
+keeps_stays conf change keeps None is sound = record {
   owed = λ i. rw is refl;
   revived = λ i revived some. subst (λ (one : Option Holder). is_revived one i ≡ true) is revived;
   fresh = λ holder i held acted revived. absurd (let never : ⊥ = cc in never);
 }
-scan_stays conf of counter (Some before) is sound = record {
-  owed = λ i. rw is refl;
-  revived = λ i revived some. subst (λ (one : Option Holder). is_revived one i ≡ true) is revived;
-  fresh = λ holder i held acted revived. let same : with_scan of counter before ≡ holder = cc in sound.placed.fresh before i is (ap has_acted same ∙ acted) (ap (λ (one : Holder). list_any (is_that_index i) one.revived) same ∙ revived);
+keeps_stays conf change keeps (Some before) is sound = record {
+  owed = λ i. ap (λ (amounts : ℕ → ℕ). amounts i) (keeps before).owed ∙ sym (ap (λ (one : Option Holder). owed_at one i) is);
+  revived = λ i revived some. ap (λ (list : List ℕ). list_any (is_that_index i) list) (keeps before).revived ∙ subst (λ (one : Option Holder). is_revived one i ≡ true) is revived;
+  fresh = λ holder i held acted revived. let same : change before ≡ holder = cc in let entries : before.entries ≡ holder.entries = sym (keeps before).entries ∙ ap (λ (one : Holder). one.entries) same in let indices : before.revived ≡ holder.revived = sym (keeps before).revived ∙ ap (λ (one : Holder). one.revived) same in sound.placed.fresh before i is (ap (λ (list : List Entry). list_any is_acted list) entries ∙ acted) (ap (λ (list : List ℕ). list_any (is_that_index i) list) indices ∙ revived);
 }
 
 -- a scan keeps sound references
 pub scan_keeps : (conf : Config) (of : ℕ) → HasReferences conf → HasReferences (scanned conf of)
 scan_keeps conf of sound =
-    turn_sound conf (option_map (with_scan of (conf.counter of)) conf.turn) (scan_stays conf of (conf.counter of) conf.turn refl sound) sound
+    turn_sound conf (option_map (with_scan of (conf.counter of)) conf.turn) (keeps_stays conf (with_scan of (conf.counter of)) (λ holder. record { owed = refl; revived = refl; entries = refl }) conf.turn refl sound) sound
 
 -- Free before the act
 
-quit_owed : (conf : Config) (holder : Holder) (i : ℕ) → conf.turn ≡ Some holder
+pub quit_owed : (conf : Config) (holder : Holder) (i : ℕ) → conf.turn ≡ Some holder
     → holder.owed i ≡ 0 → owed_at conf.turn i ≡ 0
 quit_owed conf holder i is none =
     ap (λ (one : Option Holder). owed_at one i) is ∙ none

@@ -6,11 +6,11 @@ use Rattle.std.proofs.lemmas.Bool.Decides.{eqb_tells, nat_tests}
 use Rattle.gh_base.specs.declared.limits.TheConstants.{CPUS}
 use Rattle.gh_model.specs.Marks.{Seen}
 use Rattle.gh_core.specs.CallEvents.{MayUndo, at_stage, undone, with_call}
-use Rattle.gh_core.specs.Config.{Config, Current, DeadPin, Looked, Pin, Undone, is_pin_at, object_at, pin_of, present, put, seen_index}
-use Rattle.gh_core.specs.References.{HasReferences, dead_pin, pins_at, pins_of, total}
+use Rattle.gh_core.specs.Config.{Config, Current, DeadPin, Pin, Undone, is_pin_at, object_at, pin_of, present, put, seen_index}
+use Rattle.gh_core.specs.References.{HasGrant, HasReferences, IsGranted, dead_pin, grants_at, pins_at, pins_of, total}
 use Rattle.gh_core.proofs.CpuMoves.{Moves, part_sound}
 use Rattle.gh_core.proofs.Finding.{put_other}
-use Rattle.gh_core.proofs.PinKeeps.{counts_hit, counts_miss, staged_apart}
+use Rattle.gh_core.proofs.PinKeeps.{counts_hit, counts_miss, same_last, staged_apart}
 
 module _ (amount : ℕ → ℕ) (at : ℕ) where
   within_by : (k : ℕ) → at < suc k → (k ≡ at) ⊎ ((k == at) ≡ false)
@@ -53,6 +53,15 @@ module _ (conf : Config) (at object : ℕ) (sound : HasReferences conf) (may : M
     staged_pins : (call : Current) (seen : Seen) → call.stage ≡ DeadPin
         → last_or None call.seen ≡ Some seen → dead_pin (Some call) ≡ pin_of seen ∷ []
     staged_pins call seen is last = rw is (rw last refl)
+
+    is_grant : HasGrant (conf.cpu at) may.call
+    is_grant = record {
+      is_current = may.dead.is_current;
+      grants = ap grants_at may.dead.at_stage;
+    }
+
+    grant : IsGranted conf may.granted.seen
+    grant = (sound.holds at).granted may.call may.granted.seen is_grant undo_last
 
     old_pin : dead_pin (conf.cpu at).current ≡ pin_of may.granted.seen ∷ []
     old_pin =
@@ -98,7 +107,7 @@ module _ (conf : Config) (at object : ℕ) (sound : HasReferences conf) (may : M
       homed = undo_homed;
       holding = record {
         pinned = (sound.holds at).pinned;
-        granted = λ other seen looked last. absurd (staged_apart (conf.cpu at).current other Undone Looked looked.is_current looked.at_stage refl);
+        granted = λ other seen now last. subst (λ (one : Seen). IsGranted conf one) (same_last (conf.cpu at).current may.call other Undone may.granted.seen seen may.dead.is_current undo_last now.is_current last) grant;
         dying = λ other seen dead last. absurd (staged_apart (conf.cpu at).current other Undone DeadPin dead.is_current dead.at_stage refl);
       };
     }

@@ -1,5 +1,5 @@
 -- Sound references: what each reference word counts, where dead words are, and what is pinned.
-use Rattle.std.specs.Prelude.{◌≡◌, ◌≢◌, ◌+◌, ◌<◌, ◌≤◌, ◌^◌, ◌⊎◌, ℕ, zero, suc, Bool, true, false, List, [], ◌∷◌, Option, Some, None, count_by, find, is_some, slice_get}
+use Rattle.std.specs.Prelude.{◌≡◌, ◌+◌, ◌<◌, ◌≤◌, ◌^◌, ◌⊎◌, ℕ, zero, suc, Bool, true, false, List, [], Option, Some, None, count_by, find, is_some, slice_get}
 use Rattle.std.specs.List.{last_or, list_any}
 use Rattle.std.specs.Option.{option_map_or}
 use Rattle.gh_base.specs.declared.limits.TheConstants.{CPUS, OBJECT_INDICES}
@@ -83,11 +83,30 @@ pub record IsGranted (conf : Config) (seen : Seen) : Type 0 where
   pub lives_there : object_at (present conf) conf.index (seen_index seen) ≡ Some row
   pub is_that : row.serial.0 ≡ (granted seen.word).0
 
--- what one CPU holds: each pin is on the object that its look granted; a grant that has no pin yet
--- is of a live object; and a pin on a dead word is on one that is dead
+-- a call at this stage is in its open section, and its last look is a grant beside its pins: one
+-- without a pin, or one whose pin is on a dead word or undone
+abbrev pub grants_at : Stage → Bool
+grants_at Reading = false
+grants_at Looked = true
+grants_at DeadPin = true
+grants_at Undone = true
+grants_at Failed = false
+grants_at AtAct = false
+
+abbrev pub has_grant : Option Current → Bool
+has_grant None = false
+has_grant (Some call) = grants_at call.stage
+
+-- the call in progress has such a grant
+pub record HasGrant (cpu : Cpu) (call : Current) : Type 0 where
+  pub is_current : cpu.current ≡ Some call
+  pub grants : grants_at call.stage ≡ true
+
+-- what one CPU holds: each pin is on the object that its look granted; a grant beside the pins is
+-- of a live object; and a pin on a dead word is on one that is dead
 pub record HoldsSoundly (conf : Config) (cpu : Cpu) : Type 0 where
   pub pinned : (i : ℕ) (pin : Pin) → slice_get cpu.pins i ≡ Some pin → IsPinned conf pin
-  pub granted : (call : Current) (seen : Seen) → IsIn cpu call Looked
+  pub granted : (call : Current) (seen : Seen) → HasGrant cpu call
       → last_or None call.seen ≡ Some seen → IsGranted conf seen
   pub dying : (call : Current) (seen : Seen) → IsIn cpu call DeadPin
       → last_or None call.seen ≡ Some seen → conf.dead (seen_index seen) ≡ true

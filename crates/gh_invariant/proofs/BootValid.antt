@@ -1,5 +1,5 @@
 -- The changes of a boot file may be made, and make its state of nothing, which is valid.
-use Rattle.std.proofs.Common.{◌≡◌, ◌+◌, ◌≤◌, ◌<◌, ◌&&◌, ◌++◌, ◌∙◌, ℕ, true, List, [], ◌∷◌, length, refl, subst, sym, ap, arith, IsTrue, fold, nat_le}
+use Rattle.std.proofs.Common.{◌≡◌, ◌+◌, ◌≤◌, ◌<◌, ◌&&◌, ◌++◌, ◌∙◌, ℕ, true, false, Option, Some, None, find, is_some, List, [], ◌∷◌, length, refl, subst, arith, IsTrue, fold, nat_le}
 use Rattle.std.specs.Prelude.{count_by}
 use Rattle.std.proofs.lemmas.Bool.{and_parts, leb-true}
 use Rattle.std.proofs.lemmas.List.{length-replicate}
@@ -8,25 +8,26 @@ use Rattle.gh_base.specs.declared.limits.TheConstants.{MACHINE_PAGES}
 use Rattle.gh_model.specs.Boot.{after_line, boot_fits, boot_state, changes_of_line, empty_state, first_page, is_complete, is_master_of, is_row_of, line_fits, lines_fit, serial_of}
 use Rattle.gh_model.specs.Changes.{changed, changed_all}
 use Rattle.gh_model.specs.Fitting.{IsNumbered}
-use Rattle.gh_model.specs.References.{references}
-use Rattle.gh_model.specs.Rows.{fills, is_cpu, is_extent, is_object, tells_setting}
-use Rattle.gh_model.specs.Units.{given_by, given_units, used_by, used_units}
+use Rattle.gh_model.specs.History.{is_retired}
+use Rattle.gh_model.specs.Rows.{cpu_row, fills, is_cpu, is_extent, is_object, object_row, tells_setting}
+use Rattle.gh_model.specs.Units.{given_by, used_by}
 use Rattle.gh_model.specs.declared.boot_line.BootLine.{BootLine}
 use Rattle.gh_model.specs.declared.boot_line.BootLine.TheVariants.{Pages, Partition, Cspace, Addrspace, Doorbell, RootExtent, Extent, Msgqueue, Map, Cap, Vm, Rm, Link}
 use Rattle.gh_model.specs.declared.change.Change.{Change}
+use Rattle.gh_model.specs.declared.rows.CpuRow.{CpuRow}
 use Rattle.gh_model.specs.declared.state.State.{State}
 use Rattle.gh_model.proofs.CpuRows.{empty_numbered, line_numbered}
 use Rattle.gh_model.proofs.FittingLemmas.{moved_pages}
 use Rattle.gh_model.proofs.RunLaw.{IsFresh, boot_fresh, line_fresh}
 use Rattle.gh_invariant.specs.BootChanges.{boot_changes, changes_of_lines}
-use Rattle.gh_invariant.specs.Effects.{gained, losses, lost, returns, returns_all, takes_all, times, units_of}
+use Rattle.gh_invariant.specs.Grants as grants
 use Rattle.gh_invariant.specs.Lives.{is_parentless}
-use Rattle.gh_invariant.specs.Premises.{MayChangeAll, Together}
+use Rattle.gh_invariant.specs.Premises.{MayChangeAll}
 use Rattle.gh_invariant.specs.Valid.{IsValid, IsValidTo}
 use Rattle.gh_invariant.proofs.BootObjects.{NoneRetired, bell_may, cspace_may, extent_may, partition_may, queue_may, root_may, space_may, unretired_beside}
 use Rattle.gh_invariant.proofs.BootRows.{AllRunning, cap_may, is_running, link_may, map_may, rm_may, vm_may}
-use Rattle.gh_invariant.proofs.ChangesInOrder.{references_all, units_all, valid_all}
-use Rattle.gh_invariant.proofs.Counting.{all_push}
+use Rattle.gh_invariant.proofs.ChangesInOrder.{valid_all}
+use Rattle.gh_invariant.proofs.Counting.{all_push, found_all}
 use Rattle.gh_invariant.proofs.EntriesKept.{valid_unset}
 
 -- behind lines that fit: a valid state, whose CPUs are numbered and run, with no object retired
@@ -157,7 +158,7 @@ lines_may s (line ∷ lines) fit booted =
     (lines_may (after_line s line) lines parts.1 (line_booted s line parts.0 booted))
 
 -- nothing at all
-empty_valid : IsValidTo 1 empty_state
+pub empty_valid : IsValidTo 1 empty_state
 empty_valid = record {
   objects = record {
     some = omega arith;
@@ -226,11 +227,15 @@ pages_booted count some few = record {
   pages = omega (arith, length-replicate count (serial_of 0));
 }
 
--- the changes of a boot file may be made
-pub boot_may : (lines : List BootLine) → IsTrue (boot_fits lines)
-    → MayChangeAll empty_state (boot_changes lines)
-boot_may [] fit = absurd (let never : ⊥ = cc in never)
-boot_may (Pages count ∷ lines) fit =
+-- a boot file that fits: some pages, not too many, and lines that fit behind them
+record HasParts (count : ℕ) (lines : List BootLine) : Type 0 where
+  pub some : 1 ≤ count
+  pub few : count ≤ MACHINE_PAGES
+  pub fit : IsTrue (lines_fit (after_line empty_state (Pages count)) lines)
+
+boot_parts : (count : ℕ) (lines : List BootLine) → IsTrue (boot_fits (Pages count ∷ lines))
+    → HasParts count lines
+boot_parts count lines fit =
     let last = and_parts _
     (is_complete (fold after_line (after_line empty_state (Pages count)) lines)) fit in
     let first =
@@ -238,11 +243,22 @@ boot_may (Pages count ∷ lines) fit =
     (lines_fit (after_line empty_state (Pages count)) lines) last.0 in
     let bounds : (nat_le 1 count ≡ true) × (nat_le count MACHINE_PAGES ≡ true) =
     and_parts _ _ first.0 in
+    record {
+      some = leb-true 1 count bounds.0;
+      few = leb-true count MACHINE_PAGES bounds.1;
+      fit = first.1;
+    }
+
+-- the changes of a boot file may be made
+pub boot_may : (lines : List BootLine) → IsTrue (boot_fits lines)
+    → MayChangeAll empty_state (boot_changes lines)
+boot_may [] fit = absurd (let never : ⊥ = cc in never)
+boot_may (Pages count ∷ lines) fit =
+    let parts : HasParts count lines = boot_parts count lines fit in
     may_append empty_state (changes_of_line empty_state (Pages count))
-    (changes_of_lines (after_line empty_state (Pages count)) lines)
-    (pages_may count (leb-true count MACHINE_PAGES bounds.1))
-    (lines_may (after_line empty_state (Pages count)) lines first.1
-    (pages_booted count (leb-true 1 count bounds.0) (leb-true count MACHINE_PAGES bounds.1)))
+    (changes_of_lines (after_line empty_state (Pages count)) lines) (pages_may count parts.few)
+    (lines_may (after_line empty_state (Pages count)) lines parts.fit
+    (pages_booted count parts.some parts.few))
 boot_may (_ ∷ lines) fit = absurd (let never : ⊥ = cc in never)
 
 -- they make its state
@@ -265,115 +281,36 @@ boot_valid lines fit =
     (valid_all 1 empty_state (boot_changes lines) (omega arith) empty_valid (boot_may lines fit)) in
     valid_unset 1 (boot_state lines).entries (boot_state lines) (boot_fresh lines).unset made
 
--- no line takes a reference or returns units
+-- what lines that fit keep
+lines_booted : (s : State) (lines : List BootLine) → IsTrue (lines_fit s lines) → IsBooted s
+    → IsBooted (fold after_line s lines)
+lines_booted s [] fit booted = booted
+lines_booted s (line ∷ lines) fit booted =
+    let parts : (line_fits s line ≡ true) × (lines_fit (after_line s line) lines ≡ true) =
+    and_parts (line_fits s line) (lines_fit (after_line s line) lines) fit in
+    lines_booted (after_line s line) lines parts.1 (line_booted s line parts.0 booted)
 
-record TakesNothing (s : State) (change : Change) : Type 0 where
-  references : losses s change ≡ []
-  units : returns s change ≡ []
+boot_booted : (lines : List BootLine) → IsTrue (boot_fits lines) → IsBooted (boot_state lines)
+boot_booted [] fit = absurd (let never : ⊥ = cc in never)
+boot_booted (Pages count ∷ lines) fit =
+    let parts : HasParts count lines = boot_parts count lines fit in
+    lines_booted (after_line empty_state (Pages count)) lines parts.fit
+    (pages_booted count parts.some parts.few)
+boot_booted (_ ∷ lines) fit = absurd (let never : ⊥ = cc in never)
 
-abbrev TakesNone : State → List Change → Type 0
-TakesNone s [] = ⊤
-TakesNone s (change ∷ changes) =
-    Together (TakesNothing s change) (TakesNone (changed s change) changes)
+running_by : (cpu : ℕ) (s : State) (found : Option CpuRow) → find (is_cpu cpu) s.cpus ≡ found
+    → AllRunning s → is_some found ≡ true → grants.is_running found ≡ true
+running_by cpu s None is all there = absurd (let never : ⊥ = cc in never)
+running_by cpu s (Some row) is all there = found_all (is_cpu cpu) is_running s.cpus row all is
 
-one_takes : (s : State) (change : Change) → TakesNothing s change → TakesNone s (change ∷ [])
-one_takes s change none = record { first = none; others = tt }
+-- in it no object is retired, and no CPU has exited
+pub boot_unretired : (lines : List BootLine) (object : ℕ) → IsTrue (boot_fits lines)
+    → is_retired (object_row (boot_state lines) object) ≡ false
+boot_unretired lines object fit = (boot_booted lines fit).fresh object
 
-two_take : (s : State) (first second : Change) → TakesNothing s first
-    → TakesNothing (changed s first) second → TakesNone s (first ∷ second ∷ [])
-two_take s first second none also = record { first = none; others = record { first = also; others = tt } }
-
-three_take : (s : State) (first second third : Change) → TakesNothing s first
-    → TakesNothing (changed s first) second → TakesNothing (changed (changed s first) second) third
-    → TakesNone s (first ∷ second ∷ third ∷ [])
-three_take s first second third none also last =
-    record { first = none; others = record { first = also; others = record { first = last; others = tt } } }
-
-line_takes : (s : State) (line : BootLine) → TakesNone s (changes_of_line s line)
-line_takes s (Pages count) = one_takes s _ (record { references = refl; units = refl })
-line_takes s (Partition quota) = one_takes s _ (record { references = refl; units = refl })
-line_takes s (Cspace partition) = one_takes s _ (record { references = refl; units = refl })
-line_takes s (Addrspace partition) = one_takes s _ (record { references = refl; units = refl })
-line_takes s (Doorbell partition) = one_takes s _ (record { references = refl; units = refl })
-line_takes s (RootExtent partition) =
-    two_take s _ _ (record { references = refl; units = refl })
-    (record { references = refl; units = refl })
-line_takes s (Extent partition parent offset count access held_offset held_count) =
-    three_take s _ _ _ (record { references = refl; units = refl })
-    (record { references = refl; units = refl }) (record { references = refl; units = refl })
-line_takes s (Msgqueue partition depth size) =
-    two_take s _ _ (record { references = refl; units = refl })
-    (record { references = refl; units = refl })
-line_takes s (Map space extent base offset count access) =
-    one_takes s _ (record { references = refl; units = refl })
-line_takes s (Cap cspace slot object rights master) =
-    one_takes s _ (record { references = refl; units = refl })
-line_takes s (Vm cspace space) = one_takes s _ (record { references = refl; units = refl })
-line_takes s (Rm cspace space partition) =
-    two_take s _ _ (record { references = refl; units = refl })
-    (record { references = refl; units = refl })
-line_takes s (Link vm extent request reply) =
-    three_take s _ _ _ (record { references = refl; units = refl })
-    (record { references = refl; units = refl }) (record { references = refl; units = refl })
-
-none_append : (s : State) (changes others : List Change) → TakesNone s changes
-    → TakesNone (changed_all s changes) others → TakesNone s (changes ++ others)
-none_append s [] others none later = later
-none_append s (change ∷ changes) others none later =
-    record { first = none.first; others = none_append (changed s change) changes others none.others later }
-
-lines_take : (s : State) (lines : List BootLine) → TakesNone s (changes_of_lines s lines)
-lines_take s [] = tt
-lines_take s (line ∷ lines) =
-    none_append s (changes_of_line s line) (changes_of_lines (after_line s line) lines)
-    (line_takes s line) (lines_take (after_line s line) lines)
-
-none_lost : (s : State) (changes : List Change) → TakesNone s changes → lost s changes ≡ []
-none_lost s [] none = refl
-none_lost s (change ∷ changes) none =
-    rw none.first.references (none_lost (changed s change) changes none.others)
-
-none_returned : (s : State) (changes : List Change) → TakesNone s changes
-    → returns_all s changes ≡ []
-none_returned s [] none = refl
-none_returned s (change ∷ changes) none =
-    rw none.first.units (none_returned (changed s change) changes none.others)
-
--- an object's references are those that the lines give it
-pub boot_refers : (lines : List BootLine) (object : ℕ) → IsTrue (boot_fits lines) → 0 < object
-    → references (boot_state lines) object ≡ times object (gained empty_state (boot_changes lines))
-boot_refers lines object fit some =
-    let made : references (changed_all empty_state (boot_changes lines)) object
-    ≡ references (boot_state lines) object =
-    ap (λ (s : State). references s object) (boot_makes lines) in
-    let none : times object (lost empty_state (boot_changes lines)) ≡ 0 =
-    ap (times object)
-    (none_lost empty_state (boot_changes lines) (lines_take empty_state lines)) in
-    let nothing : references empty_state object ≡ 0 = refl in
-    omega (
-      arith,
-      references_all 1 empty_state (boot_changes lines) object some (omega arith) empty_valid
-          (boot_may lines fit),
-    )
-
--- and a partition's units are those that they take from it
-pub boot_takes : (lines : List BootLine) (partition : ℕ) → IsTrue (boot_fits lines)
-    → used_units (boot_state lines) partition + given_units (boot_state lines) partition
-    ≡ units_of partition (takes_all empty_state (boot_changes lines))
-boot_takes lines partition fit =
-    let used : used_units (changed_all empty_state (boot_changes lines)) partition
-    ≡ used_units (boot_state lines) partition =
-    ap (λ (s : State). used_units s partition) (boot_makes lines) in
-    let given : given_units (changed_all empty_state (boot_changes lines)) partition
-    ≡ given_units (boot_state lines) partition =
-    ap (λ (s : State). given_units s partition) (boot_makes lines) in
-    let none : units_of partition (returns_all empty_state (boot_changes lines)) ≡ 0 =
-    ap (units_of partition)
-    (none_returned empty_state (boot_changes lines) (lines_take empty_state lines)) in
-    let unused : used_units empty_state partition ≡ 0 = refl in
-    let ungiven : given_units empty_state partition ≡ 0 = refl in
-    omega (
-      arith,
-      units_all 1 empty_state (boot_changes lines) partition (omega arith) empty_valid
-          (boot_may lines fit),
-    )
+pub boot_running : (lines : List BootLine) (cpu : ℕ) → IsTrue (boot_fits lines)
+    → is_some (cpu_row (boot_state lines) cpu) ≡ true
+    → grants.is_running (cpu_row (boot_state lines) cpu) ≡ true
+boot_running lines cpu fit there =
+    running_by cpu (boot_state lines) (cpu_row (boot_state lines) cpu) refl
+    (boot_booted lines fit).running there

@@ -38,7 +38,7 @@ use Rattle.gh_invariant.proofs.NotLiving.{not_living}
 use Rattle.gh_invariant.proofs.SlotsFit.{slot_parts}
 
 -- kinds stay over events
-replay_kind : (s : State) (events : List Event) (object : ℕ) → IsValid s → EventsFit s events → object < s.next_serial
+pub replay_kind : (s : State) (events : List Event) (object : ℕ) → IsValid s → EventsFit s events → object < s.next_serial
     → KindStays s.objects (replay s events).objects object
 replay_kind s [] object valid fits made = inr refl
 replay_kind s (event ∷ events) object valid fits made =

@@ -61,7 +61,7 @@ fits_front zero s events fits = tt
 fits_front (suc n) s [] fits = tt
 fits_front (suc n) s (event ∷ events) fits = record { first = fits.first; others = fits_front n (after_event s event) events fits.others }
 
-replay_valid : (s : State) (events : List Event) → IsValid s → EventsFit s events → IsValid (replay s events)
+pub replay_valid : (s : State) (events : List Event) → IsValid s → EventsFit s events → IsValid (replay s events)
 replay_valid s [] valid fits = valid
 replay_valid s (event ∷ events) valid fits =
     replay_valid (after_event s event) events (event_valid s event valid fits.first) fits.others

@@ -95,7 +95,7 @@ then_kind old middle new object first (inl gone) = inl gone
 then_kind old middle new object (inl gone) (inr same) = inl (same ∙ gone)
 then_kind old middle new object (inr was) (inr same) = inr (same ∙ was)
 
-changes_kind : (s : State) (changes : List Change) (object : ℕ) → object < s.next_serial → MayChangeAll s changes
+pub changes_kind : (s : State) (changes : List Change) (object : ℕ) → object < s.next_serial → MayChangeAll s changes
     → KindStays s.objects (changed_all s changes).objects object
 changes_kind s [] object made may = inr refl
 changes_kind s (one ∷ others) object made may =
@@ -121,7 +121,7 @@ one_objects : (s new : State) (allowed : Bool) (one : Change) → new.objects �
 one_objects s new true one same = same
 one_objects s new false one same = refl
 
-entry_objects : (s : State) (event : Event) (entry : Entry) → (after_entry s event entry).objects ≡ (changed_all s (entry_changes s event entry)).objects
+pub entry_objects : (s : State) (event : Event) (entry : Entry) → (after_entry s event entry).objects ≡ (changed_all s (entry_changes s event entry)).objects
 entry_objects s event (Acted cpu number) = acted_objects s (may_act s cpu.0 event.call event.words) (judged_by s cpu.0 event)
 entry_objects s event (Part cpu number space n) =
     one_objects s (numbered (took (changed s (change.RevokeCapability space n)) space n)) (may_part (find (fills space.0 n) s.caps)) (change.RevokeCapability space n) refl

@@ -1,3 +1,4 @@
+pub mod BootGains
 pub mod BootObjects
 pub mod BootRows
 pub mod BootValid
@@ -56,3 +57,4 @@ pub mod UnitsMoved
 pub mod UnitsOfChange
 pub mod ValidKept
 pub mod WordsLeft
+pub mod WordsSince

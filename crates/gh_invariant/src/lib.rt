@@ -15,7 +15,8 @@ mod validity;
 mod words;
 
 pub use boot::{
-    boot_changes_make_boot, boot_is_valid, boot_references_are_gains, boot_units_are_taken,
+    boot_changes_make_boot, boot_is_unused, boot_is_valid, boot_references_are_gains,
+    boot_units_are_taken,
 };
 pub use decision::{decisions_give_to_referred, decisions_may_be_made};
 pub use entries::{act_keeps_valid, entries_keep_valid, entry_begins};
@@ -32,4 +33,4 @@ pub use references::{
 pub use taken::taken_are_parts;
 pub use units::{change_moves_units, changes_move_units};
 pub use validity::{change_keeps_valid, changes_keep_valid};
-pub use words::{change_sets_word, words_stay};
+pub use words::{change_sets_word, words_stand, words_stay};

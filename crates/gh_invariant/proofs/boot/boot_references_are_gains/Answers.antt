@@ -1,5 +1,5 @@
 -- The law is the lemma.
-use Rattle.gh_invariant.proofs.BootValid.{boot_refers}
+use Rattle.gh_invariant.proofs.BootGains.{boot_refers}
 use Rattle.gh_invariant.proofs.boot.boot_references_are_gains.Goals as goal
 
 pub returns : goal.returns

@@ -1,5 +1,5 @@
 -- The law is the lemma.
-use Rattle.gh_invariant.proofs.BootValid.{boot_takes}
+use Rattle.gh_invariant.proofs.BootGains.{boot_takes}
 use Rattle.gh_invariant.proofs.boot.boot_units_are_taken.Goals as goal
 
 pub returns : goal.returns

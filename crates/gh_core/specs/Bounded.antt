@@ -1,0 +1,16 @@
+-- How much is owed: never more than a reference word can count.
+use Rattle.std.specs.Prelude.{◌+◌, ◌<◌, ◌≤◌, ◌^◌, ℕ}
+use Rattle.gh_base.specs.declared.limits.TheConstants.{OBJECT_INDICES}
+use Rattle.gh_model.specs.declared.state.State.{State}
+use Rattle.gh_core.specs.Config.{Config, live_references, references_at}
+use Rattle.gh_core.specs.References.{owed_at}
+
+-- at each index, the references of its live object, if any, and what is owed there are together at
+-- most 2^62
+abbrev pub IsBounded : Config → Type 0
+IsBounded conf = (at : ℕ) → at < OBJECT_INDICES
+    → live_references conf at + owed_at conf.turn at ≤ 2 ^ 62
+
+-- no object of the boot has more than 2^62 references
+abbrev pub FewReferences : State → (ℕ → ℕ) → Type 0
+FewReferences boot index = (at : ℕ) → at < OBJECT_INDICES → references_at boot index at ≤ 2 ^ 62
