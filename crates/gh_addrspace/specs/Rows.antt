@@ -1,5 +1,7 @@
 -- The mapping rows of an address space: which pages they cover, and which machine pages they name.
-use Rattle.std.specs.Prelude.{◌≡◌, ◌==◌, ◌&&◌, ◌+◌, ◌-◌, ◌≤◌, ℕ, Bool, List, Option, Some, None, not, filter, find, nat_le, nat_lt, if◌then◌else◌}
+use Rattle.std.specs.Prelude.{◌≡◌, ◌==◌, ◌&&◌, ◌+◌, ◌-◌}
+use Rattle.std.specs.Prelude.{◌≤◌, ℕ, Bool, List, Option, Some, None, not}
+use Rattle.std.specs.Prelude.{filter, find, nat_le, nat_lt, if◌then◌else◌}
 use Rattle.std.specs.List.{list_any}
 use Rattle.gh_base.specs.declared.ids.PageNo.{PageNo}
 use Rattle.gh_base.specs.declared.limits.TheConstants.{SPACE_PAGES}
@@ -46,8 +48,8 @@ abbrev pub overlaps : MapRow → Mapping → Bool
 overlaps row m =
     nat_lt row.base (m.row.base + m.row.count) && nat_lt m.row.base (row.base + row.count)
 
--- the row is one of those that are chosen: of the map call and of these pages, or of the parcel with
--- this handle
+-- the row is one of those that are chosen: of the map call and of these pages, or of the parcel
+-- with this handle
 abbrev pub is_chosen : Chosen → Mapping → Bool
 is_chosen (Pages extent base offset count) m =
     (m.row.handle == 0) && (m.row.extent.0 == extent.0) && (m.row.base == base)

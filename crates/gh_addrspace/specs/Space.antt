@@ -1,15 +1,20 @@
 -- An address space as callers see it: its mapping rows, in the order in which they were made, and
 -- where each of its pages leads.
-use Rattle.std.specs.Prelude.{◌≡◌, ◌==◌, ◌&&◌, ◌+◌, ◌<◌, ◌≤◌, not, ℕ, Bool, true, false, IsTrue, List, [], ◌∷◌, ◌++◌, length, map, filter, Option, Some, None, IsSomeAnd, nat_le, nat_lt, All, if◌then◌else◌}
+use Rattle.std.specs.Prelude.{◌≡◌, ◌==◌, ◌&&◌, ◌+◌, ◌<◌}
+use Rattle.std.specs.Prelude.{◌≤◌, not, ℕ, Bool, true, false, IsTrue, List, []}
+use Rattle.std.specs.Prelude.{◌∷◌, ◌++◌, length, map, filter, Option, Some}
+use Rattle.std.specs.Prelude.{None, IsSomeAnd, nat_le, nat_lt, All, if◌then◌else◌}
 use Rattle.std.specs.List.{list_any}
 use Rattle.std.specs.Option.{option_map}
 use Rattle.gh_base.specs.declared.access.Access.{Access}
 use Rattle.gh_base.specs.declared.errno.Errno.{Errno}
-use Rattle.gh_base.specs.declared.errno.Errno.TheVariants.{AddrInval, AddrOvfl, ArgSize, Busy, Denied, Nomem}
+use Rattle.gh_base.specs.declared.errno.Errno.TheVariants.{AddrInval, AddrOvfl, ArgSize}
+use Rattle.gh_base.specs.declared.errno.Errno.TheVariants.{Busy, Denied, Nomem}
 use Rattle.gh_base.specs.declared.ids.PageNo.{PageNo}
 use Rattle.gh_base.specs.declared.ids.Serial.{Serial}
 use Rattle.gh_base.specs.declared.limits.TheConstants.{SPACE_PAGES, SPACE_ROWS}
-use Rattle.gh_addrspace.specs.Rows.{IsBounded, covering, covers, in_run, is_chosen, is_covered, mapping_of, others, overlaps, page_at, target_at}
+use Rattle.gh_addrspace.specs.Rows.{IsBounded, covering, covers, in_run, is_chosen, is_covered}
+use Rattle.gh_addrspace.specs.Rows.{mapping_of, others, overlaps, page_at, target_at}
 use Rattle.gh_addrspace.specs.declared.mapping.Chosen.{Chosen}
 use Rattle.gh_addrspace.specs.declared.mapping.Mapping.{Mapping}
 use Rattle.gh_model.specs.Boot.{access_fits}
@@ -18,6 +23,7 @@ use Rattle.gh_model.specs.declared.memory.MapRow.{MapRow}
 use Rattle.gh_model.specs.declared.memory.Span.{Span}
 use Rattle.gh_pagetable.specs.Map.{Target, at}
 
+-- an address space: its mapping rows, and where each of its pages leads
 pub record Space : Type 0 where
   pub mappings : List Mapping
   pub pages : List Target
@@ -43,8 +49,8 @@ abbrev pub at_most_one : (Mapping → Bool) → List Mapping → Bool
 at_most_one test [] = true
 at_most_one test (m ∷ ms) = if test m then not (list_any test ms) else at_most_one test ms
 
--- how the rows and the pages go together: each row lies in the space, each page is covered by one row
--- at most, and no page leads anywhere that no row covers
+-- how the rows and the pages go together: each row lies in the space, each page is covered by one
+-- row at most, and no page leads anywhere that no row covers
 pub record IsSpace (s : Space) : Type 0 where
   pub bounded : All IsBounded s.mappings
   pub apart : (v : ℕ) → at_most_one (covers v) s.mappings ≡ true
@@ -58,7 +64,8 @@ pub record IsEmptySpace (s : Space) : Type 0 where
 
 -- a row begins at the machine page that its extent's span and its offset name
 abbrev pub IsNamed : (ℕ → Option Span) → Mapping → Type 0
-IsNamed spans m = IsSomeAnd (spans m.row.extent.0) (λ span. m.page.0 ≡ span.first.0 + m.row.offset)
+IsNamed spans m =
+    IsSomeAnd (spans m.row.extent.0) (λ span. m.page.0 ≡ span.first.0 + m.row.offset)
 
 -- each page leads where the row that covers it says, by the extents' spans and the pages' holders
 pub record Shows (spans : ℕ → Option Span) (holders : List Serial) (s : Space) : Type 0 where
@@ -87,7 +94,8 @@ pub record Maps (old new : Space) (holders : List Serial) (m : Mapping) : Type 0
 
 -- the row of the map is the new one, by its extent's span
 abbrev pub MapsIn : Space → Space → List Serial → MapRow → Option Span → Type 0
-MapsIn old new holders row span = IsSomeAnd span (λ span. Maps old new holders (mapping_of row span))
+MapsIn old new holders row span =
+    IsSomeAnd span (λ span. Maps old new holders (mapping_of row span))
 
 -- unmap and clear
 
@@ -106,13 +114,15 @@ LeavesOthers old new chosen = Leaves old new (others chosen old.mappings)
 
 -- moved
 
--- where a page leads once machine pages have moved, which its row names: to the machine page if they
--- moved to the row's extent, nowhere if they left it, and else where it did
+-- where a page leads once the machine page that its row names has moved: there if it moved to the
+-- row's extent, nowhere if it left that extent, and else where it did
 abbrev pub followed_in : ℕ → ℕ → ℕ → Mapping → Target → Target
 followed_in from to v m t =
     if m.row.extent.0 == to then target_at m v
     else if m.row.extent.0 == from then None else t
 
+-- where a page leads once a run of machine pages has moved from one extent to another: elsewhere
+-- only where the row covers it and names a page of the run
 abbrev pub followed : ℕ → ℕ → ℕ → ℕ → ℕ → Mapping → Target → Target
 followed from to first count v m t =
     if covers v m && in_run first count (page_at m v) then followed_in from to v m t else t
@@ -122,7 +132,8 @@ abbrev pub follows : ℕ → ℕ → ℕ → ℕ → ℕ → Target → Mapping 
 follows from to first count v t m = followed from to first count v m t
 
 -- where a page leads once machine pages have moved, by the row that covers it
-abbrev pub followed_by : ℕ → ℕ → ℕ → ℕ → ℕ → Option Mapping → Target → Target
+abbrev pub followed_by :
+    ℕ → ℕ → ℕ → ℕ → ℕ → Option Mapping → Target → Target
 followed_by from to first count v None t = t
 followed_by from to first count v (Some m) t = followed from to first count v m t
 

@@ -12,7 +12,8 @@ Becomes change (Some old) None = ⊥
 Becomes change (Some old) (Some new) = change old new
 
 -- the space with this serial has changed so, and every other is as it was
-pub record Changes (old new : ℕ → Option Space) (space : ℕ) (change : Space → Space → Type 0) : Type 0 where
+pub record Changes (old new : ℕ → Option Space) (space : ℕ)
+    (change : Space → Space → Type 0) : Type 0 where
   pub changed : Becomes change (old space) (new space)
   pub others : (other : ℕ) → (other ≡ space → ⊥) → new other ≡ old other
 

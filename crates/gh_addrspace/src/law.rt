@@ -7,9 +7,9 @@ ghost use Rattle.gh_model.specs.declared.memory.Span.{Span as Spanned};
 
 use crate::space::Space;
 
-/// A law, with nothing to run. Two address spaces with the same rows, which show who holds the pages,
-/// are equal, however they were made: a page table that was changed step by step is the one that is
-/// made from nothing, in where each page leads and in the number of tables.
+/// A law, with nothing to run. Two address spaces with the same rows, which show who holds the
+/// pages, are equal, however they were made: a page table that was changed step by step is the one
+/// that is made from nothing, in where each page leads and in the number of tables.
 pub fn spaces_are_their_rows(first: &Space, second: &Space)
     ensures pages { (spans : ℕ → Option Spanned) (holders : List Number)
         → Shows spans holders first.now → Shows spans holders second.now

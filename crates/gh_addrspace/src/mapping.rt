@@ -10,7 +10,8 @@ use gh_model::MapRow;
 #[derive(Clone, Copy, Debug)]
 pub struct Mapping {
     pub row: MapRow,
-    /// The first page of the extent's span and the row's offset. Neither changes while the row stands.
+    /// The first page of the extent's span and the row's offset. Neither changes while the row
+    /// stands.
     pub page: PageNo,
 }
 

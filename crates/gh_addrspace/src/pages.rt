@@ -1,6 +1,7 @@
 //! What a mapping row writes into the page table.
 
-ghost use Rattle.std.specs.Prelude.{◌≡◌, ℕ, ◌+◌, ◌<◌, ◌≤◌, true, false, None, All, fold, length, if◌then◌else◌};
+ghost use Rattle.std.specs.Prelude.{◌≡◌, ℕ, ◌+◌, ◌<◌, ◌≤◌, true};
+ghost use Rattle.std.specs.Prelude.{false, None, All, fold, length, if◌then◌else◌};
 ghost use Rattle.std.specs.List.{list_any};
 ghost use Rattle.gh_addrspace.specs.Rows.{IsBounded, covers, hides, page_at};
 ghost use Rattle.gh_addrspace.specs.Space.{followed, follows};

@@ -1,11 +1,14 @@
 //! An address space.
 
-ghost use Rattle.std.specs.Prelude.{◌≡◌, ℕ, ◌+◌, ◌<◌, ◌≤◌, false, List, Option, IfNone, IfOk, IsSomeAnd, OnErr, OnOk, None, Some, length};
+ghost use Rattle.std.specs.Prelude.{◌≡◌, ℕ, ◌+◌, ◌<◌, ◌≤◌};
+ghost use Rattle.std.specs.Prelude.{false, List, Option, IfNone, IfOk};
+ghost use Rattle.std.specs.Prelude.{IsSomeAnd, OnErr, OnOk, None, Some, length};
 ghost use Rattle.std.specs.List.{list_any};
 ghost use Rattle.std.specs.Result.{result_err};
 ghost use Rattle.gh_base.specs.declared.ids.Serial.{Serial as Number};
 ghost use Rattle.gh_addrspace.specs.Rows.{is_chosen, others, overlaps};
-ghost use Rattle.gh_addrspace.specs.Space.{Follows, IsEmptySpace, LeavesOthers, MapsIn, Shows, lookup_at, row_at, span_map_refusal, unmap_refusal};
+ghost use Rattle.gh_addrspace.specs.Space.{Follows, IsEmptySpace, LeavesOthers, MapsIn, Shows};
+ghost use Rattle.gh_addrspace.specs.Space.{lookup_at, row_at, span_map_refusal, unmap_refusal};
 ghost use Rattle.gh_model.specs.Boot.{access_fits, move_pages};
 ghost use Rattle.gh_model.specs.Memory.{HoldsRun};
 ghost use Rattle.gh_pagetable.specs.Map.{at, tables_of};
@@ -89,9 +92,9 @@ impl Space {
 
     /// Puts a row last, and maps those of its pages whose machine pages its extent holds.
     ///
-    /// `AddrOvfl` where the row passes the end of the space, else `ArgSize` where it passes the end of
-    /// its extent's span, else `Denied` where its access isn't within the extent's, else `Busy` where
-    /// it overlaps a row, else `Nomem` where there are 64 rows.
+    /// `AddrOvfl` where the row passes the end of the space, else `ArgSize` where it passes the
+    /// end of its extent's span, else `Denied` where its access isn't within the extent's, else
+    /// `Busy` where it overlaps a row, else `Nomem` where there are 64 rows.
     pub fn map<H: Holders>(
         &mut self,
         row: MapRow,
@@ -123,7 +126,8 @@ impl Space {
         Ok(Ok(()))
     }
 
-    /// Takes the row of the map call away that is of these pages of the extent; its pages lead nowhere.
+    /// Takes the row of the map call away that is of these pages of the extent; its pages lead
+    /// nowhere.
     ///
     /// `AddrInval` where there is none.
     pub fn unmap(&mut self, extent: Serial, base: u64, offset: u64, count: u64) -> Result<(), Errno>
@@ -165,8 +169,8 @@ impl Space {
         Some(mapping.row)
     }
 
-    /// Follows a run of machine pages that moved from one extent to another. Its cost grows with the
-    /// rows, and with the tables that the pages of each that meets the run take.
+    /// Follows a run of machine pages that moved from one extent to another. Its cost grows with
+    /// the rows, and with the tables that the pages of each that meets the run take.
     pub fn moved(&mut self, from: Serial, to: Serial, first: PageNo, count: u16)
         ensures followed { Follows self.old self.new from.0 to.0 first.0 count }
 

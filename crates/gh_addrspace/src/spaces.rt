@@ -1,9 +1,11 @@
 //! Live address spaces, each by its serial.
 
-ghost use Rattle.std.specs.Prelude.{◌≡◌, ℕ, ◌+◌, ◌≤◌, List, Option, IfOk, IsSome, IsSomeAnd, OnErr, OnOk};
+ghost use Rattle.std.specs.Prelude.{◌≡◌, ℕ, ◌+◌, ◌≤◌, List};
+ghost use Rattle.std.specs.Prelude.{Option, IfOk, IsSome, IsSomeAnd, OnErr, OnOk};
 ghost use Rattle.std.specs.Result.{result_err};
 ghost use Rattle.gh_base.specs.declared.ids.Serial.{Serial as Number};
-ghost use Rattle.gh_addrspace.specs.Space.{Follows, LeavesOthers, MapsIn, Space as State, row_at, span_map_refusal};
+ghost use Rattle.gh_addrspace.specs.Space.{Follows, LeavesOthers, MapsIn};
+ghost use Rattle.gh_addrspace.specs.Space.{Space as State, row_at, span_map_refusal};
 ghost use Rattle.gh_addrspace.specs.Spaces.{Becomes, Changes, KeepsShowing, Stay};
 ghost use Rattle.gh_model.specs.Boot.{move_pages};
 ghost use Rattle.gh_model.specs.Memory.{HoldsRun};

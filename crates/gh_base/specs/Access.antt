@@ -1,5 +1,6 @@
 -- What an access number allows.
-use Rattle.std.specs.Prelude.{◌≡◌, ◌==◌, ◌||◌, ℕ, Option, Some, None, bit_and, nat_lt, if◌then◌else◌}
+use Rattle.std.specs.Prelude.{◌≡◌, ◌==◌, ◌||◌, ℕ, Option, Some}
+use Rattle.std.specs.Prelude.{None, bit_and, nat_lt, if◌then◌else◌}
 use Rattle.gh_base.specs.declared.access.Access.{Access}
 
 -- 3 and what is above 7 are no access

@@ -1,6 +1,7 @@
 -- A capability word as its fields, from the top bit down: state 2 bits, kind 3, master mark 1,
 -- object index 10, rights 16, number of the entry that set the word 32.
-use Rattle.std.specs.Prelude.{◌==◌, ℕ, ◌+◌, ◌*◌, ◌/◌, ◌%◌, Bool, false, Option, Some, None, bit_and, if◌then◌else◌}
+use Rattle.std.specs.Prelude.{◌==◌, ℕ, ◌+◌, ◌*◌, ◌/◌, ◌%◌, Bool}
+use Rattle.std.specs.Prelude.{false, Option, Some, None, bit_and, if◌then◌else◌}
 use Rattle.gh_base.specs.Kind.{kind_number, kind_numbered}
 use Rattle.gh_base.specs.declared.kind.Kind.{Kind}
 use Rattle.gh_base.specs.declared.limits.TheConstants.{OBJECT_INDICES}
@@ -30,39 +31,49 @@ state_numbered n = if n == 0 then Empty else (if n == 1 then Valid else Revoked)
 abbrev pub kinds : ℕ
 kinds = 8
 
+-- how many values the master mark has
 abbrev pub marks : ℕ
 marks = 2
 
+-- how many object indices there are
 abbrev pub indices : ℕ
 indices = OBJECT_INDICES
 
+-- how many values the rights have, 16 bits of them
 abbrev pub rights_values : ℕ
 rights_values = 65536
 
+-- how many values the number of the entry that set the word has, 32 bits of it
 abbrev pub settings : ℕ
 settings = 4294967296
 
 -- six numbers, each in its place
 abbrev pub packed : ℕ → ℕ → ℕ → ℕ → ℕ → ℕ → ℕ
 packed state kind master object rights entry =
-    ((((state * kinds + kind) * marks + master) * indices + object) * rights_values + rights) * settings + entry
+    ((((state * kinds + kind) * marks + master) * indices + object) * rights_values + rights)
+    * settings + entry
 
 -- the number of each field of a word, read from its place
 abbrev pub state_number_of : ℕ → ℕ
 state_number_of w = w / settings / rights_values / indices / marks / kinds
 
+-- the number of a word's kind
 abbrev pub kind_number_of : ℕ → ℕ
 kind_number_of w = w / settings / rights_values / indices / marks % kinds
 
+-- the number of a word's master mark
 abbrev pub master_number_of : ℕ → ℕ
 master_number_of w = w / settings / rights_values / indices % marks
 
+-- the object index in a word
 abbrev pub object_of : ℕ → ℕ
 object_of w = w / settings / rights_values % indices
 
+-- the rights in a word
 abbrev pub rights_of : ℕ → ℕ
 rights_of w = w / settings % rights_values
 
+-- the number of the entry that set a word
 abbrev pub set_at_of : ℕ → ℕ
 set_at_of w = w % settings
 
@@ -70,9 +81,11 @@ set_at_of w = w % settings
 abbrev pub state_of : ℕ → CapState
 state_of w = state_numbered (state_number_of w)
 
+-- the kind in a word, if its number is a kind's
 abbrev pub kind_of : ℕ → Option Kind
 kind_of w = kind_numbered (kind_number_of w)
 
+-- the word is the master capability
 abbrev pub master_of : ℕ → Bool
 master_of w = master_number_of w == 1
 
@@ -113,6 +126,7 @@ numbered_fields state kind master object rights entry = record {
 abbrev pub filled_state : Bool → CapState
 filled_state valid = if valid then Valid else Revoked
 
+-- the fields of a filled word, which an entry set
 abbrev pub filled_fields : Bool → Kind → Bool → ℕ → ℕ → ℕ → CapFields
 filled_fields valid kind master object rights entry = record {
   state = filled_state valid;
@@ -123,14 +137,21 @@ filled_fields valid kind master object rights entry = record {
   set_at = entry;
 }
 
+-- the number of a master mark
+abbrev pub mark_number : Bool → ℕ
+mark_number master = if master then 1 else 0
+
+-- the bits of a filled word, which an entry set
 abbrev pub filled_bits : Bool → Kind → Bool → ℕ → ℕ → ℕ → ℕ
 filled_bits valid kind master object rights entry =
-    packed (state_number (filled_state valid)) (kind_number kind) (if master then 1 else 0) object rights entry
+    packed (state_number (filled_state valid)) (kind_number kind) (mark_number master)
+    object rights entry
 
 -- the bits of a word that an entry revoked: state 2 and the entry's number, all else as it was
 abbrev pub revoked_bits : ℕ → ℕ → ℕ
 revoked_bits w entry =
-    packed (state_number Revoked) (kind_number_of w) (master_number_of w) (object_of w) (rights_of w) entry
+    packed (state_number Revoked) (kind_number_of w) (master_number_of w)
+    (object_of w) (rights_of w) entry
 
 -- the bits of a copy: the rights that the mask leaves, no master mark, the entry's number, all else
 -- as it was

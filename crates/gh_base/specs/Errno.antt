@@ -1,7 +1,12 @@
 -- The error numbers of register x0.
 use Rattle.std.specs.Prelude.{ℕ}
 use Rattle.gh_base.specs.declared.errno.Errno.{Errno}
-use Rattle.gh_base.specs.declared.errno.Errno.TheVariants.{Unimplemented, Retry, ArgInval, ArgSize, ArgAlign, Nomem, AddrOvfl, AddrInval, Denied, Busy, ObjState, ObjConfig, CapNull, CapRevoked, WrongType, InsufRights, CspaceFull, QueueEmpty, QueueFull}
+use Rattle.gh_base.specs.declared.errno.Errno.TheVariants.{Unimplemented, Retry, ArgInval}
+use Rattle.gh_base.specs.declared.errno.Errno.TheVariants.{ArgSize, ArgAlign, Nomem, AddrOvfl}
+use Rattle.gh_base.specs.declared.errno.Errno.TheVariants.{AddrInval, Denied, Busy, ObjState}
+use Rattle.gh_base.specs.declared.errno.Errno.TheVariants.{ObjConfig, CapNull, CapRevoked}
+use Rattle.gh_base.specs.declared.errno.Errno.TheVariants.{WrongType, InsufRights, CspaceFull}
+use Rattle.gh_base.specs.declared.errno.Errno.TheVariants.{QueueEmpty, QueueFull}
 
 -- the number of each error; -1 and -2 are 64-bit two's complement
 abbrev pub errno_number : Errno → ℕ

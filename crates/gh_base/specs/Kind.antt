@@ -1,7 +1,9 @@
--- The kinds of objects, each with its number, its cost at create in units, its rights and its first stage.
+-- The kinds of objects, each with its number, its cost at create in units, its rights and its
+-- first stage.
 use Rattle.std.specs.Prelude.{ℕ, ◌+◌, ◌==◌, Option, Some, None, if◌then◌else◌}
 use Rattle.gh_base.specs.declared.kind.Kind.{Kind}
-use Rattle.gh_base.specs.declared.kind.Kind.TheVariants.{Partition, Cspace, Space, Extent, Bell, Queue}
+use Rattle.gh_base.specs.declared.kind.Kind.TheVariants.{Partition, Cspace, Space}
+use Rattle.gh_base.specs.declared.kind.Kind.TheVariants.{Extent, Bell, Queue}
 use Rattle.gh_base.specs.declared.ids.TheConstants.Rights as right
 use Rattle.gh_base.specs.declared.kind.Stage.{Stage}
 use Rattle.gh_base.specs.declared.kind.Stage.TheVariants.{Init, Ready}
@@ -18,8 +20,13 @@ kind_number Queue = 6
 -- the kind of a number
 abbrev pub kind_numbered : ℕ → Option Kind
 kind_numbered n =
-    if n == 1 then Some Partition else (if n == 2 then Some Cspace else (if n == 3 then Some Space
-    else (if n == 4 then Some Extent else (if n == 5 then Some Bell else (if n == 6 then Some Queue else None)))))
+    if n == 1 then Some Partition
+    else if n == 2 then Some Cspace
+    else if n == 3 then Some Space
+    else if n == 4 then Some Extent
+    else if n == 5 then Some Bell
+    else if n == 6 then Some Queue
+    else None
 
 -- units at create
 abbrev pub kind_cost : Kind → ℕ

@@ -1,7 +1,10 @@
 -- The error numbers of the resource manager's replies.
 use Rattle.std.specs.Prelude.{ℕ}
 use Rattle.gh_base.specs.declared.rm.RmError.{RmError}
-use Rattle.gh_base.specs.declared.rm.RmError.TheVariants.{Ok, Unimplemented, NoResource, Denied, Busy, ArgumentInvalid, HandleInvalid, ValidateFailed, MapFailed, MemInvalid, MemInuse, MemReleased, VmidInvalid}
+use Rattle.gh_base.specs.declared.rm.RmError.TheVariants.{Ok, Unimplemented, NoResource, Denied}
+use Rattle.gh_base.specs.declared.rm.RmError.TheVariants.{Busy, ArgumentInvalid, HandleInvalid}
+use Rattle.gh_base.specs.declared.rm.RmError.TheVariants.{ValidateFailed, MapFailed, MemInvalid}
+use Rattle.gh_base.specs.declared.rm.RmError.TheVariants.{MemInuse, MemReleased, VmidInvalid}
 
 -- the number of each error; -1 is 32-bit two's complement
 abbrev pub rm_error_number : RmError → ℕ

@@ -1,14 +1,19 @@
 -- The layouts of requests and replies of the resource manager: for each field its offset, its width
 -- and what it says. Bytes that aren't named aren't looked at.
-use Rattle.std.specs.Prelude.{◌<◌, ◌+◌, ◌*◌, ◌^◌, ◌/◌, ◌%◌, ◌==◌, ◌&&◌, ◌||◌, not, ℕ, zero, suc, Bool, List, [], ◌∷◌, ◌++◌, All, length, drop, Option, None, Some, Result, Ok, Err, if◌then◌else◌}
+use Rattle.std.specs.Prelude.{◌<◌, ◌+◌, ◌*◌, ◌^◌, ◌/◌, ◌%◌}
+use Rattle.std.specs.Prelude.{◌==◌, ◌&&◌, ◌||◌, not, ℕ, zero, suc, Bool}
+use Rattle.std.specs.Prelude.{List, [], ◌∷◌, ◌++◌, All, length, drop, Option}
+use Rattle.std.specs.Prelude.{None, Some, Result, Ok, Err, if◌then◌else◌}
 use Rattle.std.specs.Int.{w16, w32, w64, to_le_bytes}
 use Rattle.std.specs.List.{flat_map}
 use Rattle.gh_base.specs.Bytes.{u8_at, u16_at, u32_at, u64_at}
 use Rattle.gh_base.specs.RmError.{rm_error_number}
-use Rattle.gh_base.specs.declared.rm.TheConstants.{LEND_ID, SHARE_ID, DONATE_ID, ACCEPT_ID, RELEASE_ID, RECLAIM_ID}
+use Rattle.gh_base.specs.declared.rm.TheConstants.{LEND_ID, SHARE_ID, DONATE_ID}
+use Rattle.gh_base.specs.declared.rm.TheConstants.{ACCEPT_ID, RELEASE_ID, RECLAIM_ID}
 use Rattle.gh_base.specs.declared.rm.MemRequest.{MemRequest}
 use Rattle.gh_base.specs.declared.rm.Request.{Request}
-use Rattle.gh_base.specs.declared.rm.Request.TheVariants.{Lend, Share, Donate, Accept, Release, Reclaim}
+use Rattle.gh_base.specs.declared.rm.Request.TheVariants.{Lend, Share, Donate}
+use Rattle.gh_base.specs.declared.rm.Request.TheVariants.{Accept, Release, Reclaim}
 use Rattle.gh_base.specs.declared.rm.RmError.{RmError}
 use Rattle.gh_base.specs.declared.rm.RmError.TheVariants as Errors
 
@@ -154,7 +159,8 @@ accept_request bytes = unless_refused (width_refusal accept_width bytes) (accept
 
 -- a request that only has a handle, of the kind that this makes of it
 abbrev pub handle_request : (ℕ → Request) → List ℕ → Result Request RmError
-handle_request kind bytes = unless_refused (width_refusal handle_width bytes) (kind (handle_of bytes))
+handle_request kind bytes =
+    unless_refused (width_refusal handle_width bytes) (kind (handle_of bytes))
 
 -- what the id and the payload ask, or the first error that they show by themselves
 abbrev pub request_of : ℕ → List ℕ → Result Request RmError
@@ -184,7 +190,8 @@ four_zeros = 0 ∷ 0 ∷ 0 ∷ 0 ∷ []
 -- the part behind the access entries
 abbrev pub memory_part_bytes : MemRequest → List ℕ
 memory_part_bytes r =
-    to_le_bytes w16 (length r.memory) ++ 0 ∷ 0 ∷ (flat_map memory_entry_bytes r.memory ++ four_zeros)
+    to_le_bytes w16 (length r.memory)
+    ++ 0 ∷ 0 ∷ (flat_map memory_entry_bytes r.memory ++ four_zeros)
 
 -- a memory request
 abbrev pub memory_bytes : MemRequest → List ℕ
@@ -197,7 +204,8 @@ abbrev pub request_bytes : Request → List ℕ
 request_bytes (Lend r) = memory_bytes r
 request_bytes (Share r) = memory_bytes r
 request_bytes (Donate r) = memory_bytes r
-request_bytes (Accept handle address) = to_le_bytes w32 handle ++ four_zeros ++ to_le_bytes w64 address
+request_bytes (Accept handle address) =
+    to_le_bytes w32 handle ++ four_zeros ++ to_le_bytes w64 address
 request_bytes (Release handle) = to_le_bytes w32 handle ++ four_zeros
 request_bytes (Reclaim handle) = to_le_bytes w32 handle ++ four_zeros
 

@@ -1,17 +1,21 @@
 -- How fragments are put together as they come: what a fragment does to the open message, and what
 -- it answers.
-use Rattle.std.specs.Prelude.{◌==◌, ◌-◌, ℕ, not, nat_lt, List, [], ◌∷◌, ◌++◌, length, Option, None, Some, Result, Ok, Err, if◌then◌else◌}
+use Rattle.std.specs.Prelude.{◌==◌, ◌-◌, ℕ, not, nat_lt, List, [], ◌∷◌, ◌++◌}
+use Rattle.std.specs.Prelude.{length, Option, None, Some, Result, Ok, Err, if◌then◌else◌}
 use Rattle.std.specs.Option.{option_or}
 use Rattle.gh_base.specs.Bytes.{u8_at}
 use Rattle.gh_base.specs.RpcMessage.{version_at, header_of, payload_of}
 use Rattle.gh_base.specs.declared.limits.TheConstants.{FRAGMENT_BYTES, FURTHER_FRAGMENTS}
 use Rattle.gh_base.specs.declared.fragment.TheConstants.{FRAGMENT_VERSION, FRAGMENT_HEADER_BYTES}
 use Rattle.gh_base.specs.declared.fragment.FragmentKind.{FragmentKind}
-use Rattle.gh_base.specs.declared.fragment.FragmentKind.TheVariants.{Continuation, Request, Reply, Notification}
+use Rattle.gh_base.specs.declared.fragment.FragmentKind.TheVariants.{Continuation, Request}
+use Rattle.gh_base.specs.declared.fragment.FragmentKind.TheVariants.{Reply, Notification}
 use Rattle.gh_base.specs.declared.fragment.Header.{Header}
 use Rattle.gh_base.specs.declared.fragment.Message.{Message}
 use Rattle.gh_base.specs.declared.fragment.RpcFault.{RpcFault}
-use Rattle.gh_base.specs.declared.fragment.RpcFault.TheVariants.{TooShort, TooLong, BadVersion, BadType, TooManyFragments, WrongSequence, WrongId}
+use Rattle.gh_base.specs.declared.fragment.RpcFault.TheVariants.{TooShort, TooLong, BadVersion}
+use Rattle.gh_base.specs.declared.fragment.RpcFault.TheVariants.{BadType, TooManyFragments}
+use Rattle.gh_base.specs.declared.fragment.RpcFault.TheVariants.{WrongSequence, WrongId}
 
 -- a message so far, and how many of its fragments are still lacking
 pub record Progress : Type 0 where

@@ -1,13 +1,18 @@
 -- What a message of the resource manager is: a row of fragments, each a header of eight bytes and
 -- a part of the payload. Nothing here says how fragments are put together as they come.
-use Rattle.std.specs.Prelude.{◌≡◌, ◌≤◌, ◌<◌, ◌+◌, ◌*◌, ◌^◌, ◌-◌, ◌/◌, ◌%◌, ◌==◌, ℕ, zero, suc, List, [], ◌∷◌, ◌++◌, All, length, take, drop, if◌then◌else◌}
+use Rattle.std.specs.Prelude.{◌≡◌, ◌≤◌, ◌<◌, ◌+◌, ◌*◌, ◌^◌, ◌-◌}
+use Rattle.std.specs.Prelude.{◌/◌, ◌%◌, ◌==◌, ℕ, zero, suc, List, [], ◌∷◌}
+use Rattle.std.specs.Prelude.{◌++◌, All, length, take, drop, if◌then◌else◌}
 use Rattle.std.specs.Int.{w16, w32, to_le_bytes}
 use Rattle.std.specs.List.{flat_map}
 use Rattle.gh_base.specs.Bytes.{u8_at, u16_at, u32_at}
 use Rattle.gh_base.specs.declared.limits.TheConstants.{FRAGMENT_BYTES, FURTHER_FRAGMENTS}
-use Rattle.gh_base.specs.declared.fragment.TheConstants.{FRAGMENT_VERSION, FRAGMENT_HEADER_BYTES, FRAGMENT_PAYLOAD_BYTES, MESSAGE_PAYLOAD_BYTES}
+use Rattle.gh_base.specs.declared.fragment.TheConstants.{FRAGMENT_VERSION, FRAGMENT_HEADER_BYTES}
+use Rattle.gh_base.specs.declared.fragment.TheConstants.{FRAGMENT_PAYLOAD_BYTES}
+use Rattle.gh_base.specs.declared.fragment.TheConstants.{MESSAGE_PAYLOAD_BYTES}
 use Rattle.gh_base.specs.declared.fragment.FragmentKind.{FragmentKind}
-use Rattle.gh_base.specs.declared.fragment.FragmentKind.TheVariants.{Continuation, Request, Reply, Notification}
+use Rattle.gh_base.specs.declared.fragment.FragmentKind.TheVariants.{Continuation, Request}
+use Rattle.gh_base.specs.declared.fragment.FragmentKind.TheVariants.{Reply, Notification}
 use Rattle.gh_base.specs.declared.fragment.Header.{Header}
 use Rattle.gh_base.specs.declared.fragment.Message.{Message}
 

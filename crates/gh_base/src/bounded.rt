@@ -1,6 +1,7 @@
 //! A list of limited length over an `ArrayVec`, which contracts see as a list and nothing else.
 
-ghost use Rattle.std.specs.Prelude.{◌≡◌, ◌∷◌, ◌++◌, ◌<◌, ◌≤◌, ◌==◌, [], length};
+ghost use Rattle.std.specs.Prelude.{◌≡◌, ◌∷◌, ◌++◌, ◌<◌};
+ghost use Rattle.std.specs.Prelude.{◌≤◌, ◌==◌, [], length};
 
 use arrayvec::ArrayVec;
 use std::marker::Model;

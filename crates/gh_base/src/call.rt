@@ -1,7 +1,7 @@
 //! The hypercalls, each with its registers.
 
-/// A hypercall whose frame is well formed. Sizes, offsets, bases and addresses are in bytes; the bytes
-/// of a buffer stay in the frame.
+/// A hypercall whose frame is well formed. Sizes, offsets, bases and addresses are in bytes; the
+/// bytes of a buffer stay in the frame.
 #[derive(Clone, Copy, Debug, PartialEq, Eq)]
 pub enum Call {
     Identify,

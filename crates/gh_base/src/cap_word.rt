@@ -1,7 +1,11 @@
 //! The capability word: what one atomic load of a slot shows.
 
 ghost use Rattle.std.specs.Prelude.{◌≡◌, ◌<◌, true};
-ghost use Rattle.gh_base.specs.CapWord.{kinds, marks, rights_values, settings, packed, numbered_fields, filled_bits, filled_fields, fields_of, empty_fields, revoked_bits, revoked_fields, masked_bits, masked_fields, state_of, kind_of, master_of, object_of, rights_of, set_at_of};
+ghost use Rattle.gh_base.specs.CapWord.{kinds, marks, rights_values, settings, packed};
+ghost use Rattle.gh_base.specs.CapWord.{numbered_fields, filled_bits, filled_fields};
+ghost use Rattle.gh_base.specs.CapWord.{fields_of, empty_fields, revoked_bits};
+ghost use Rattle.gh_base.specs.CapWord.{revoked_fields, masked_bits, masked_fields, state_of};
+ghost use Rattle.gh_base.specs.CapWord.{kind_of, master_of, object_of, rights_of, set_at_of};
 
 use crate::ids::{ObjIndex, Rights};
 use crate::kind::Kind;
@@ -70,7 +74,8 @@ impl CapWord {
     ) -> CapWord
         requires { object.0 < OBJECT_INDICES }
         ensures bits { result.0 ≡ filled_bits valid kind master object.0 rights.0 set_at }
-        ensures fields { fields_of result.0 ≡ filled_fields valid kind master object.0 rights.0 set_at }
+        ensures fields { fields_of result.0
+            ≡ filled_fields valid kind master object.0 rights.0 set_at }
     {
         let state = if valid { VALID } else { REVOKED };
         let object = object.0 as u64;
@@ -88,7 +93,8 @@ impl CapWord {
     pub fn valid(kind: Kind, master: bool, object: ObjIndex, rights: Rights, set_at: u32) -> CapWord
         requires { object.0 < OBJECT_INDICES }
         ensures bits { result.0 ≡ filled_bits true kind master object.0 rights.0 set_at }
-        ensures fields { fields_of result.0 ≡ filled_fields true kind master object.0 rights.0 set_at }
+        ensures fields { fields_of result.0
+            ≡ filled_fields true kind master object.0 rights.0 set_at }
     {
         CapWord::filled(true, kind, master, object, rights, set_at)
     }

@@ -1,7 +1,8 @@
 //! The kinds of objects, the stages of an object's life, and how two extents are related.
 
 ghost use Rattle.std.specs.Prelude.{◌≡◌};
-ghost use Rattle.gh_base.specs.Kind.{kind_number, kind_numbered, kind_cost, kind_rights, kind_stage};
+ghost use Rattle.gh_base.specs.Kind.{kind_number, kind_numbered};
+ghost use Rattle.gh_base.specs.Kind.{kind_cost, kind_rights, kind_stage};
 
 use crate::ids::Rights;
 

@@ -1,6 +1,8 @@
 //! A list over a `Vec`, which contracts see as a list and nothing else.
 
-ghost use Rattle.std.specs.Prelude.{◌≡◌, ◌∷◌, ◌++◌, ◌<◌, ◌==◌, [], length, slice_set, slice_get, remove, Some, IsSome, ◌↔◌, IfOk, OnOk, OnErr};
+ghost use Rattle.std.specs.Prelude.{◌≡◌, ◌∷◌, ◌++◌, ◌<◌, ◌==◌};
+ghost use Rattle.std.specs.Prelude.{[], length, slice_set, slice_get, remove, Some};
+ghost use Rattle.std.specs.Prelude.{IsSome, ◌↔◌, IfOk, OnOk, OnErr};
 ghost use Rattle.std.specs.Option.{option_to_list};
 ghost use Rattle.std.specs.Borrow.{sem};
 

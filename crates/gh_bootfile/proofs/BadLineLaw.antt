@@ -1,5 +1,8 @@
 -- The law on the first bad line: what the reader tells is what a bad line is.
-use Rattle.std.proofs.Common.{◌≡◌, ◌≢◌, ne_eqb, ℕ, Bool, true, false, ◌&&◌, cond, eqb, List, [], ◌∷◌, ◌++◌, length, Option, Some, None, Result, Ok, Err, refl, sym, ap, subst, ◌∙◌, inl, inr, append_assoc, arith}
+use Rattle.std.proofs.Common.{◌≡◌, ◌≢◌, ne_eqb, ℕ, Bool, true, false}
+use Rattle.std.proofs.Common.{◌&&◌, cond, eqb, List, [], ◌∷◌, ◌++◌}
+use Rattle.std.proofs.Common.{length, Option, Some, None, Result, Ok, Err, refl, sym}
+use Rattle.std.proofs.Common.{ap, subst, ◌∙◌, inl, inr, append_assoc, arith}
 use Rattle.std.specs.Str.{bytes_eq}
 use Rattle.std.proofs.lemmas.Bool.{both_ways}
 use Rattle.std.proofs.lemmas.Slice.Eq.{bytes_eq-Decides}
@@ -8,12 +11,15 @@ use Rattle.gh_model.specs.declared.file_err.FileErr.{FileErr}
 use Rattle.gh_model.specs.declared.file_err.FileErr.TheVariants as errors
 use Rattle.gh_model.specs.Pieces.{pieces_at}
 use Rattle.gh_bootfile.specs.BadLine.{IsBadBehind, IsBadAt, HasNoFormat, IsFirstBad, TellsFirstBad}
-use Rattle.gh_bootfile.specs.BootFile.{Answers, and_then, at_end, boot_of, lines_on, next_number, told, with_line}
+use Rattle.gh_bootfile.specs.BootFile.{Answers, and_then, at_end, boot_of}
+use Rattle.gh_bootfile.specs.BootFile.{lines_on, next_number, told, with_line}
 use Rattle.gh_bootfile.specs.Draft.{next_fits, is_whole}
 use Rattle.gh_bootfile.specs.Grammar.{ended_line, format_line, line_text}
 use Rattle.gh_bootfile.specs.Reading.{line_of}
 use Rattle.gh_bootfile.proofs.LineLaw.{line_read, line_again}
-use Rattle.gh_bootfile.proofs.WalkLaw.{Cut, Whole, At, cut, Pieces, pieces, Stops, AtEnd, AtLine, file_step, file_end, first_line, format_first, lines_step, lines_end, past_lines, refused, walk, walk_read}
+use Rattle.gh_bootfile.proofs.WalkLaw.{Cut, Whole, At, cut, Pieces, pieces, Stops, AtEnd, AtLine}
+use Rattle.gh_bootfile.proofs.WalkLaw.{file_step, file_end, first_line, format_first, lines_step}
+use Rattle.gh_bootfile.proofs.WalkLaw.{lines_end, past_lines, refused, walk, walk_read}
 
 with_line_some : (lines : List BootLine) (line : BootLine) (n : ℕ) → with_line lines (Some line) ≡ Err n → next_fits lines line ≡ false
 unfolding with_line

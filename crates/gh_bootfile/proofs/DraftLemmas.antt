@@ -1,21 +1,27 @@
 -- A draft stays one with each line that is added.
-use Rattle.std.proofs.Common.{◌≡◌, ◌||◌, Bool, true, false, List, [], ◌∷◌, ◌++◌, length, fold, refl, sym, ap, ◌∙◌, arith, subst}
+use Rattle.std.proofs.Common.{◌≡◌, ◌||◌, Bool, true, false, List, [], ◌∷◌}
+use Rattle.std.proofs.Common.{◌++◌, length, fold, refl, sym, ap, ◌∙◌, arith, subst}
 use Rattle.std.specs.Prelude.{Option, slice_get}
 use Rattle.std.proofs.lemmas.Bool.{false≢true}
 use Rattle.std.proofs.lemmas.Option.{slice_get_past}
 use Rattle.std.proofs.lemmas.List.Sums.{fold-append}
 use Rattle.gh_base.specs.declared.limits.TheConstants.{MACHINE_PAGES}
 use Rattle.gh_model.specs.declared.boot_line.BootLine.{BootLine}
-use Rattle.gh_model.specs.declared.boot_line.BootLine.TheVariants.{Pages, Partition, Cspace, Addrspace, Doorbell, RootExtent, Extent, Msgqueue, Map, Cap, Vm, Rm, Link}
+use Rattle.gh_model.specs.declared.boot_line.BootLine.TheVariants.{Pages, Partition, Cspace}
+use Rattle.gh_model.specs.declared.boot_line.BootLine.TheVariants.{Addrspace, Doorbell}
+use Rattle.gh_model.specs.declared.boot_line.BootLine.TheVariants.{RootExtent, Extent, Msgqueue}
+use Rattle.gh_model.specs.declared.boot_line.BootLine.TheVariants.{Map, Cap, Vm, Rm, Link}
 use Rattle.gh_model.specs.declared.rows.MappingRow.{MappingRow}
 use Rattle.gh_model.specs.declared.state.State.{State}
-use Rattle.gh_model.specs.Boot.{empty_state, after_line, boot_state, line_fits, lines_fit, boot_fits}
+use Rattle.gh_model.specs.Boot.{empty_state, after_line, boot_state}
+use Rattle.gh_model.specs.Boot.{line_fits, lines_fit, boot_fits}
 use Rattle.gh_model.specs.Fitting.{IsFitting}
 use Rattle.gh_model.proofs.FittingLemmas.{line_fitting, pages_fitting}
 use Rattle.gh_model.proofs.Tests.{and-first, and-second, at_most}
 use Rattle.gh_model.proofs.RunLists.{slice_get_seam}
 use Rattle.gh_bootfile.specs.declared.draft.Draft.{Draft}
-use Rattle.gh_bootfile.specs.Draft.{first_fits, next_fits, is_whole, all_fit, may_make, any_kind_fits, with_made, HasMappings, IsDraft}
+use Rattle.gh_bootfile.specs.Draft.{first_fits, next_fits, is_whole, all_fit, may_make}
+use Rattle.gh_bootfile.specs.Draft.{any_kind_fits, with_made, HasMappings, IsDraft}
 
 -- lines that fit, and one more that fits behind them
 lines_fit-more : (s : State) (lines : List BootLine) (line : BootLine) → lines_fit s lines ≡ true → line_fits (fold after_line s lines) line ≡ true → lines_fit s (lines ++ line ∷ []) ≡ true

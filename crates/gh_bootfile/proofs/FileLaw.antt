@@ -1,6 +1,8 @@
 -- The two laws on whole files: what is read is the file's text and meets the conditions of boot
 -- files, and the text of a boot file is read.
-use Rattle.std.proofs.Common.{◌≡◌, ℕ, Bool, true, false, ◌&&◌, cond, eqb, leb, List, [], ◌∷◌, ◌++◌, length, Result, Ok, Err, refl, sym, ap, subst, ◌∙◌, append_assoc}
+use Rattle.std.proofs.Common.{◌≡◌, ℕ, Bool, true, false, ◌&&◌, cond, eqb}
+use Rattle.std.proofs.Common.{leb, List, [], ◌∷◌, ◌++◌, length, Result, Ok}
+use Rattle.std.proofs.Common.{Err, refl, sym, ap, subst, ◌∙◌, append_assoc}
 use Rattle.std.specs.Prelude.{IfOk}
 use Rattle.std.specs.List.{flat_map, fold, list_all}
 use Rattle.std.specs.Str.{bytes_eq}
@@ -12,14 +14,17 @@ use Rattle.gh_model.specs.declared.boot_line.BootLine.{BootLine}
 use Rattle.gh_model.specs.declared.boot_line.BootLine.TheVariants as boot
 use Rattle.gh_model.specs.declared.file_err.FileErr.{FileErr}
 use Rattle.gh_model.specs.declared.state.State.{State}
-use Rattle.gh_model.specs.Boot.{after_line, boot_fits, boot_state, empty_state, is_complete, line_fits, lines_fit}
+use Rattle.gh_model.specs.Boot.{after_line, boot_fits, boot_state, empty_state}
+use Rattle.gh_model.specs.Boot.{is_complete, line_fits, lines_fit}
 use Rattle.gh_model.specs.Pieces.{pieces_at}
 use Rattle.gh_bootfile.specs.BadLine.{fit_in_turn}
 use Rattle.gh_bootfile.specs.BootFile.{Answers, and_then, at_end, boot_of, lines_on, next_number}
 use Rattle.gh_bootfile.specs.Draft.{all_fit, next_fits, is_whole}
 use Rattle.gh_bootfile.specs.Grammar.{boot_text, ended_line, fields_hold, format_line}
 use Rattle.gh_bootfile.proofs.DraftLemmas.{all_fit-more, boot_whole}
-use Rattle.gh_bootfile.proofs.WalkLaw.{Cut, Whole, At, cut, Stops, AtEnd, AtLine, chosen_ok, file_step, file_end, format_first, lines_end, lines_step, past_lines, walk, walk_read, when_ok}
+use Rattle.gh_bootfile.proofs.WalkLaw.{Cut, Whole, At, cut, Stops, AtEnd, AtLine, chosen_ok}
+use Rattle.gh_bootfile.proofs.WalkLaw.{file_step, file_end, format_first, lines_end}
+use Rattle.gh_bootfile.proofs.WalkLaw.{lines_step, past_lines, walk, walk_read, when_ok}
 
 -- ---- what is read is the file's text
 

@@ -1,5 +1,8 @@
 -- The two laws on lines: what is read is the line's text, and a line's text is read.
-use Rattle.std.proofs.Common.{◌≡◌, ℕ, zero, suc, ◌+◌, ◌^◌, ◌<◌, ◌≤◌, Bool, true, false, cond, eqb, List, [], ◌∷◌, ◌++◌, length, get_or, map, Option, Some, None, refl, sym, ap, ◌∙◌, append_assoc, length-append, arith, lit≤}
+use Rattle.std.proofs.Common.{◌≡◌, ℕ, zero, suc, ◌+◌, ◌^◌, ◌<◌}
+use Rattle.std.proofs.Common.{◌≤◌, Bool, true, false, cond, eqb, List, [], ◌∷◌}
+use Rattle.std.proofs.Common.{◌++◌, length, get_or, map, Option, Some, None, refl, sym}
+use Rattle.std.proofs.Common.{ap, ◌∙◌, append_assoc, length-append, arith, lit≤}
 use Rattle.std.specs.Fmt.{decimal}
 use Rattle.std.specs.List.{find, flat_map, list_all, join_with_byte, AllByRecursion, range_with_len}
 use Rattle.std.specs.Option.{option_and_then}
@@ -7,13 +10,18 @@ use Rattle.std.proofs.lemmas.Bool.{and_parts, eqb-true, cond-true}
 use Rattle.std.proofs.lemmas.Bool.Decides.{nat_tests}
 use Rattle.std.proofs.lemmas.List.{append-nil}
 use Rattle.std.proofs.lemmas.List.FromFn.{fill_by_all}
-use Rattle.std.proofs.lemmas.List.Splits.{slice_split_none, slice_split_at, join_with_byte-slice_split}
+use Rattle.std.proofs.lemmas.List.Splits.{slice_split_none, slice_split_at}
+use Rattle.std.proofs.lemmas.List.Splits.{join_with_byte-slice_split}
 use Rattle.std.proofs.lemmas.Option.{cond_some, same_Some, option_and_then_some}
 use Rattle.std.proofs.lemmas.Slice.Eq.{bytes_eq-Decides}
 use Rattle.gh_bootfile.specs.declared.keyword.Keyword.{Keyword}
 use Rattle.gh_bootfile.specs.declared.keyword.Keyword.TheVariants as word
-use Rattle.gh_bootfile.specs.Grammar.{keyword_text, mark_number, parts_of, line_parts, spaced, spelled, parts_text, line_text, bounds, are_below, parts_hold, fields_hold}
-use Rattle.gh_bootfile.specs.Reading.{has_text, keywords, keyword_of, number_of, with_number, numbers_on, line_made, line_from, line_of_words, line_of}
+use Rattle.gh_bootfile.specs.Grammar.{keyword_text, mark_number, parts_of, line_parts}
+use Rattle.gh_model.specs.Text.{spaced}
+use Rattle.gh_bootfile.specs.Grammar.{spelled, parts_text, line_text, bounds}
+use Rattle.gh_bootfile.specs.Grammar.{are_below, parts_hold, fields_hold}
+use Rattle.gh_bootfile.specs.Reading.{has_text, keywords, keyword_of, number_of, with_number}
+use Rattle.gh_bootfile.specs.Reading.{numbers_on, line_made, line_from, line_of_words, line_of}
 use Rattle.gh_model.specs.Pieces.{is_byte_of, pieces_at}
 use Rattle.gh_model.specs.declared.boot_line.BootLine.{BootLine}
 use Rattle.gh_model.specs.declared.boot_line.BootLine.TheVariants as boot

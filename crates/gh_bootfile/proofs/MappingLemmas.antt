@@ -1,5 +1,7 @@
 -- What the table of mappings says of all mappings.
-use Rattle.std.proofs.Common.{◌≡◌, ℕ, zero, suc, ◌+◌, ◌<◌, Bool, false, List, [], ◌∷◌, ◌++◌, length, refl, sym, ap, ◌∙◌, arith, inl, inr, cond, eq-eqb, ne_eqb}
+use Rattle.std.proofs.Common.{◌≡◌, ℕ, zero, suc, ◌+◌, ◌<◌, Bool}
+use Rattle.std.proofs.Common.{false, List, [], ◌∷◌, ◌++◌, length, refl, sym}
+use Rattle.std.proofs.Common.{ap, ◌∙◌, arith, inl, inr, cond, eq-eqb, ne_eqb}
 use Rattle.std.specs.Prelude.{◌||◌, filter, count_by}
 use Rattle.std.specs.List.{list_any}
 use Rattle.std.proofs.lemmas.Bool.{cases_Bool, cases_eq}
@@ -18,7 +20,10 @@ place_more (rows ∷ table) zero = refl
 place_more (rows ∷ table) (suc n) = place_more table n
 
 -- a mapping behind the others of its address space
-pub has_row : (table : List (List MappingRow)) (mappings : List MappingRow) (row : MappingRow) → HasMappings table mappings → row.space.0 < length table → HasMappings (with_row table row) (mappings ++ row ∷ [])
+pub has_row : (table : List (List MappingRow)) (mappings : List MappingRow) (row : MappingRow)
+    → HasMappings table mappings
+    → row.space.0 < length table
+    → HasMappings (with_row table row) (mappings ++ row ∷ [])
 has_row table mappings row has within n =
     elim (cases_eq n row.space.0) [
       | inl here ↦
@@ -30,7 +35,10 @@ has_row table mappings row has within n =
     ]
 
 -- what the mappings of one address space say of all
-any_of_rows : (test : MappingRow → Bool) (space : ℕ) → ((row : MappingRow) → is_row_of space row ≡ false → test row ≡ false) → (mappings : List MappingRow) → list_any test (filter (is_row_of space) mappings) ≡ list_any test mappings
+any_of_rows : (test : MappingRow → Bool) (space : ℕ)
+    → ((row : MappingRow) → is_row_of space row ≡ false → test row ≡ false)
+    → (mappings : List MappingRow)
+    → list_any test (filter (is_row_of space) mappings) ≡ list_any test mappings
 any_of_rows test space fails [] = refl
 any_of_rows test space fails (row ∷ mappings) =
     elim (cases_Bool (is_row_of space row)) [

@@ -1,5 +1,8 @@
 -- How a text is walked: line by line, up to the first that is bad or to the end.
-use Rattle.std.proofs.Common.{◌≡◌, ℕ, zero, suc, ◌+◌, ◌<◌, Bool, true, false, cond, List, [], ◌∷◌, ◌++◌, length, Option, Some, None, Result, Ok, Err, refl, sym, ap, subst, ◌∙◌, append_assoc, length-append, arith}
+use Rattle.std.proofs.Common.{◌≡◌, ℕ, zero, suc, ◌+◌, ◌<◌, Bool, true}
+use Rattle.std.proofs.Common.{false, cond, List, [], ◌∷◌, ◌++◌, length}
+use Rattle.std.proofs.Common.{Option, Some, None, Result, Ok, Err, refl, sym, ap}
+use Rattle.std.proofs.Common.{subst, ◌∙◌, append_assoc, length-append, arith}
 use Rattle.std.specs.List.{flat_map, list_all, onto_first}
 use Rattle.std.specs.Str.{bytes_eq}
 use Rattle.std.proofs.lemmas.Bool.{and_from, and_parts, eqb-true}
@@ -10,7 +13,8 @@ use Rattle.gh_model.specs.declared.file_err.FileErr.{FileErr}
 use Rattle.gh_model.specs.declared.file_err.FileErr.TheVariants as errors
 use Rattle.gh_model.specs.Pieces.{is_byte_of, pieces_at}
 use Rattle.gh_bootfile.specs.BadLine.{fit_in_turn}
-use Rattle.gh_bootfile.specs.BootFile.{Fails, and_then, at_end, boot_of, file_of, lines_on, next_number, with_line}
+use Rattle.gh_bootfile.specs.BootFile.{Fails, and_then, at_end, boot_of, file_of}
+use Rattle.gh_bootfile.specs.BootFile.{lines_on, next_number, with_line}
 use Rattle.gh_bootfile.specs.Draft.{next_fits}
 use Rattle.gh_bootfile.specs.Grammar.{ended_line, fields_hold, format_line, line_text}
 use Rattle.gh_bootfile.specs.Reading.{line_of}

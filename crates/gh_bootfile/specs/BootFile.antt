@@ -1,5 +1,7 @@
 -- What a whole boot file reads as: its lines, or the number of its first bad line.
-use Rattle.std.specs.Prelude.{◌≡◌, ◌==◌, ◌&&◌, ◌+◌, ◌++◌, ℕ, List, [], ◌∷◌, length, Option, Some, None, Result, Ok, Err, if◌then◌else◌}
+use Rattle.std.specs.Prelude.{◌≡◌, ◌==◌, ◌&&◌, ◌+◌, ◌++◌}
+use Rattle.std.specs.Prelude.{ℕ, List, [], ◌∷◌, length, Option, Some}
+use Rattle.std.specs.Prelude.{None, Result, Ok, Err, if◌then◌else◌}
 use Rattle.std.specs.Str.{bytes_eq}
 use Rattle.gh_model.specs.declared.boot_line.BootLine.{BootLine}
 use Rattle.gh_model.specs.declared.file_err.FileErr.{FileErr}
@@ -25,10 +27,11 @@ unfoldable pub at_end : List BootLine → List ℕ → Result (List BootLine) �
 at_end lines left =
     if (length left == 0) && is_whole lines then Ok lines else Err (next_number lines)
 
--- what is read goes on, and a bad line stays
-abbrev pub and_then : {A B : Type 0} → Result A ℕ → (A → Result B ℕ) → Result B ℕ
+-- what follows a reading, unless it found a fault
+abbrev pub and_then :
+    {A B Fault : Type 0} → Result A Fault → (A → Result B Fault) → Result B Fault
 and_then (Ok value) next = next value
-and_then (Err line) next = Err line
+and_then (Err fault) next = Err fault
 
 -- the pieces between line feeds, read one by one behind the lines so far. The last piece is what
 -- stands behind the last line feed

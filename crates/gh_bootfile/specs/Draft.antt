@@ -1,11 +1,17 @@
 -- The lines of a boot file so far: which line may come next, and when they are a whole boot file.
-use Rattle.std.specs.Prelude.{◌≡◌, ◌&&◌, ◌||◌, ◌++◌, ℕ, Bool, true, false, List, [], ◌∷◌, Option, Some, None, filter, nat_le, slice_index_or, slice_set}
+use Rattle.std.specs.Prelude.{◌≡◌, ◌&&◌, ◌||◌, ◌++◌, ℕ, Bool}
+use Rattle.std.specs.Prelude.{true, false, List, [], ◌∷◌, Option, Some}
+use Rattle.std.specs.Prelude.{None, filter, nat_le, slice_index_or, slice_set}
 use Rattle.gh_base.specs.declared.limits.TheConstants.{MACHINE_PAGES}
 use Rattle.gh_model.specs.declared.boot_line.BootLine.{BootLine}
-use Rattle.gh_model.specs.declared.boot_line.BootLine.TheVariants.{Pages, Partition, Cspace, Addrspace, Doorbell, RootExtent, Extent, Msgqueue, Map, Cap, Vm, Rm, Link}
+use Rattle.gh_model.specs.declared.boot_line.BootLine.TheVariants.{Pages, Partition, Cspace}
+use Rattle.gh_model.specs.declared.boot_line.BootLine.TheVariants.{Addrspace, Doorbell}
+use Rattle.gh_model.specs.declared.boot_line.BootLine.TheVariants.{RootExtent, Extent, Msgqueue}
+use Rattle.gh_model.specs.declared.boot_line.BootLine.TheVariants.{Map, Cap, Vm, Rm, Link}
 use Rattle.gh_model.specs.declared.rows.MappingRow.{MappingRow}
 use Rattle.gh_model.specs.declared.state.State.{State}
-use Rattle.gh_model.specs.Boot.{empty_state, after_line, boot_state, line_fits, lines_fit, is_complete, is_row_of}
+use Rattle.gh_model.specs.Boot.{empty_state, after_line, boot_state}
+use Rattle.gh_model.specs.Boot.{line_fits, lines_fit, is_complete, is_row_of}
 use Rattle.gh_model.specs.Fitting.{IsFitting}
 use Rattle.gh_bootfile.specs.declared.draft.Draft.{Draft}
 

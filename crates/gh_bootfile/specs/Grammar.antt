@@ -1,12 +1,17 @@
 -- The text of a boot file: its lines as they are spelled, apart from any reader.
-use Rattle.std.specs.Prelude.{◌==◌, ◌&&◌, ◌+◌, ◌++◌, ◌^◌, ℕ, Bool, true, false, List, [], ◌∷◌, codes, length, nat_lt, slice_index}
+use Rattle.std.specs.Prelude.{◌==◌, ◌&&◌, ◌+◌, ◌++◌, ◌^◌, ℕ, Bool, true}
+use Rattle.std.specs.Prelude.{false, List, [], ◌∷◌, codes, length, nat_lt, slice_index}
 use Rattle.std.specs.List.{flat_map}
 use Rattle.std.specs.Fmt.{decimal}
 use Rattle.gh_bootfile.specs.declared.keyword.Keyword.{Keyword}
 use Rattle.gh_bootfile.specs.declared.keyword.Keyword.TheVariants as word
 use Rattle.gh_bootfile.specs.declared.parts.Parts.{Parts}
+use Rattle.gh_model.specs.Text.{spaced}
 use Rattle.gh_model.specs.declared.boot_line.BootLine.{BootLine}
-use Rattle.gh_model.specs.declared.boot_line.BootLine.TheVariants.{Pages, Partition, Cspace, Addrspace, Doorbell, RootExtent, Extent, Msgqueue, Map, Cap, Vm, Rm, Link}
+use Rattle.gh_model.specs.declared.boot_line.BootLine.TheVariants.{Pages, Partition, Cspace}
+use Rattle.gh_model.specs.declared.boot_line.BootLine.TheVariants.{Addrspace, Doorbell}
+use Rattle.gh_model.specs.declared.boot_line.BootLine.TheVariants.{RootExtent, Extent, Msgqueue}
+use Rattle.gh_model.specs.declared.boot_line.BootLine.TheVariants.{Map, Cap, Vm, Rm, Link}
 
 -- the word that a line begins with
 abbrev pub keyword_text : Keyword → List ℕ
@@ -43,7 +48,8 @@ line_parts (Doorbell partition) = parts_of word.Doorbell (partition.0 ∷ [])
 line_parts (RootExtent partition) = parts_of word.RootExtent (partition.0 ∷ [])
 line_parts (Extent partition parent offset count access held_offset held_count) =
     parts_of word.Extent
-    (partition.0 ∷ parent.0 ∷ offset ∷ count ∷ access.0 ∷ held_offset ∷ held_count ∷ [])
+    (partition.0 ∷ parent.0 ∷ offset ∷ count ∷ access.0 ∷ held_offset ∷ held_count
+    ∷ [])
 line_parts (Msgqueue partition depth size) =
     parts_of word.Msgqueue (partition.0 ∷ depth ∷ size ∷ [])
 line_parts (Map space extent base offset count access) =
@@ -51,13 +57,10 @@ line_parts (Map space extent base offset count access) =
 line_parts (Cap cspace slot object rights master) =
     parts_of word.Cap (cspace.0 ∷ slot ∷ object.0 ∷ rights.0 ∷ mark_number master ∷ [])
 line_parts (Vm cspace space) = parts_of word.Vm (cspace.0 ∷ space.0 ∷ [])
-line_parts (Rm cspace space partition) = parts_of word.Rm (cspace.0 ∷ space.0 ∷ partition.0 ∷ [])
+line_parts (Rm cspace space partition) =
+    parts_of word.Rm (cspace.0 ∷ space.0 ∷ partition.0 ∷ [])
 line_parts (Link vm extent request reply) =
     parts_of word.Link (vm.0 ∷ extent.0 ∷ request.0 ∷ reply.0 ∷ [])
-
--- a space, and a number in decimal
-abbrev pub spaced : ℕ → List ℕ
-spaced number = codes " " ++ decimal number
 
 -- a word, and behind it numbers, each after a space
 abbrev pub spelled : List ℕ → List ℕ → List ℕ
@@ -110,11 +113,13 @@ bounds word.Addrspace = serial_bound ∷ []
 bounds word.Doorbell = serial_bound ∷ []
 bounds word.RootExtent = serial_bound ∷ []
 bounds word.Extent =
-    serial_bound ∷ serial_bound ∷ small_bound ∷ small_bound ∷ byte_bound ∷ small_bound ∷ small_bound
+    serial_bound ∷ serial_bound ∷ small_bound ∷ small_bound ∷ byte_bound ∷ small_bound
+    ∷ small_bound
     ∷ []
 bounds word.Msgqueue = serial_bound ∷ small_bound ∷ small_bound ∷ []
 bounds word.Map =
-    serial_bound ∷ serial_bound ∷ small_bound ∷ small_bound ∷ small_bound ∷ byte_bound ∷ []
+    serial_bound ∷ serial_bound ∷ small_bound ∷ small_bound ∷ small_bound ∷ byte_bound
+    ∷ []
 bounds word.Cap = serial_bound ∷ byte_bound ∷ serial_bound ∷ small_bound ∷ mark_bound ∷ []
 bounds word.Vm = serial_bound ∷ serial_bound ∷ []
 bounds word.Rm = serial_bound ∷ serial_bound ∷ serial_bound ∷ []

@@ -1,6 +1,7 @@
 -- What a line of a boot file reads as: its first word says which line it is, and the words behind
 -- are numbers.
-use Rattle.std.specs.Prelude.{◌==◌, ◌++◌, ◌^◌, ℕ, Bool, List, [], ◌∷◌, length, slice_index, nat_lt, Option, Some, None, find, if◌then◌else◌}
+use Rattle.std.specs.Prelude.{◌==◌, ◌++◌, ◌^◌, ℕ, Bool, List, [], ◌∷◌, length}
+use Rattle.std.specs.Prelude.{slice_index, nat_lt, Option, Some, None, find, if◌then◌else◌}
 use Rattle.std.specs.Option.{option_and_then}
 use Rattle.std.specs.Str.{bytes_eq}
 use Rattle.gh_base.specs.declared.ids.Serial.{Serial}
@@ -15,8 +16,10 @@ use Rattle.gh_model.specs.declared.boot_line.BootLine.TheVariants as boot
 -- all keywords
 abbrev pub keywords : List Keyword
 keywords =
-    word.Pages ∷ word.Partition ∷ word.Cspace ∷ word.Addrspace ∷ word.Doorbell ∷ word.RootExtent
-    ∷ word.Extent ∷ word.Msgqueue ∷ word.Map ∷ word.Cap ∷ word.Vm ∷ word.Rm ∷ word.Link ∷ []
+    word.Pages ∷ word.Partition ∷ word.Cspace ∷ word.Addrspace ∷ word.Doorbell
+    ∷ word.RootExtent
+    ∷ word.Extent ∷ word.Msgqueue ∷ word.Map ∷ word.Cap ∷ word.Vm ∷ word.Rm
+    ∷ word.Link ∷ []
 
 -- the keyword has this text
 abbrev pub has_text : List ℕ → Keyword → Bool
@@ -84,7 +87,8 @@ abbrev pub line_of_words : List (List ℕ) → Option BootLine
 line_of_words [] = None
 line_of_words (text ∷ texts) =
     option_and_then
-    (λ keyword. option_and_then (λ ns. line_from keyword ns) (numbers_on [] texts)) (keyword_of text)
+    (λ keyword. option_and_then (λ ns. line_from keyword ns) (numbers_on [] texts))
+    (keyword_of text)
 
 -- what a line reads as, without its line feed; none where it is no boot line
 unfoldable pub line_of : List ℕ → Option BootLine

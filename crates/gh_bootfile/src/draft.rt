@@ -1,6 +1,7 @@
 //! The lines of a boot file as they are read, each of which fits behind those before it.
 
-ghost use Rattle.std.specs.Prelude.{◌≡◌, ◌++◌, ◌∷◌, [], true, slice_get, length, OnOk};
+ghost use Rattle.std.specs.Prelude.{◌≡◌, ◌++◌, ◌∷◌};
+ghost use Rattle.std.specs.Prelude.{[], true, slice_get, length, OnOk};
 ghost use Rattle.gh_model.specs.Boot.{after_line, line_fits};
 ghost use Rattle.gh_model.specs.Fitting.{IsFitting};
 ghost use Rattle.gh_bootfile.specs.Draft.{first_fits, next_fits, is_whole, may_make, IsDraft};

@@ -2,7 +2,8 @@
 
 ghost use Rattle.std.specs.Prelude.{◌≡◌, ◌&&◌, count_by};
 ghost use Rattle.gh_base.specs.Kind.{kind_number};
-ghost use Rattle.gh_model.specs.Boot.{is_of_kind, is_kind, kind_count, has_units, is_free_slot, is_master_of, line_fits, rights_fit_kind};
+ghost use Rattle.gh_model.specs.Boot.{is_of_kind, is_kind, kind_count, has_units};
+ghost use Rattle.gh_model.specs.Boot.{is_free_slot, is_master_of, line_fits, rights_fit_kind};
 ghost use Rattle.gh_model.specs.Rows.{fills};
 ghost use Rattle.std.specs.List.{list_any};
 ghost use Rattle.gh_bootfile.specs.Draft.{is_capability_line, is_object_line, IsDraft};

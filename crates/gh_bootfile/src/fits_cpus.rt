@@ -3,7 +3,8 @@
 ghost use Rattle.std.specs.Prelude.{◌≡◌, ◌==◌, ◌≤◌, ◌&&◌, true, is_some};
 ghost use Rattle.std.specs.List.{list_any};
 ghost use Rattle.gh_base.specs.declared.limits.TheConstants.{VMS};
-ghost use Rattle.gh_model.specs.Boot.{is_attachment, is_linked_queue, is_small_queue, line_fits, link_fits, may_attach, queues_may_link, vm_may_link};
+ghost use Rattle.gh_model.specs.Boot.{is_attachment, is_linked_queue, is_small_queue, line_fits};
+ghost use Rattle.gh_model.specs.Boot.{link_fits, may_attach, queues_may_link, vm_may_link};
 ghost use Rattle.gh_model.specs.Fitting.{IsFitting};
 ghost use Rattle.gh_model.specs.Rows.{cpu_row};
 ghost use Rattle.gh_bootfile.specs.Draft.{is_cpu_line};

@@ -1,6 +1,7 @@
 //! Which extents and mappings fit.
 
-ghost use Rattle.std.specs.Prelude.{◌≡◌, ◌==◌, ◌+◌, ◌≤◌, ◌&&◌, take, drop, find, length, IfSome, count_by};
+ghost use Rattle.std.specs.Prelude.{◌≡◌, ◌==◌, ◌+◌, ◌≤◌, ◌&&◌};
+ghost use Rattle.std.specs.Prelude.{take, drop, find, length, IfSome, count_by};
 ghost use Rattle.std.specs.List.{list_all, list_any};
 ghost use Rattle.gh_model.specs.Boot.{line_fits, is_access, access_fits, overlaps, is_row_of};
 ghost use Rattle.gh_model.specs.Fitting.{IsFitting};

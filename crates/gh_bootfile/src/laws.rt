@@ -23,8 +23,8 @@ pub fn text_of_line_is_read()
     ensures { (line : BootLine) → fields_hold line ≡ true → line_of (line_text line) ≡ Some line }
 {}
 
-/// What is read as a boot file is the text of its lines, each byte of it, and they meet the conditions
-/// of boot files.
+/// What is read as a boot file is the text of its lines, each byte of it, and they meet the
+/// conditions of boot files.
 pub fn read_file_is_its_text()
     ensures spelled { (text : List ℕ) (lines : List BootLine) →
         boot_of text ≡ Ok lines → text ≡ boot_text lines }

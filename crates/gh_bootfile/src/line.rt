@@ -1,6 +1,7 @@
 //! A line of a boot file, read from its text.
 
-ghost use Rattle.std.specs.Prelude.{◌≡◌, ◌==◌, length, nat_lt, if◌then◌else◌, Some, None};
+ghost use Rattle.std.specs.Prelude.{◌≡◌, ◌==◌, length, nat_lt};
+ghost use Rattle.std.specs.Prelude.{if◌then◌else◌, Some, None};
 ghost use Rattle.gh_bootfile.specs.Grammar.{bounds, byte_bound, mark_bound, small_bound};
 ghost use Rattle.gh_bootfile.specs.Reading.{line_from, line_of};
 

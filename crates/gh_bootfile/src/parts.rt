@@ -1,8 +1,11 @@
 //! The parts of a line: its keyword, and its numbers in order.
 
-ghost use Rattle.std.specs.Prelude.{◌≡◌, ◌≤◌, [], true, length, nat_lt, if◌then◌else◌};
-ghost use Rattle.gh_bootfile.specs.Draft.{is_capability_line, is_extent_line, is_link_line, is_mapping_line};
-ghost use Rattle.gh_bootfile.specs.Grammar.{byte_bound, fields_hold, line_parts, mark_number, serial_bound, small_bound};
+ghost use Rattle.std.specs.Prelude.{◌≡◌, ◌≤◌, [], true};
+ghost use Rattle.std.specs.Prelude.{length, nat_lt, if◌then◌else◌};
+ghost use Rattle.gh_bootfile.specs.Draft.{is_capability_line, is_extent_line};
+ghost use Rattle.gh_bootfile.specs.Draft.{is_link_line, is_mapping_line};
+ghost use Rattle.gh_bootfile.specs.Grammar.{byte_bound, fields_hold, line_parts};
+ghost use Rattle.gh_bootfile.specs.Grammar.{mark_number, serial_bound, small_bound};
 
 use crate::keyword::Keyword;
 use crate::number::Numbers;
@@ -59,7 +62,8 @@ fn mark_number(master: bool) -> u32
 }
 
 fn extent_numbers(line: &BootLine) -> Numbers
-    ensures numbers { result ≡ (if is_extent_line line.now then (line_parts line.now).numbers else []) }
+    ensures numbers { result
+        ≡ (if is_extent_line line.now then (line_parts line.now).numbers else []) }
     ensures fields { is_extent_line line.now ≡ true → fields_hold line.now ≡ true }
 {
     match *line {
@@ -85,7 +89,8 @@ fn extent_numbers(line: &BootLine) -> Numbers
 }
 
 fn mapping_numbers(line: &BootLine) -> Numbers
-    ensures numbers { result ≡ (if is_mapping_line line.now then (line_parts line.now).numbers else []) }
+    ensures numbers { result
+        ≡ (if is_mapping_line line.now then (line_parts line.now).numbers else []) }
     ensures fields { is_mapping_line line.now ≡ true → fields_hold line.now ≡ true }
 {
     match *line {
@@ -132,7 +137,8 @@ fn capability_numbers(line: &BootLine) -> Numbers
 }
 
 fn link_numbers(line: &BootLine) -> Numbers
-    ensures numbers { result ≡ (if is_link_line line.now then (line_parts line.now).numbers else []) }
+    ensures numbers { result
+        ≡ (if is_link_line line.now then (line_parts line.now).numbers else []) }
     ensures fields { is_link_line line.now ≡ true → fields_hold line.now ≡ true }
 {
     match *line {

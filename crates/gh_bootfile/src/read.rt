@@ -1,6 +1,7 @@
 //! A whole boot file, read line by line.
 
-ghost use Rattle.std.specs.Prelude.{◌≡◌, ◌+◌, ◌<◌, ◌^◌, ℕ, [], length, Ok, Err, IfOk, OnOk};
+ghost use Rattle.std.specs.Prelude.{◌≡◌, ◌+◌, ◌<◌, ◌^◌};
+ghost use Rattle.std.specs.Prelude.{ℕ, [], length, Ok, Err, IfOk, OnOk};
 ghost use Rattle.std.specs.Str.{bytes_eq};
 ghost use Rattle.gh_bootfile.specs.BadLine.{TellsFirstBad};
 ghost use Rattle.gh_bootfile.specs.BootFile.{Answers, at_end, boot_of, lines_on, told, with_line};
@@ -102,7 +103,8 @@ fn read(alloc: Global, text: &[u8]) -> Result<Boot, FileErr>
 pub fn read_boot(alloc: Global, text: &[u8]) -> Result<Boot, FileErr>
     ensures lines { IfOk result (λ boot. boot_of text.now ≡ Ok boot) }
     ensures text { IfOk result (λ boot. text.now ≡ boot_text boot) }
-    ensures bad { (line : ℕ) → result ≡ Err (FileErr.Bad line) → told (boot_of text.now) ≡ Err line }
+    ensures bad { (line : ℕ) → result ≡ Err (FileErr.Bad line)
+        → told (boot_of text.now) ≡ Err line }
     ensures first_bad { (line : ℕ) → result ≡ Err (FileErr.Bad line) → TellsFirstBad text.now line }
 {
     read(alloc, text)

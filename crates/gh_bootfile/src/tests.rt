@@ -13,17 +13,22 @@ fn one_vm() -> &'static str {
 
 /// Capability spaces 2 and 3, address spaces 4 and 5, the root extent 6, a doorbell 7.
 fn two_vms() -> &'static str {
-    "gunyah 1\npages 8\npartition 40\ncspace 1\ncspace 1\naddrspace 1\naddrspace 1\nrootextent 1\ndoorbell 1\n"
+    "gunyah 1\npages 8\npartition 40\ncspace 1\ncspace 1\naddrspace 1\naddrspace 1\n\
+     rootextent 1\ndoorbell 1\n"
 }
 
 /// Two partitions, with the second VM's doorbell in the smaller one.
 fn two_partitions() -> &'static str {
-    "gunyah 1\npages 8\npartition 40\npartition 2\ncspace 1\ncspace 1\naddrspace 1\naddrspace 1\nrootextent 1\ndoorbell 2\n"
+    "gunyah 1\npages 8\npartition 40\npartition 2\ncspace 1\ncspace 1\naddrspace 1\naddrspace 1\n\
+     rootextent 1\ndoorbell 2\n"
 }
 
 /// Two VMs that are linked to the resource manager.
 fn managed() -> &'static str {
-    "gunyah 1\npages 1024\npartition 100\ncspace 1\ncspace 1\ncspace 1\naddrspace 1\naddrspace 1\naddrspace 1\nrootextent 1\nextent 1 8 0 1024 7 0 512\nextent 1 8 0 1024 7 512 512\nmsgqueue 1 64 240\nmsgqueue 1 64 240\nmsgqueue 1 64 240\nmsgqueue 1 64 240\n"
+    "gunyah 1\npages 1024\npartition 100\ncspace 1\ncspace 1\ncspace 1\naddrspace 1\n\
+     addrspace 1\naddrspace 1\nrootextent 1\nextent 1 8 0 1024 7 0 512\n\
+     extent 1 8 0 1024 7 512 512\nmsgqueue 1 64 240\nmsgqueue 1 64 240\nmsgqueue 1 64 240\n\
+     msgqueue 1 64 240\n"
 }
 
 fn joined(alloc: Global, front: &str, back: &str) -> Result<String, NoMemory> {
@@ -70,11 +75,14 @@ fn boot_files() -> [(&'static str, &'static str); 7] {
         (one_vm(), "extent 1 4 3 1 7 0 1\ncap 2 4 5 7 1\nvm 2 3\n"),
         (
             one_vm(),
-            "extent 1 4 0 8 7 0 4\nextent 1 4 0 8 7 4 4\nmap 3 5 0 0 8 7\ncap 2 1 5 7 1\ncap 2 2 6 7 1\nvm 2 3\n",
+            "extent 1 4 0 8 7 0 4\nextent 1 4 0 8 7 4 4\nmap 3 5 0 0 8 7\ncap 2 1 5 7 1\n\
+             cap 2 2 6 7 1\nvm 2 3\n",
         ),
         (
             managed(),
-            "map 5 9 0 0 1024 7\nmap 6 10 0 0 1024 7\ncap 2 1 11 1 0\ncap 2 2 12 2 0\ncap 3 1 13 1 0\ncap 3 2 14 2 0\nvm 2 5\nvm 3 6\nrm 4 7 1\nlink 1 9 11 12\nlink 2 10 13 14\n",
+            "map 5 9 0 0 1024 7\nmap 6 10 0 0 1024 7\ncap 2 1 11 1 0\ncap 2 2 12 2 0\n\
+             cap 3 1 13 1 0\ncap 3 2 14 2 0\nvm 2 5\nvm 3 6\nrm 4 7 1\nlink 1 9 11 12\n\
+             link 2 10 13 14\n",
         ),
     ]
 }
@@ -122,7 +130,8 @@ fn a_text_that_is_no_boot_file_has_a_bad_line(rt: HostRuntime) -> Result<(), Fai
 /// Twelve lines of one VM: a doorbell 5, an extent 6 of four pages that holds two, message queues 7
 /// and 8, and a capability in slot 1. 24 units are left.
 fn twelve_lines() -> &'static str {
-    "gunyah 1\npages 8\npartition 40\ncspace 1\naddrspace 1\nrootextent 1\ndoorbell 1\nextent 1 4 0 4 7 0 2\nmsgqueue 1 4 240\nmsgqueue 1 4 16\ncap 2 1 5 3 1\nvm 2 3\n"
+    "gunyah 1\npages 8\npartition 40\ncspace 1\naddrspace 1\nrootextent 1\ndoorbell 1\n\
+     extent 1 4 0 4 7 0 2\nmsgqueue 1 4 240\nmsgqueue 1 4 16\ncap 2 1 5 3 1\nvm 2 3\n"
 }
 
 /// Whether the first bad line is the last of a run behind the twelve. A stroke parts two lines.
@@ -142,27 +151,45 @@ fn last_is_bad(alloc: Global, run: &str) -> Result<bool, NoMemory> {
 
 /// Lines without the form of a boot line.
 fn misspelled() -> &'static str {
-    "|doorbell|doorbell |doorbell 01|doorbell  1|doorbell 1 | doorbell 1|doorbell 1 1|doorbell +1|doorbell 1\r|Doorbell 1|bell 1|doorbell 4294967297|doorbell 10000000000000000000001|partition 65537|extent 1 4 4 2 7 0|extent 1 4 4 2 7 0 2 0|cap 2 258 5 3 0|cap 2 2 5 3 2"
+    "|doorbell|doorbell |doorbell 01|doorbell  1|doorbell 1 | doorbell 1|doorbell 1 1|\
+     doorbell +1|doorbell 1\r|Doorbell 1|bell 1|doorbell 4294967297|\
+     doorbell 10000000000000000000001|partition 65537|extent 1 4 4 2 7 0|extent 1 4 4 2 7 0 2 0|\
+     cap 2 258 5 3 0|cap 2 2 5 3 2"
 }
 
 /// Object lines of which each breaks one condition.
 fn misfit_objects() -> &'static str {
-    "pages 8|partition 0|partition 129|cspace 2|partition 3/cspace 9|partition 3/addrspace 9|doorbell 0|doorbell 1/partition 1/doorbell 10|rootextent 1|msgqueue 5 4 16|msgqueue 1 0 16|msgqueue 1 65 16|msgqueue 1 4 0|msgqueue 1 4 1025|msgqueue 1 64 1024/msgqueue 1 64 1024"
+    "pages 8|partition 0|partition 129|cspace 2|partition 3/cspace 9|partition 3/addrspace 9|\
+     doorbell 0|doorbell 1/partition 1/doorbell 10|rootextent 1|msgqueue 5 4 16|msgqueue 1 0 16|\
+     msgqueue 1 65 16|msgqueue 1 4 0|msgqueue 1 4 1025|msgqueue 1 64 1024/msgqueue 1 64 1024"
 }
 
 /// The same of extents and mappings.
 fn misfit_pages() -> &'static str {
-    "extent 4 4 4 2 7 0 0|partition 1/extent 9 4 4 2 7 0 0|extent 1 5 0 1 7 0 0|extent 1 4 7 2 7 0 0|extent 1 4 4 0 7 0 0|extent 1 4 4 2 0 0 2|extent 1 4 4 2 3 0 2|extent 1 4 4 2 8 0 2|extent 1 4 4 2 7 1 2|extent 1 4 0 3 7 1 2|extent 1 4 4 2 4 0 2/extent 1 9 0 1 6 0 0|map 2 4 0 0 1 7|map 3 5 0 0 1 7|map 3 4 0 0 0 7|map 3 4 0 0 9 7|map 3 4 4095 0 2 7|map 3 4 0 0 1 0|map 3 4 0 0 1 3|extent 1 4 4 2 4 0 2/map 3 9 0 0 1 6|map 3 4 0 0 2 7/map 3 4 1 0 1 7"
+    "extent 4 4 4 2 7 0 0|partition 1/extent 9 4 4 2 7 0 0|extent 1 5 0 1 7 0 0|\
+     extent 1 4 7 2 7 0 0|extent 1 4 4 0 7 0 0|extent 1 4 4 2 0 0 2|extent 1 4 4 2 3 0 2|\
+     extent 1 4 4 2 8 0 2|extent 1 4 4 2 7 1 2|extent 1 4 0 3 7 1 2|\
+     extent 1 4 4 2 4 0 2/extent 1 9 0 1 6 0 0|map 2 4 0 0 1 7|map 3 5 0 0 1 7|map 3 4 0 0 0 7|\
+     map 3 4 0 0 9 7|map 3 4 4095 0 2 7|map 3 4 0 0 1 0|map 3 4 0 0 1 3|\
+     extent 1 4 4 2 4 0 2/map 3 9 0 0 1 6|map 3 4 0 0 2 7/map 3 4 1 0 1 7"
 }
 
 /// The same of capabilities and CPUs.
 fn misfit_cpus() -> &'static str {
-    "cap 3 2 5 3 0|cap 2 0 5 3 0|cap 2 128 5 3 0|cap 2 1 5 3 0|cap 2 2 9 0 0|cap 2 2 5 4 0|cap 2 2 5 3 1|doorbell 1/cap 2 2 9 259 0/cap 2 3 9 260 0|vm 3 2|cspace 1/vm 9 3|addrspace 1/vm 2 9|rm 2 3 1|addrspace 1/rm 2 9 1|cspace 1/rm 9 3 1|cspace 1/addrspace 1/rm 9 10 2|cspace 1/addrspace 1/cap 9 1 5 1 0/rm 9 10 1|cspace 1/addrspace 1/rm 9 10 1/cspace 1/addrspace 1/rm 11 12 1|link 1 6 7 8"
+    "cap 3 2 5 3 0|cap 2 0 5 3 0|cap 2 128 5 3 0|cap 2 1 5 3 0|cap 2 2 9 0 0|cap 2 2 5 4 0|\
+     cap 2 2 5 3 1|doorbell 1/cap 2 2 9 259 0/cap 2 3 9 260 0|vm 3 2|cspace 1/vm 9 3|\
+     addrspace 1/vm 2 9|rm 2 3 1|addrspace 1/rm 2 9 1|cspace 1/rm 9 3 1|\
+     cspace 1/addrspace 1/rm 9 10 2|cspace 1/addrspace 1/cap 9 1 5 1 0/rm 9 10 1|\
+     cspace 1/addrspace 1/rm 9 10 1/cspace 1/addrspace 1/rm 11 12 1|link 1 6 7 8"
 }
 
 /// The same of links, behind a resource manager of capability space 9.
 fn misfit_links() -> &'static str {
-    "link 0 6 7 8|link 2 6 7 8|link 1 5 7 8|link 1 6 5 8|link 1 6 7 5|link 1 6 7 7|msgqueue 1 4 241/link 1 6 11 8|cap 9 2 5 1 0/link 1 6 7 8|cap 9 3 5 1 0/link 1 6 7 8|link 1 6 7 8/link 1 6 7 8|cspace 1/addrspace 1/vm 11 12/link 1 6 7 8/msgqueue 1 4 16/link 2 6 7 13|cspace 1/addrspace 1/vm 11 12/link 1 6 7 8/msgqueue 1 4 16/link 2 6 13 8"
+    "link 0 6 7 8|link 2 6 7 8|link 1 5 7 8|link 1 6 5 8|link 1 6 7 5|link 1 6 7 7|\
+     msgqueue 1 4 241/link 1 6 11 8|cap 9 2 5 1 0/link 1 6 7 8|cap 9 3 5 1 0/link 1 6 7 8|\
+     link 1 6 7 8/link 1 6 7 8|\
+     cspace 1/addrspace 1/vm 11 12/link 1 6 7 8/msgqueue 1 4 16/link 2 6 7 13|\
+     cspace 1/addrspace 1/vm 11 12/link 1 6 7 8/msgqueue 1 4 16/link 2 6 13 8"
 }
 
 #[test]

@@ -1,9 +1,12 @@
 //! A whole boot file, written line by line.
 
-ghost use Rattle.std.specs.Prelude.{◌≡◌, ◌++◌, ◌+◌, ℕ, List, Ok, OnOk, IfOk, string_bytes, codes, true};
+ghost use Rattle.std.specs.Prelude.{◌≡◌, ◌++◌, ◌+◌, ℕ, List};
+ghost use Rattle.std.specs.Prelude.{Ok, OnOk, IfOk, string_bytes, codes, true};
 ghost use Rattle.std.specs.List.{flat_map, list_all};
 ghost use Rattle.gh_bootfile.specs.BootFile.{boot_of};
-ghost use Rattle.gh_bootfile.specs.Grammar.{boot_text, ended_line, fields_hold, line_text, parts_text, spaced};
+ghost use Rattle.gh_bootfile.specs.Grammar.{boot_text, ended_line, fields_hold};
+ghost use Rattle.gh_model.specs.Text.{spaced};
+ghost use Rattle.gh_bootfile.specs.Grammar.{line_text, parts_text};
 
 use crate::parts::{Parts, line_parts};
 use gh_base::NoMemory;

@@ -1,5 +1,7 @@
 -- How a text is read line by line.
-use Rattle.std.proofs.Common.{◌≡◌, ℕ, ◌+◌, ◌-◌, ◌<◌, ◌≤◌, ◌==◌, Bool, true, false, nat_le, List, [], ◌∷◌, ◌++◌, Option, Some, None, length, ap, append-nil, arith, refl, if◌then◌else◌}
+use Rattle.std.proofs.Common.{◌≡◌, ℕ, ◌+◌, ◌-◌, ◌<◌, ◌≤◌, ◌==◌, Bool}
+use Rattle.std.proofs.Common.{true, false, nat_le, List, [], ◌∷◌, ◌++◌, Option, Some}
+use Rattle.std.proofs.Common.{None, length, ap, append-nil, arith, refl, if◌then◌else◌}
 use Rattle.std.specs.List.{slice_split}
 use Rattle.std.proofs.lemmas.List.Splits.{length-slice_split}
 use Rattle.std.proofs.lemmas.List.Sums.{sum_by-cons}
@@ -7,15 +9,23 @@ use Rattle.std.proofs.lemmas.Bool.{leb-true}
 use Rattle.std.proofs.lemmas.Grind.{common_steps}
 use Rattle.gh_model.specs.declared.program.Line.{Line}
 use Rattle.gh_callfile.specs.Grammar.{line_of}
-use Rattle.gh_callfile.specs.CallFile.{Reading, Good, BadAt, calls_of_lines, is_line_feed, calls_of, line_then, with_lines, read_from}
+use Rattle.gh_callfile.specs.CallFile.{Reading, Good, BadAt, calls_of_lines, is_line_feed}
+use Rattle.gh_callfile.specs.CallFile.{calls_of, line_then, with_lines, read_from}
 
-step_of : (number room : ℕ) (text : List ℕ) (pieces : List (List ℕ)) → 0 < length pieces → read_from number room (text ∷ pieces) ≡ line_then number room (line_of text) (read_from (number + 1) (room - calls_of (line_of text)) pieces)
+step_of : (number room : ℕ) (text : List ℕ) (pieces : List (List ℕ))
+    → 0 < length pieces
+    → read_from number room (text ∷ pieces)
+    ≡ line_then number room (line_of text)
+    (read_from (number + 1) (room - calls_of (line_of text)) pieces)
 unfolding read_from
 step_of number room text [] some = absurd (omega arith)
 step_of number room text (next ∷ pieces) some = refl
 
 -- a line that ends is read before what stands behind it
-pub read_step : (number room : ℕ) (text rest : List ℕ) → read_from number room (text ∷ slice_split is_line_feed rest) ≡ line_then number room (line_of text) (read_from (number + 1) (room - calls_of (line_of text)) (slice_split is_line_feed rest))
+pub read_step : (number room : ℕ) (text rest : List ℕ)
+    → read_from number room (text ∷ slice_split is_line_feed rest)
+    ≡ line_then number room (line_of text)
+    (read_from (number + 1) (room - calls_of (line_of text)) (slice_split is_line_feed rest))
 read_step number room text rest =
     step_of number room text (slice_split is_line_feed rest) (omega (arith, length-slice_split is_line_feed rest))
 
@@ -29,7 +39,10 @@ with_lines_twice lines more (Good last) = grind (arith, common_steps)
 with_lines_twice lines more (BadAt number) = refl
 
 -- where nothing stands behind the last line feed, the lines so far are the file's
-pub read_to_end : (lines : List Line) (number room : ℕ) (rest : List ℕ) → slice_split is_line_feed rest ≡ rest ∷ [] → (length rest == 0) ≡ true → with_lines lines (read_from number room (slice_split is_line_feed rest)) ≡ Good lines
+pub read_to_end : (lines : List Line) (number room : ℕ) (rest : List ℕ)
+    → slice_split is_line_feed rest ≡ rest ∷ []
+    → (length rest == 0) ≡ true
+    → with_lines lines (read_from number room (slice_split is_line_feed rest)) ≡ Good lines
 unfolding read_from
 read_to_end lines number room rest one none = rw (one, none) (ap Good (append-nil lines))
 

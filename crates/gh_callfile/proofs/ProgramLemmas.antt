@@ -1,11 +1,14 @@
 -- The program of a call file makes the frames of its lines, reply by reply.
-use Rattle.std.proofs.Common.{◌≡◌, ◌==◌, ◌+◌, ◌∙◌, ℕ, Bool, true, false, List, [], ◌∷◌, Option, Some, None, refl, sym, ap, if◌then◌else◌}
+use Rattle.std.proofs.Common.{◌≡◌, ◌==◌, ◌+◌, ◌∙◌, ℕ, Bool, true, false, List}
+use Rattle.std.proofs.Common.{[], ◌∷◌, Option, Some, None, refl, sym, ap, if◌then◌else◌}
 use Rattle.std.specs.Prelude.{nat_lt, ◌&&◌}
 use Rattle.gh_base.specs.declared.frame.Frame.{Frame}
 use Rattle.gh_base.specs.declared.frame.Reply.{Reply}
 use Rattle.gh_model.specs.declared.program.Line.{Line}
 use Rattle.gh_model.specs.declared.program.Standing.{Standing}
-use Rattle.gh_model.specs.Program.{Position, after_line_reply, after_reply, asks_again, exit_frame, frames_from, is_exit, last_number, line_frame, next_frame, program_frames}
+use Rattle.gh_model.specs.Program.{Position, after_line_reply, after_reply, asks_again}
+use Rattle.gh_model.specs.Program.{exit_frame, frames_from, is_exit, last_number}
+use Rattle.gh_model.specs.Program.{line_frame, next_frame, program_frames}
 use Rattle.gh_model.specs.Programs.{asked, frames_made, frames_on}
 use Rattle.gh_callfile.specs.VmProgress.{Progress, fresh, position_now, vm_after, vm_answer}
 
@@ -44,7 +47,10 @@ module _ (progress : Progress) (last : Option Reply) (going : (position_now prog
   program_is goes = program_by (progress.made + 1 == last_number) refl goes
 
 -- the program goes on behind a line that is no exit call
-stays_on : (again : Bool) (line : Line) (lines : List Line) (tries : ℕ) → (if◌then◌else◌ {A = Position} again (record { left = line ∷ lines; tries = tries + 1; ended = false }) (record { left = lines; tries = 0; ended = false })).ended ≡ false
+stays_on : (again : Bool) (line : Line) (lines : List Line) (tries : ℕ)
+    → (if◌then◌else◌ {A = Position} again
+    (record { left = line ∷ lines; tries = tries + 1; ended = false })
+    (record { left = lines; tries = 0; ended = false })).ended ≡ false
 stays_on true line lines tries = refl
 stays_on false line lines tries = refl
 
@@ -60,21 +66,75 @@ reply_goes : (number : ℕ) (position : Position) (reply : Reply) → is_exit (n
 reply_goes number position reply goes =
     rw goes (line_goes position.left position.tries reply (frame_by_number (number == last_number) position.left goes))
 
--- from any place on, the program makes the frames of the place, for the number of calls so far
-behind : (progress : Progress) (last : Option Reply) (reply : Reply) (replies : List Reply) (going : (position_now progress last).ended ≡ false) → ((onward : Progress) → (position_now onward (Some reply)).ended ≡ false → frames_on vm_answer vm_after (onward.made + 1) (asked vm_answer vm_after (onward.made + 1) onward (Some reply)) replies ≡ frames_from (onward.made + 1) (position_now onward (Some reply)) replies) → (exit : Bool) → is_exit (next_frame (progress.made + 1) (position_now progress last).left) ≡ exit → (if exit then [] else frames_on vm_answer vm_after (progress.made + 1 + 1) (asked vm_answer vm_after (progress.made + 1 + 1) (asked vm_answer vm_after (progress.made + 1) progress last).program (Some reply)) replies) ≡ frames_from (progress.made + 1 + 1) (after_reply (position_now progress last) (next_frame (progress.made + 1) (position_now progress last).left) reply) replies
-behind progress last reply replies going others true is =
-    sym (ended_frames (progress.made + 1 + 1) (after_reply (position_now progress last) (next_frame (progress.made + 1) (position_now progress last).left) reply) replies (rw is refl))
-behind progress last reply replies going others false is =
-    ap (λ (program : Progress). frames_on vm_answer vm_after (progress.made + 1 + 1) (asked vm_answer vm_after (progress.made + 1 + 1) program (Some reply)) replies) (program_is progress last going is)
-    ∙ others (onward progress last going) (reply_goes (progress.made + 1) (position_now progress last) reply is)
+-- the frame that is next
+abbrev frame_now : Progress → Option Reply → Frame
+frame_now progress last = next_frame (progress.made + 1) (position_now progress last).left
 
-pub frames_from_progress : (progress : Progress) (last : Option Reply) (replies : List Reply) → (position_now progress last).ended ≡ false → frames_on vm_answer vm_after (progress.made + 1) (asked vm_answer vm_after (progress.made + 1) progress last) replies ≡ frames_from (progress.made + 1) (position_now progress last) replies
+-- what the program is asked next
+abbrev asked_now : Progress → Option Reply → Standing Progress
+asked_now progress last = asked vm_answer vm_after (progress.made + 1) progress last
+
+-- the frames that the program makes from here on, and those behind the next
+abbrev made_on : Progress → Option Reply → List Reply → List Frame
+made_on progress last replies =
+    frames_on vm_answer vm_after (progress.made + 1) (asked_now progress last) replies
+
+abbrev made_behind : Progress → Option Reply → Reply → List Reply → List Frame
+made_behind progress last reply replies =
+    frames_on vm_answer vm_after (progress.made + 1 + 1)
+    (asked vm_answer vm_after (progress.made + 1 + 1) (asked_now progress last).program (Some reply))
+    replies
+
+-- the frames of its place from here on, and those behind the next
+abbrev placed_on : Progress → Option Reply → List Reply → List Frame
+placed_on progress last replies =
+    frames_from (progress.made + 1) (position_now progress last) replies
+
+abbrev place_behind : Progress → Option Reply → Reply → Position
+place_behind progress last reply =
+    after_reply (position_now progress last) (frame_now progress last) reply
+
+abbrev placed_behind : Progress → Option Reply → Reply → List Reply → List Frame
+placed_behind progress last reply replies =
+    frames_from (progress.made + 1 + 1) (place_behind progress last reply) replies
+
+-- from any place on, the program makes the frames of the place, for the number of calls so far
+behind : (progress : Progress) (last : Option Reply) (reply : Reply) (replies : List Reply)
+    (going : (position_now progress last).ended ≡ false)
+    → ((onward : Progress) → (position_now onward (Some reply)).ended ≡ false
+    → made_on onward (Some reply) replies ≡ placed_on onward (Some reply) replies)
+    → (exit : Bool)
+    → is_exit (frame_now progress last) ≡ exit
+    → (if exit then [] else made_behind progress last reply replies)
+    ≡ placed_behind progress last reply replies
+behind progress last reply replies going others true is =
+    sym (ended_frames (progress.made + 1 + 1) (place_behind progress last reply) replies (rw is refl))
+behind progress last reply replies going others false is =
+    ap
+    (λ (program : Progress). frames_on vm_answer vm_after (progress.made + 1 + 1)
+    (asked vm_answer vm_after (progress.made + 1 + 1) program (Some reply)) replies)
+    (program_is progress last going is)
+    ∙ others (onward progress last going)
+    (reply_goes (progress.made + 1) (position_now progress last) reply is)
+
+pub frames_from_progress : (progress : Progress) (last : Option Reply) (replies : List Reply)
+    → (position_now progress last).ended ≡ false
+    → made_on progress last replies ≡ placed_on progress last replies
 frames_from_progress progress last [] going = refl
 frames_from_progress progress last (reply ∷ replies) going =
-    ap (λ (frame : Frame). frame ∷ (if is_exit frame then [] else frames_on vm_answer vm_after (progress.made + 1 + 1) (asked vm_answer vm_after (progress.made + 1 + 1) (asked vm_answer vm_after (progress.made + 1) progress last).program (Some reply)) replies)) (frame_is progress last going)
-    ∙ ap (λ (frames : List Frame). next_frame (progress.made + 1) (position_now progress last).left ∷ frames)
-    (behind progress last reply replies going (λ onward goes. frames_from_progress onward (Some reply) replies goes) (is_exit (next_frame (progress.made + 1) (position_now progress last).left)) refl)
-    ∙ sym (ap (λ (ended : Bool). if ended then [] else next_frame (progress.made + 1) (position_now progress last).left ∷ frames_from (progress.made + 1 + 1) (after_reply (position_now progress last) (next_frame (progress.made + 1) (position_now progress last).left) reply) replies) going)
+    ap
+    (λ (frame : Frame). frame
+    ∷ (if is_exit frame then [] else made_behind progress last reply replies))
+    (frame_is progress last going)
+    ∙ ap (λ (frames : List Frame). frame_now progress last ∷ frames)
+    (behind progress last reply replies going
+    (λ onward goes. frames_from_progress onward (Some reply) replies goes)
+    (is_exit (frame_now progress last)) refl)
+    ∙ sym
+    (ap
+    (λ (ended : Bool). if ended then []
+    else frame_now progress last ∷ placed_behind progress last reply replies)
+    going)
 
 -- the frames that the program of a call file makes are those of its lines
 pub makes_its_lines : (lines : List Line) (replies : List Reply) → frames_made vm_answer vm_after (fresh lines) replies ≡ program_frames lines replies

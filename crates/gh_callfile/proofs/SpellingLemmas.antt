@@ -1,16 +1,25 @@
--- What is read as a line is spelled by its words, and each well written line is read as what it means.
-use Rattle.std.proofs.Common.{◌≡◌, ℕ, ◌+◌, ◌<◌, ◌≤◌, ◌&&◌, Bool, true, false, nat_le, List, [], ◌∷◌, ◌++◌, Option, Some, None, is_some, length, take, drop, ap, sym, ◌∙◌, arith, refl, zero, suc, count_by, slice_index_or, length-append}
+-- What is read as a line is spelled by its words, and each well written line is read as what it
+-- means.
+use Rattle.std.proofs.Common.{◌≡◌, ℕ, ◌+◌, ◌<◌, ◌≤◌, ◌&&◌, Bool}
+use Rattle.std.proofs.Common.{true, false, nat_le, List, [], ◌∷◌, ◌++◌, Option}
+use Rattle.std.proofs.Common.{Some, None, is_some, length, take, drop, ap, sym, ◌∙◌}
+use Rattle.std.proofs.Common.{arith, refl, zero, suc, count_by, slice_index_or, length-append}
 use Rattle.std.specs.List.{join_with_byte, list_all, prefix_len, slice_split, All}
 use Rattle.std.proofs.lemmas.Bool.{eqb-true, leb-true, le-leb}
-use Rattle.std.proofs.lemmas.List.Splits.{length-slice_split, slice_split_at, slice_split_none, join_with_byte-slice_split}
+use Rattle.std.proofs.lemmas.List.Splits.{length-slice_split, slice_split_at}
+use Rattle.std.proofs.lemmas.List.Splits.{slice_split_none, join_with_byte-slice_split}
 use Rattle.std.proofs.lemmas.List.{take-append-drop}
 use Rattle.std.proofs.lemmas.List.Folds.{length-prefix_len}
 use Rattle.std.proofs.lemmas.List.Sums.{AllPass-from_list_all}
 use Rattle.std.proofs.Math.Seq.{take-append_seam, drop-append_seam}
 use Rattle.gh_model.specs.declared.program.Line.{Line}
 use Rattle.gh_model.specs.Numeral.{is_digit, is_numeral}
-use Rattle.gh_callfile.specs.Grammar.{is_space, is_register, is_bytes, bytes_of, repeat_of, is_mark, bytes_written, times_written, registers_of, line_of, line_of_words, line_behind, line_with, one_part, two_parts, tail_of}
-use Rattle.gh_callfile.specs.Spelling.{Written, marked, words_of, spelled, IsWellWritten, meant, Spells}
+use Rattle.gh_callfile.specs.Grammar.{is_space, is_register, is_bytes, bytes_of}
+use Rattle.gh_callfile.specs.Grammar.{repeat_of, is_mark, bytes_written, times_written}
+use Rattle.gh_callfile.specs.Grammar.{registers_of, line_of, line_of_words, line_behind}
+use Rattle.gh_callfile.specs.Grammar.{line_with, one_part, two_parts, tail_of}
+use Rattle.gh_callfile.specs.Spelling.{Written, marked, written_words, spelled}
+use Rattle.gh_callfile.specs.Spelling.{IsWellWritten, meant, Spells}
 
 -- both sides of an && hold
 both : (a b : Bool) → (a && b) ≡ true → (a ≡ true) × (b ≡ true)
@@ -82,7 +91,7 @@ front_passes (word ∷ words) = front_step word words (is_register word) refl (f
 record SpellsWords (words : List (List ℕ)) (line : Line) : Type 0 where
   written : Written
   well_written : IsWellWritten written
-  its_words : words_of written ≡ words
+  its_words : written_words written ≡ words
   its_line : meant written ≡ Some line
 
 by_count : (words : List (List ℕ)) (line : Line) (first second : Bool)
@@ -216,10 +225,10 @@ few_behind (Some word) None = omega arith
 few_behind (Some word) (Some times) = omega arith
 
 -- the words of a well written line read as what they mean
-words_read : (written : Written) → IsWellWritten written → line_of_words (words_of written) ≡ meant written
+words_read : (written : Written) → IsWellWritten written → line_of_words (written_words written) ≡ meant written
 words_read written well =
     let tail = marked 58 written.bytes ++ marked 42 written.repeat in
-    let count : prefix_len is_register (words_of written) ≡ length written.registers = counted written.registers tail well.are_registers (no_register_behind written.bytes written.repeat) in
+    let count : prefix_len is_register (written_words written) ≡ length written.registers = counted written.registers tail well.are_registers (no_register_behind written.bytes written.repeat) in
     let some : nat_le 1 (length written.registers) ≡ true = le-leb _ _ well.some_registers in
     let few : nat_le (length written.registers) 9 ≡ true = le-leb _ _ well.few_registers in
     rw (count, some, few, take-append_seam written.registers tail, drop-append_seam written.registers tail, tail_reads written.bytes written.repeat) refl
@@ -232,10 +241,10 @@ text_splits (word ∷ words) tail some free = split_joined word (words ++ tail) 
 pub spelled_is_read : (written : Written) → IsWellWritten written → line_of (spelled written) ≡ meant written
 spelled_is_read written well =
     let tail = marked 58 written.bytes ++ marked 42 written.repeat in
-    let free : AreFree (words_of written) = registers_free written.registers tail well.are_registers (tail_words_free written.bytes written.repeat well.has_bytes well.has_times) in
-    let split : slice_split is_space (spelled written) ≡ words_of written = text_splits written.registers tail well.some_registers free in
-    let pieces : length (words_of written) ≡ count_by is_space (spelled written) + 1 = ap length (sym split) ∙ length-slice_split is_space (spelled written) in
+    let free : AreFree (written_words written) = registers_free written.registers tail well.are_registers (tail_words_free written.bytes written.repeat well.has_bytes well.has_times) in
+    let split : slice_split is_space (spelled written) ≡ written_words written = text_splits written.registers tail well.some_registers free in
+    let pieces : length (written_words written) ≡ count_by is_space (spelled written) + 1 = ap length (sym split) ∙ length-slice_split is_space (spelled written) in
     let behind : length tail ≤ 4 = few_behind written.bytes written.repeat in
-    let whole : length (words_of written) ≡ length written.registers + length tail = length-append written.registers tail in
+    let whole : length (written_words written) ≡ length written.registers + length tail = length-append written.registers tail in
     let few : nat_le (count_by is_space (spelled written)) 12 ≡ true = le-leb _ _ (omega (arith, well.few_registers)) in
     rw (few, split) (words_read written well)

@@ -1,5 +1,9 @@
 -- What is written as a line or a file is read back.
-use Rattle.std.proofs.Common.{◌≡◌, ℕ, zero, suc, ◌+◌, ◌-◌, ◌*◌, ◌/◌, ◌%◌, ◌^◌, ◌<◌, ◌≤◌, ◌&&◌, ◌∷◌, ◌++◌, Bool, true, false, not, List, [], Option, Some, None, is_some, length, map, get_or, cond, eqb, ltb, leb, refl, sym, ap, ◌∙◌, subst, inl, inr, arith, lit<, append_assoc}
+use Rattle.std.proofs.Common.{◌≡◌, ℕ, zero, suc, ◌+◌, ◌-◌, ◌*◌, ◌/◌}
+use Rattle.std.proofs.Common.{◌%◌, ◌^◌, ◌<◌, ◌≤◌, ◌&&◌, ◌∷◌}
+use Rattle.std.proofs.Common.{◌++◌, Bool, true, false, not, List, [], Option, Some, None}
+use Rattle.std.proofs.Common.{is_some, length, map, get_or, cond, eqb, ltb, leb, refl, sym}
+use Rattle.std.proofs.Common.{ap, ◌∙◌, subst, inl, inr, arith, lit<, append_assoc}
 use Rattle.std.specs.Char.{digit_value}
 use Rattle.std.specs.Fmt.{decimal}
 use Rattle.std.specs.List.{AllByRecursion, flat_map, join_with_byte, list_all, slice_split}
@@ -9,10 +13,13 @@ use Rattle.hex.specs.Hex.{encode_lower, encode_with, lower_digits, IsBytes}
 use Rattle.hex.proofs.HexLemmas.{length-encode_with, decode_of-encode_lower}
 use Rattle.gh_model.proofs.DecimalLaw.{decimal_again, decimal_digits}
 use Rattle.gh_model.specs.Numeral.{is_lower_digit, is_digit, has_leading_zero, is_numeral}
-use Rattle.gh_callfile.specs.Grammar.{is_bytes, bytes_of, repeat_of, bytes_written, registers_of, is_register, line_of}
-use Rattle.gh_callfile.specs.CallFile.{Reading, Good, BadAt, calls_of, calls_of_lines, is_line_feed, line_then, read_from, reading, told_reading, with_lines}
-use Rattle.gh_callfile.specs.Spelling.{IsWellWritten, marked, spelled, words_of}
-use Rattle.gh_callfile.specs.Writing.{register_text, bytes_text, ended_line, file_text, written_of, IsWritable, NoLines, OneMore, SpellLines, SpellsFile}
+use Rattle.gh_callfile.specs.Grammar.{is_bytes, bytes_of, repeat_of, bytes_written}
+use Rattle.gh_callfile.specs.Grammar.{registers_of, is_register, line_of}
+use Rattle.gh_callfile.specs.CallFile.{Reading, Good, BadAt, calls_of, calls_of_lines, is_line_feed}
+use Rattle.gh_callfile.specs.CallFile.{line_then, read_from, reading, told_reading, with_lines}
+use Rattle.gh_callfile.specs.Spelling.{IsWellWritten, marked, spelled, written_words}
+use Rattle.gh_callfile.specs.Writing.{register_text, bytes_text, ended_line, file_text, written_of}
+use Rattle.gh_callfile.specs.Writing.{IsWritable, NoLines, OneMore, SpellLines, SpellsFile}
 use Rattle.gh_model.specs.declared.program.Line.{Line}
 use Rattle.gh_callfile.proofs.RegisterLemmas.{register_again, register_fits}
 use Rattle.gh_callfile.proofs.SpellingLemmas.{read_is_spelled, spelled_is_read}
@@ -181,7 +188,7 @@ written_line line fits =
     let registers = registers_line (map register_text line.frame.x) (registers_again line.frame.x fits.nine fits.registers).1 in
     let times : is_one_line (decimal line.times) ≡ true = digits_line 10 (decimal line.times) (decimal_digits line.times (omega (arith, fits.few_times))) in
     let repeat : list_all is_one_line (marked 42 (Some (decimal line.times))) ≡ true = rw times refl in
-    joined_line (words_of (written_of line))
+    joined_line (written_words (written_of line))
     (all_append (map register_text line.frame.x) (marked 58 (bytes_text line.frame.bytes) ++ marked 42 (Some (decimal line.times))) registers
     (all_append (marked 58 (bytes_text line.frame.bytes)) (marked 42 (Some (decimal line.times))) (bytes_line line.frame.bytes fits.are_bytes) repeat))
 

@@ -1,5 +1,6 @@
 -- What a call file reads as: its lines in order, or its first bad line.
-use Rattle.std.specs.Prelude.{◌≡◌, ◌==◌, ◌+◌, ◌-◌, ℕ, Bool, List, [], ◌∷◌, ◌++◌, length, nat_le, Option, Some, None, if◌then◌else◌}
+use Rattle.std.specs.Prelude.{◌≡◌, ◌==◌, ◌+◌, ◌-◌, ℕ, Bool, List, [], ◌∷◌}
+use Rattle.std.specs.Prelude.{◌++◌, length, nat_le, Option, Some, None, if◌then◌else◌}
 use Rattle.std.specs.Bool.{⊤}
 use Rattle.std.specs.List.{slice_split, sum_by}
 use Rattle.gh_model.specs.declared.file_err.FileErr.{FileErr}
@@ -8,6 +9,7 @@ use Rattle.gh_model.specs.declared.program.Line.{Line}
 use Rattle.gh_model.specs.Told.{told_number}
 use Rattle.gh_callfile.specs.Grammar.{line_of}
 
+-- the byte is a line feed
 abbrev pub is_line_feed : ℕ → Bool
 is_line_feed byte = byte == 10
 
@@ -26,7 +28,8 @@ abbrev pub calls_of : Option Line → ℕ
 calls_of None = 0
 calls_of (Some line) = line.times
 
--- a line of this number, and those behind it: it is good where it is a call line for which there is room
+-- a line of this number, and those behind it: it is good where it is a call line for which there
+-- is room
 abbrev pub line_then : ℕ → ℕ → Option Line → Reading → Reading
 line_then number room None later = BadAt number
 line_then number room (Some line) later =
@@ -38,7 +41,8 @@ unfoldable pub read_from : ℕ → ℕ → List (List ℕ) → Reading
 read_from number room [] = Good []
 read_from number room (last ∷ []) = if length last == 0 then Good [] else BadAt number
 read_from number room (text ∷ (next ∷ pieces)) =
-    line_then number room (line_of text) (read_from (number + 1) (room - calls_of (line_of text)) (next ∷ pieces))
+    line_then number room (line_of text)
+    (read_from (number + 1) (room - calls_of (line_of text)) (next ∷ pieces))
 
 -- a bad line's number is told as one of 32 bits
 abbrev pub told_reading : Reading → Reading

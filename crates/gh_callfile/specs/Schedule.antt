@@ -1,10 +1,14 @@
 -- What a schedule reads as: a CPU for each item, or the first bad item.
-use Rattle.std.specs.Prelude.{◌≡◌, ◌==◌, ◌&&◌, ◌-◌, not, ℕ, Bool, true, false, List, map, count_by, nat_le, Option, Some, if◌then◌else◌}
+use Rattle.std.specs.Prelude.{◌≡◌, ◌==◌, ◌&&◌, ◌-◌, not, ℕ, Bool, true, false}
+use Rattle.std.specs.Prelude.{List, map, count_by, nat_le, Option, Some, if◌then◌else◌}
 use Rattle.std.specs.Bool.{⊤}
 use Rattle.std.specs.List.{filter, list_any, position_from}
 use Rattle.gh_base.specs.declared.ids.CpuNo.{CpuNo}
 use Rattle.gh_model.specs.declared.boot_line.BootLine.{BootLine}
-use Rattle.gh_model.specs.declared.boot_line.BootLine.TheVariants.{Pages, Partition, Cspace, Addrspace, Doorbell, RootExtent, Extent, Msgqueue, Map, Cap, Vm, Rm, Link}
+use Rattle.gh_model.specs.declared.boot_line.BootLine.TheVariants.{Pages, Partition, Cspace}
+use Rattle.gh_model.specs.declared.boot_line.BootLine.TheVariants.{Addrspace, Doorbell}
+use Rattle.gh_model.specs.declared.boot_line.BootLine.TheVariants.{RootExtent, Extent, Msgqueue}
+use Rattle.gh_model.specs.declared.boot_line.BootLine.TheVariants.{Map, Cap, Vm, Rm, Link}
 use Rattle.gh_model.specs.declared.file_err.FileErr.{FileErr}
 use Rattle.gh_model.specs.declared.file_err.FileErr.TheVariants.{Bad, NoMemory}
 use Rattle.std.specs.Option.{option_map}
@@ -61,7 +65,8 @@ cpu_of byte = record { 0 = byte - 48 }
 
 -- a good item is a digit from 0 to 8 that is a CPU
 abbrev pub is_item_among : Bool → ℕ → ℕ → Bool
-is_item_among manager vms byte = nat_le 48 byte && nat_le byte 56 && is_cpu_among manager vms (byte - 48)
+is_item_among manager vms byte =
+    nat_le 48 byte && nat_le byte 56 && is_cpu_among manager vms (byte - 48)
 
 abbrev pub is_item : List BootLine → ℕ → Bool
 is_item lines byte = is_item_among (list_any makes_manager lines) (count_by makes_vm lines) byte

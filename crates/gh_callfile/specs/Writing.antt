@@ -1,6 +1,7 @@
 -- How values and lines of a call file are written: registers in hexadecimal, bytes as two digits
 -- each, a repeat in decimal.
-use Rattle.std.specs.Prelude.{◌≡◌, ◌≤◌, ◌<◌, ◌^◌, ◌++◌, ℕ, List, [], ◌∷◌, false, length, map, Option, Some, None, slice_index}
+use Rattle.std.specs.Prelude.{◌≡◌, ◌≤◌, ◌<◌, ◌^◌, ◌++◌, ℕ, List, []}
+use Rattle.std.specs.Prelude.{◌∷◌, false, length, map, Option, Some, None, slice_index}
 use Rattle.std.specs.Fmt.{decimal, digits}
 use Rattle.std.specs.List.{flat_map}
 use Rattle.hex.specs.Hex.{encode_lower}
@@ -45,7 +46,8 @@ pub record IsWritable (line : Line) : Type 0 where
 pub data SpellLines : List (List ℕ) → List Line → Type 0 where
   NoLines : SpellLines [] []
   OneMore : {text : List ℕ} {texts : List (List ℕ)} {line : Line} {lines : List Line}
-      → Spells text line → SpellLines texts lines → SpellLines (text ∷ texts) (line ∷ lines)
+      → Spells text line → SpellLines texts lines
+      → SpellLines (text ∷ texts) (line ∷ lines)
 
 -- a file's text: texts that spell its lines, each with its line feed
 pub record SpellsFile (text : List ℕ) (lines : List Line) : Type 0 where

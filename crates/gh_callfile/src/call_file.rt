@@ -1,11 +1,14 @@
 //! Call files, line by line.
 
-ghost use Rattle.std.specs.Prelude.{◌≡◌, ◌+◌, ◌<◌, ◌≤◌, ◌^◌, ◌∷◌, [], ℕ, List, None, Some, length, IfOk, IfErr, IfSome};
+ghost use Rattle.std.specs.Prelude.{◌≡◌, ◌+◌, ◌<◌, ◌≤◌, ◌^◌, ◌∷◌};
+ghost use Rattle.std.specs.Prelude.{[], ℕ, List, None, Some, length, IfOk, IfErr, IfSome};
 ghost use Rattle.std.specs.List.{slice_split};
 ghost use Rattle.gh_model.specs.declared.program.Line.{Line};
 ghost use Rattle.gh_model.specs.Told.{told_number};
 ghost use Rattle.gh_callfile.specs.Grammar.{line_of};
-ghost use Rattle.gh_callfile.specs.CallFile.{Reading, Good, IsErrorOf, calls_of_lines, is_line_feed, line_then, read_from, reading, told_reading, with_lines};
+ghost use Rattle.gh_callfile.specs.CallFile.{Reading, Good, IsErrorOf, calls_of_lines};
+ghost use Rattle.gh_callfile.specs.CallFile.{is_line_feed, line_then, read_from};
+ghost use Rattle.gh_callfile.specs.CallFile.{reading, told_reading, with_lines};
 
 use crate::call_line::call_line;
 use gh_base::Sequence;

@@ -1,8 +1,12 @@
 //! A line of a call file.
 
-ghost use Rattle.std.specs.Prelude.{◌≡◌, ◌≤◌, [], Some, length, slice_get, count_by, IfOk};
+ghost use Rattle.std.specs.Prelude.{◌≡◌, ◌≤◌, [], Some};
+ghost use Rattle.std.specs.Prelude.{length, slice_get, count_by, IfOk};
 ghost use Rattle.std.specs.List.{prefix_len, slice_split};
-ghost use Rattle.gh_callfile.specs.Grammar.{is_space, is_register, register_written, repeat_of, is_bytes, bytes_of, is_mark, one_part, two_parts, tail_of, registers_of, line_with, line_behind, line_of_words, line_of, texts_of};
+ghost use Rattle.gh_callfile.specs.Grammar.{is_space, is_register, register_written};
+ghost use Rattle.gh_callfile.specs.Grammar.{repeat_of, is_bytes, bytes_of, is_mark, one_part};
+ghost use Rattle.gh_callfile.specs.Grammar.{two_parts, tail_of, registers_of, line_with};
+ghost use Rattle.gh_callfile.specs.Grammar.{line_behind, line_of_words, line_of, texts_of};
 
 use gh_base::{Frame, NoMemory, Sequence};
 use gh_model::{Line, all_digits, number};

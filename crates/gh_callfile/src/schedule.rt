@@ -1,10 +1,12 @@
 //! Schedules: the CPUs that advance, item by item.
 
-ghost use Rattle.std.specs.Prelude.{◌≡◌, ◌∷◌, ◌++◌, [], All, None, count_by, true, false, ◌⊎◌, IfOk, IfErr, IsErrOf};
+ghost use Rattle.std.specs.Prelude.{◌≡◌, ◌∷◌, ◌++◌, [], All, None};
+ghost use Rattle.std.specs.Prelude.{count_by, true, false, ◌⊎◌, IfOk, IfErr, IsErrOf};
 ghost use Rattle.std.specs.List.{list_any};
 ghost use Rattle.gh_callfile.specs.CallFile.{is_line_feed};
 ghost use Rattle.gh_model.specs.Told.{told_number};
-ghost use Rattle.gh_callfile.specs.Schedule.{IsBadItem, bad_item, cpus_of, cpu_of, is_cpu_of, is_item_among, makes_manager, makes_vm};
+ghost use Rattle.gh_callfile.specs.Schedule.{IsBadItem, bad_item, cpus_of, cpu_of, is_cpu_of};
+ghost use Rattle.gh_callfile.specs.Schedule.{is_item_among, makes_manager, makes_vm};
 
 use crate::call_file::told;
 use gh_base::{CpuNo, Sequence};

@@ -1,9 +1,12 @@
 //! The program of a VM: the lines of its call file, and then the exit call.
 
-ghost use Rattle.std.specs.Prelude.{◌≡◌, ◌+◌, ◌<◌, ◌≤◌, drop, length, slice_get, is_some, false, IfOk, IfSome, OnOk, OnErr, Option};
-ghost use Rattle.gh_model.specs.Program.{after_line_reply, after_reply, asks_again, exit_frame, is_exit, next_frame};
+ghost use Rattle.std.specs.Prelude.{◌≡◌, ◌+◌, ◌<◌, ◌≤◌, drop, length};
+ghost use Rattle.std.specs.Prelude.{slice_get, is_some, false, IfOk, IfSome, OnOk, OnErr, Option};
+ghost use Rattle.gh_model.specs.Program.{after_line_reply, after_reply, asks_again};
+ghost use Rattle.gh_model.specs.Program.{exit_frame, is_exit, next_frame};
 ghost use Rattle.gh_model.specs.Programs.{told};
-ghost use Rattle.gh_callfile.specs.VmProgress.{fresh, has_made_one, position_at, position_now, progress_at, vm_after, vm_answer};
+ghost use Rattle.gh_callfile.specs.VmProgress.{fresh, has_made_one, position_at, position_now};
+ghost use Rattle.gh_callfile.specs.VmProgress.{progress_at, vm_after, vm_answer};
 
 use gh_base::{CALL_NUMBERS, Errno, Frame, NoMemory, Reply, Sequence};
 use gh_model::{Line, Program, Step};
@@ -66,7 +69,7 @@ fn copy_of(alloc: Global, frame: &Frame) -> Result<Frame, NoMemory>
     })
 }
 
-fn exit_call(alloc: Global) -> Frame
+fn exit_frame(alloc: Global) -> Frame
     ensures { result ≡ exit_frame }
 {
     Frame {
@@ -80,7 +83,7 @@ fn frame(alloc: Global, lines: &[Line], at: usize, number: u32) -> Result<Frame,
     ensures { IfOk result (λ frame. frame ≡ next_frame number (drop at lines.now)) }
 {
     match line_of_call(lines, at, number) {
-        None => Ok(exit_call(alloc)),
+        None => Ok(exit_frame(alloc)),
         Some(line) => copy_of(alloc, &line.frame),
     }
 }

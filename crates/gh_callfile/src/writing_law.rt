@@ -1,14 +1,16 @@
-//! What is written of registers, repeats, bytes, lines and whole call files is read back. Each law is
-//! the contract of a function that does nothing.
+//! What is written of registers, repeats, bytes, lines and whole call files is read back. Each law
+//! is the contract of a function that does nothing.
 
-ghost use Rattle.std.specs.Prelude.{◌≡◌, ◌<◌, ◌≤◌, ◌^◌, ℕ, List, Some, length, slice_get};
+ghost use Rattle.std.specs.Prelude.{◌≡◌, ◌<◌, ◌≤◌, ◌^◌};
+ghost use Rattle.std.specs.Prelude.{ℕ, List, Some, length, slice_get};
 ghost use Rattle.std.specs.Fmt.{decimal};
 ghost use Rattle.hex.specs.Hex.{encode_lower, IsBytes};
 ghost use Rattle.gh_model.specs.declared.program.Line.{Line};
 ghost use Rattle.gh_callfile.specs.CallFile.{Good, calls_of_lines, reading};
 ghost use Rattle.gh_callfile.specs.Grammar.{bytes_of, line_of, register_of, repeat_of};
 ghost use Rattle.gh_callfile.specs.Spelling.{spelled};
-ghost use Rattle.gh_callfile.specs.Writing.{IsWritable, SpellsFile, file_text, register_text, written_of};
+ghost use Rattle.gh_callfile.specs.Writing.{IsWritable, SpellsFile, file_text};
+ghost use Rattle.gh_callfile.specs.Writing.{register_text, written_of};
 
 /// Every number of 64 bits is read from its hexadecimal digits, every repeat from its decimal ones,
 /// and all bytes within the limit from two digits each.

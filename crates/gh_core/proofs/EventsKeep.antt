@@ -6,7 +6,7 @@ use Rattle.gh_core.specs.Events.{Possible, after}
 use Rattle.gh_core.specs.Grace.{HasGrace}
 use Rattle.gh_core.specs.References.{HasReferences}
 use Rattle.gh_core.specs.Replayed.{HasState}
-use Rattle.gh_core.specs.Words.{ShowsWords}
+use Rattle.gh_core.specs.Words.{HasRoom, ShowsWords}
 use Rattle.gh_core.specs.declared.event.Event.{Event}
 use Rattle.gh_core.specs.declared.event.Event.TheVariants.{Enter, Leave, Take, Look, Pin, Unpin, Undo, Kill, Commit, SetCap, Free, Scan, Revive, Join, Split}
 use Rattle.gh_core.proofs.CallsKeep.{enter_keeps}
@@ -55,25 +55,25 @@ event_graced conf (Split cpu) sound graced state valid may = graced
 
 -- and sound references, where there is grace, and the words are those of the present state
 pub event_sound : (conf : Config) (event : Event) → HasReferences conf → HasGrace conf → HasState conf
-    → IsValid (present conf) → ShowsWords conf → Possible conf event → HasReferences (after conf event)
-event_sound conf (Enter cpu) sound graced state valid words may = enter_keeps conf cpu.0 sound may
-event_sound conf (Leave cpu) sound graced state valid words may = leave_keeps conf cpu.0 sound may
-event_sound conf (Take cpu) sound graced state valid words may = take_keeps conf cpu.0 sound may
-event_sound conf (Look cpu slot) sound graced state valid words may = look_keeps conf cpu.0 slot sound valid words may
-event_sound conf (Pin cpu object false) sound graced state valid words may = pin_keeps conf cpu.0 object.0 sound may
-event_sound conf (Pin cpu object true) sound graced state valid words may = owe_keeps conf cpu.0 object.0 sound may
-event_sound conf (Unpin cpu object false) sound graced state valid words may = unpin_keeps conf cpu.0 object.0 sound may
-event_sound conf (Unpin cpu object true) sound graced state valid words may = settle_keeps conf cpu.0 object.0 sound may
-event_sound conf (Undo cpu object) sound graced state valid words may = undo_keeps conf cpu.0 object.0 sound may
-event_sound conf (Kill cpu object) sound graced state valid words may = kill_keeps conf cpu.0 object.0 sound may
-event_sound conf (Commit cpu entry) sound graced state valid words may =
+    → IsValid (present conf) → ShowsWords conf → HasRoom conf → Possible conf event → HasReferences (after conf event)
+event_sound conf (Enter cpu) sound graced state valid words room may = enter_keeps conf cpu.0 sound may
+event_sound conf (Leave cpu) sound graced state valid words room may = leave_keeps conf cpu.0 sound may
+event_sound conf (Take cpu) sound graced state valid words room may = take_keeps conf cpu.0 sound may
+event_sound conf (Look cpu slot) sound graced state valid words room may = look_keeps conf cpu.0 slot sound valid words room may
+event_sound conf (Pin cpu object false) sound graced state valid words room may = pin_keeps conf cpu.0 object.0 sound may
+event_sound conf (Pin cpu object true) sound graced state valid words room may = owe_keeps conf cpu.0 object.0 sound may
+event_sound conf (Unpin cpu object false) sound graced state valid words room may = unpin_keeps conf cpu.0 object.0 sound may
+event_sound conf (Unpin cpu object true) sound graced state valid words room may = settle_keeps conf cpu.0 object.0 sound may
+event_sound conf (Undo cpu object) sound graced state valid words room may = undo_keeps conf cpu.0 object.0 sound may
+event_sound conf (Kill cpu object) sound graced state valid words room may = kill_keeps conf cpu.0 object.0 sound may
+event_sound conf (Commit cpu entry) sound graced state valid words room may =
     commit_keeps conf cpu.0 entry sound state (entry_spares conf cpu.0 entry graced may) may
-event_sound conf (SetCap cpu entry space slot word) sound graced state valid words may =
+event_sound conf (SetCap cpu entry space slot word) sound graced state valid words room may =
     set_cap_keeps conf cpu.0 entry space.0 slot word sound state may
-event_sound conf (Free cpu true) sound graced state valid words may = end_keeps conf cpu.0 sound may
-event_sound conf (Free cpu false) sound graced state valid words may = quit_keeps conf cpu.0 sound may
-event_sound conf (Scan cpu of_cpu) sound graced state valid words may = scan_keeps conf of_cpu.0 sound
-event_sound conf (Revive cpu object count) sound graced state valid words may =
+event_sound conf (Free cpu true) sound graced state valid words room may = end_keeps conf cpu.0 sound may
+event_sound conf (Free cpu false) sound graced state valid words room may = quit_keeps conf cpu.0 sound may
+event_sound conf (Scan cpu of_cpu) sound graced state valid words room may = scan_keeps conf of_cpu.0 sound
+event_sound conf (Revive cpu object count) sound graced state valid words room may =
     revive_keeps conf cpu.0 object.0 count sound may
-event_sound conf (Join cpu) sound graced state valid words may = sound
-event_sound conf (Split cpu) sound graced state valid words may = sound
+event_sound conf (Join cpu) sound graced state valid words room may = sound
+event_sound conf (Split cpu) sound graced state valid words room may = sound

@@ -5,6 +5,7 @@ pub mod CallsEnd
 pub mod CallsGoOn
 pub mod CallsKeep
 pub mod CpuMoves
+pub mod CpusRun
 pub mod EntryKeeps
 pub mod EntryMoves
 pub mod EventObjects
@@ -30,7 +31,6 @@ pub mod KillKeeps
 pub mod LeaveKeeps
 pub mod Living
 pub mod LookKeeps
-pub mod LooksSpared
 pub mod NoPins
 pub mod OweKeeps
 pub mod PinCalls
@@ -38,6 +38,7 @@ pub mod PinKeeps
 pub mod Places
 pub mod RetiredSince
 pub mod ReviveKeeps
+pub mod SlotsLeft
 pub mod StartSound
 pub mod StateKeeps
 pub mod TakeCalls
@@ -50,4 +51,5 @@ pub mod ValidCalls
 pub mod ValidEntries
 pub mod ValidEvents
 pub mod ValidLaw
+pub mod WordsFollow
 pub mod WordsMove

@@ -39,7 +39,7 @@ use Rattle.gh_core.specs.CallEvents.{MayLook, found, loaded, looked, stage_after
 use Rattle.gh_core.specs.Config.{Config, Current, DeadPin, Pin, is_pin_at, object_at, present}
 use Rattle.gh_core.specs.Entries.{row_shown}
 use Rattle.gh_core.specs.References.{HasReferences, IsGranted, IsRow, dead_pin, grants_at, pin_at_stage}
-use Rattle.gh_core.specs.Words.{ShowsWords}
+use Rattle.gh_core.specs.Words.{HasRoom, ShowsWords}
 use Rattle.gh_core.proofs.CallsKeep.{stage_number}
 use Rattle.gh_core.proofs.CpuMoves.{Moves, part_sound}
 use Rattle.gh_core.proofs.Finding.{found_passes}
@@ -199,18 +199,30 @@ number_within s valid cspace slot (Some row) is =
     below : nat_le row.number s.entries ≡ true → row.number ≤ s.entries
     below is = grind (arith, nat_tests)
 
+-- no word's setting is above the last entry
+set_by : (s : State) → IsValid s → (cspace slot : ℕ) (names : Bool)
+    → (if◌then◌else◌ {A = Word} names (record { row = find (fills cspace slot) s.caps; set_at = setting s cspace slot }) (record { row = None; set_at = 0 })).set_at ≤ s.entries
+set_by s valid cspace slot true =
+    number_within s valid cspace slot (find (tells_setting cspace slot) s.set_at) refl
+set_by s valid cspace slot false = omega arith
+
+pub set_within : (s : State) → IsValid s → (cspace slot : ℕ)
+    → (word_at s cspace slot).set_at ≤ s.entries
+set_within s valid cspace slot = set_by s valid cspace slot (is_slot slot)
+
 module _ (conf : Config) (at slot : ℕ) (sound : HasReferences conf) (valid : IsValid (present conf))
-    (words : ShowsWords conf) (may : MayLook conf at slot) where
+    (words : ShowsWords conf) (room : HasRoom conf) (may : MayLook conf at slot) where
+  abbrev LookedAt : Word
+  LookedAt = word_at (present conf) (cspace_of conf.boot at) slot
+
   -- the index in the word of a slot is that of its object
   loads_index : (row : CapabilityRow) → OfSlot (present conf) (cspace_of conf.boot at) slot row
-      → OwnRow (present conf) row.serial.0
-      → object_of (loaded conf at slot).0 ≡ conf.index row.serial.0
-  loads_index row slots own =
+      → LookedAt.row ≡ Some row → object_of (loaded conf at slot).0 ≡ conf.index row.serial.0
+  loads_index row slots is =
       let here : loaded conf at slot ≡ conf.cap (conf.index (cspace_of conf.boot at)) slot = ap (λ (names : Bool). conf.cap (conf.index (cspace_of conf.boot at)) (if names then slot else 0)) slots.names in
-      let bits : (loaded conf at slot).0 ≡ row_shown conf.index (setting (present conf) (cspace_of conf.boot at) slot) (Some row) = ap (λ (word : CapWord). word.0) here ∙ words.filled (cspace_of conf.boot at) slot row slots.fills in
-      let within : conf.index row.serial.0 < OBJECT_INDICES = subst (λ (n : ℕ). conf.index n < OBJECT_INDICES) own.same (words.within own.row own.is) in
-      let few : setting (present conf) (cspace_of conf.boot at) slot < settings = omega (arith, number_within (present conf) valid (cspace_of conf.boot at) slot (find (tells_setting (cspace_of conf.boot at) slot) (present conf).set_at) refl, words.few) in
-      ap object_of bits ∙ index_shown (state_number (filled_state row.valid)) (kind_number row.kind) (if row.master then 1 else 0) (conf.index row.serial.0) row.rights.0 (setting (present conf) (cspace_of conf.boot at) slot) within (rights_few (present conf) valid (cspace_of conf.boot at) slot row slots.fills) few
+      let bits : (loaded conf at slot).0 ≡ row_shown conf.index LookedAt.set_at (Some row) = ap (λ (word : CapWord). word.0) here ∙ (words.filled (cspace_of conf.boot at) slot row is ∙ ap (row_shown conf.index LookedAt.set_at) is) in
+      let few : LookedAt.set_at < settings = omega (arith, set_within (present conf) valid (cspace_of conf.boot at) slot, room) in
+      ap object_of bits ∙ index_shown (state_number (filled_state row.valid)) (kind_number row.kind) (if row.master then 1 else 0) (conf.index row.serial.0) row.rights.0 LookedAt.set_at (words.within (cspace_of conf.boot at) slot row is) (rights_few (present conf) valid (cspace_of conf.boot at) slot row slots.fills) few
 
   -- a look that grants is of an object that lives at the index in its word
   look_grants : GrantsRow (word_at (present conf) (cspace_of conf.boot at) slot) → IsGranted conf (found conf at slot may.call)
@@ -219,7 +231,7 @@ module _ (conf : Config) (at slot : ℕ) (sound : HasReferences conf) (valid : I
       let living : NamesLiving (present conf) grants.row = names_living (present conf) valid (cspace_of conf.boot at) slot grants.row slots.fills grants.valid in
       let own : OwnRow (present conf) grants.row.serial.0 = own_row (present conf) grants.row.serial.0 grants.row.kind (find (is_object grants.row.serial.0) (present conf).objects) refl living.object in
       let there : FoundThere (present conf) conf.index grants.row.serial.0 = found_there (present conf) conf.index grants.row.serial.0 sound.placed.unique own in
-      let index_is : object_of (loaded conf at slot).0 ≡ conf.index grants.row.serial.0 = loads_index grants.row slots own in
+      let index_is : object_of (loaded conf at slot).0 ≡ conf.index grants.row.serial.0 = loads_index grants.row slots grants.is in
       let names : grants.row.serial.0 ≡ (granted (word_at (present conf) (cspace_of conf.boot at) slot)).0 = sym (ap (λ (one : Option CapabilityRow). (row_serial one).0) grants.is) in
       record {
         row = there.row;

@@ -1,33 +1,35 @@
--- The capability words of a configuration, where they are those of its present state.
-use Rattle.std.specs.Prelude.{◌≡◌, ◌<◌, ℕ, false, Some, None, find}
+-- The capability words of a configuration: each slot shows what the present state has in it.
+use Rattle.std.specs.Prelude.{◌≡◌, ◌<◌, ℕ, false, Some, None}
 use Rattle.gh_base.specs.CapWord.{settings}
 use Rattle.gh_base.specs.declared.limits.TheConstants.{OBJECT_INDICES}
-use Rattle.gh_model.specs.Rows.{cpu_row, fills}
-use Rattle.gh_model.specs.Word.{setting}
+use Rattle.gh_model.specs.Rows.{cpu_row}
+use Rattle.gh_model.specs.Word.{word_at}
 use Rattle.gh_model.specs.declared.rows.CapabilityRow.{CapabilityRow}
 use Rattle.gh_model.specs.declared.rows.CpuRow.{CpuRow}
-use Rattle.gh_model.specs.declared.rows.ObjectRow.{ObjectRow}
 use Rattle.gh_core.specs.Config.{Config, present}
-use Rattle.gh_core.specs.Entries.{row_shown}
-use Rattle.gh_core.specs.References.{IsRow}
-use Rattle.gh_core.specs.Start.{serial_at}
+use Rattle.gh_core.specs.Entries.{shown}
+
+-- a slot's word is the one of the present state, with its object's index
+abbrev pub ShowsSlot : Config → ℕ → ℕ → Type 0
+ShowsSlot conf cspace slot =
+    (conf.cap (conf.index cspace) slot).0 ≡ shown conf.index (word_at (present conf) cspace slot)
 
 -- each slot shows what the present state has in it
 pub record ShowsWords (conf : Config) : Type 0 where
-  -- a filled slot's word is its capability with its object's index, and the slot's setting
+  -- a filled slot, and any slot in the space of a CPU that hasn't exited, shows its word
   pub filled : (cspace slot : ℕ) (row : CapabilityRow)
-      → find (fills cspace slot) (present conf).caps ≡ Some row
-      → (conf.cap (conf.index cspace) slot).0
-      ≡ row_shown conf.index (setting (present conf) cspace slot) (Some row)
-  -- an empty slot's word, in the space of a CPU that hasn't exited, is its setting
-  pub empty : (cpu slot : ℕ) (row : CpuRow) → cpu_row (present conf) cpu ≡ Some row
-      → row.exited ≡ false → find (fills row.cspace.0 slot) (present conf).caps ≡ None
-      → (conf.cap (conf.index row.cspace.0) slot).0 ≡ setting (present conf) row.cspace.0 slot
-  -- any other empty slot's word, and one at an index without a capability space, has some setting
-  pub others : (at slot : ℕ)
-      → find (fills (serial_at (present conf) conf.index at) slot) (present conf).caps ≡ None
+      → (word_at (present conf) cspace slot).row ≡ Some row → ShowsSlot conf cspace slot
+  pub attached : (cpu slot : ℕ) (row : CpuRow) → cpu_row (present conf) cpu ≡ Some row
+      → row.exited ≡ false → ShowsSlot conf row.cspace.0 slot
+  -- a word at an index where no capability space has the slot filled is some setting
+  pub empty : (at slot : ℕ)
+      → ((cspace : ℕ) → conf.index cspace ≡ at → (word_at (present conf) cspace slot).row ≡ None)
       → (conf.cap at slot).0 < settings
-  -- a setting and an index fit into a word
-  pub few : (present conf).entries < settings
-  pub within : (row : ObjectRow) → IsRow (present conf) row
+  -- the object of a filled slot, revoked or not, has an index that there is
+  pub within : (cspace slot : ℕ) (row : CapabilityRow)
+      → (word_at (present conf) cspace slot).row ≡ Some row
       → conf.index row.serial.0 < OBJECT_INDICES
+
+-- the number of each entry fits into a word as a setting
+abbrev pub HasRoom : Config → Type 0
+HasRoom conf = (present conf).entries < settings

@@ -8,7 +8,7 @@ ghost use Rattle.gh_base.specs.declared.ids.ObjIndex.{ObjIndex};
 ghost use Rattle.gh_core.specs.Config.{Config};
 ghost use Rattle.gh_core.specs.Events.{Possible, after};
 ghost use Rattle.gh_core.specs.References.{HasReferences};
-ghost use Rattle.gh_core.specs.Replayed.{AreReading, HasState, SparesLooks};
+ghost use Rattle.gh_core.specs.Replayed.{HasState, SparesLooks};
 ghost use Rattle.gh_core.specs.Start.{AreIndices, start};
 ghost use Rattle.gh_core.specs.declared.event.Event.{Event};
 ghost use Rattle.gh_core.specs.declared.event.Event.TheVariants.{Commit, SetCap};
@@ -49,10 +49,4 @@ pub fn set_cap_keeps_references()
         (word : CapWord) → HasReferences conf → HasState conf
         → Possible conf (SetCap cpu entry space slot word)
         → HasReferences (after conf (SetCap cpu entry space slot word)) }
-{}
-
-/// What a grace period has of calls in their sections keeps what they were granted from a reclaim.
-pub fn reading_spares_looks()
-    ensures { (conf : Config) (cpu : CpuNo) (entry : Entry) → AreReading conf
-        → Possible conf (Commit cpu entry) → SparesLooks conf entry }
 {}

@@ -12,7 +12,7 @@ ghost use Rattle.gh_core.specs.Grace.{CounterFits, HasGrace};
 ghost use Rattle.gh_core.specs.References.{HasReferences};
 ghost use Rattle.gh_core.specs.Replayed.{HasState, SparesLooks};
 ghost use Rattle.gh_core.specs.Start.{AreIndices, IsUnretired, MayGive, given, start};
-ghost use Rattle.gh_core.specs.Words.{ShowsWords};
+ghost use Rattle.gh_core.specs.Words.{HasRoom, ShowsWords};
 ghost use Rattle.gh_core.specs.declared.event.Event.{Event};
 ghost use Rattle.gh_core.specs.declared.event.Event.TheVariants.{Commit, Enter, Free, Join, Kill, Leave, Look, Pin, Revive, Scan, SetCap, Split, Take, Undo, Unpin};
 ghost use Rattle.gh_invariant.specs.Valid.{IsValid};
@@ -158,6 +158,7 @@ pub fn events_keep_grace()
         → HasState conf → IsValid (present conf) → Possible conf event
         → HasGrace (after conf event) }
     ensures references { (conf : Config) (event : Event) → HasReferences conf → HasGrace conf
-        → HasState conf → IsValid (present conf) → ShowsWords conf → Possible conf event
+        → HasState conf → IsValid (present conf) → ShowsWords conf → HasRoom conf
+        → Possible conf event
         → HasReferences (after conf event) }
 {}

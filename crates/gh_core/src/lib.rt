@@ -16,8 +16,8 @@ pub use calls::{
     undo_keeps_calls, unpin_keeps_calls, words_keep_calls,
 };
 pub use entries::{
-    boot_file_has_references, commit_keeps_references, events_keep_state, reading_spares_looks,
-    set_cap_keeps_references, start_has_state,
+    boot_file_has_references, commit_keeps_references, events_keep_state, set_cap_keeps_references,
+    start_has_state,
 };
 pub use event::Event;
 pub use grace::{

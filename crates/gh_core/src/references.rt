@@ -9,7 +9,7 @@ ghost use Rattle.gh_core.specs.Config.{Config, present};
 ghost use Rattle.gh_core.specs.Events.{Possible, after};
 ghost use Rattle.gh_core.specs.References.{HasReferences};
 ghost use Rattle.gh_core.specs.Start.{MayGive, given};
-ghost use Rattle.gh_core.specs.Words.{ShowsWords};
+ghost use Rattle.gh_core.specs.Words.{HasRoom, ShowsWords};
 ghost use Rattle.gh_invariant.specs.Valid.{IsValid};
 ghost use Rattle.gh_core.specs.declared.event.Event.TheVariants.{Enter, Free, Join, Kill, Leave, Look, Pin, Revive, Scan, Split, Take, Undo, Unpin};
 
@@ -25,10 +25,11 @@ pub fn leave_keeps_references()
         → HasReferences (after conf (Leave cpu)) }
 {}
 
-/// So does a look, of a configuration whose words are those of its present state, which is valid.
+/// So does a look, of a configuration whose words are those of its present state, which is valid,
+/// and whose entries have room in a word.
 pub fn look_keeps_references()
     ensures { (conf : Config) (cpu : CpuNo) (slot : ℕ) → HasReferences conf → IsValid (present conf)
-        → ShowsWords conf → Possible conf (Look cpu slot)
+        → ShowsWords conf → HasRoom conf → Possible conf (Look cpu slot)
         → HasReferences (after conf (Look cpu slot)) }
 {}
 

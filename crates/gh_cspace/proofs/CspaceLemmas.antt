@@ -1,5 +1,6 @@
 -- The words as a map from capability numbers. These lemmas are for callers.
-use Rattle.std.proofs.Common.{◌≡◌, ◌≢◌, ℕ, ◌-◌, List, length, eqb, cond, ap, refl, inl, inr, arith}
+use Rattle.std.proofs.Common.{◌≡◌, ◌≢◌, ℕ, ◌-◌, List}
+use Rattle.std.proofs.Common.{length, eqb, cond, ap, refl, inl, inr, arith}
 use Rattle.std.proofs.lemmas.Bool.{cases_eq, ne_eqb}
 use Rattle.std.proofs.lemmas.List.{get_or-set_same, get_or-set_other}
 use Rattle.gh_base.specs.declared.cap_word.CapWord.{CapWord}

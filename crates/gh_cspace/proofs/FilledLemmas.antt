@@ -1,11 +1,14 @@
 -- The bits of filled slots follow the words.
-use Rattle.std.proofs.Common.{◌≡◌, ◌≢◌, ℕ, ◌-◌, ◌<◌, ◌^◌, List, get_or, set, replicate, true, eqb, sym, ap, ◌∙◌, refl, inl, inr, arith, eqb-true, lit<, ltb, cond, Bool, false, ◌+◌, Some, None}
+use Rattle.std.proofs.Common.{◌≡◌, ◌≢◌, ℕ, ◌-◌, ◌<◌, ◌^◌, List, get_or}
+use Rattle.std.proofs.Common.{set, replicate, true, eqb, sym, ap, ◌∙◌, refl, inl, inr}
+use Rattle.std.proofs.Common.{arith, eqb-true, lit<, ltb, cond, Bool, false, ◌+◌, Some, None}
 use Rattle.std.specs.Int.{bit_at}
 use Rattle.std.specs.Bool.{then_some}
 use Rattle.std.specs.List.{position_or_len}
 use Rattle.std.specs.Option.{option_map}
 use Rattle.std.proofs.lemmas.Bool.{cases_eq, cases_lt}
-use Rattle.std.proofs.lemmas.List.{get_or-replicate, get_or_past, get_or-set_same, get_or-set_other, length-set, length-replicate}
+use Rattle.std.proofs.lemmas.List.{get_or-replicate, get_or_past, get_or-set_same}
+use Rattle.std.proofs.lemmas.List.{get_or-set_other, length-set, length-replicate}
 use Rattle.std.proofs.lemmas.List.Sums.{position_or_len_is}
 use Rattle.std.proofs.lemmas.Nat.Bits.{bit_at-zero, bit_at_ones}
 use Rattle.gh_base.specs.declared.cap_word.CapWord.{CapWord}

@@ -1,5 +1,7 @@
 -- A capability space as callers see it: the words of slots 1 to 127, in order.
-use Rattle.std.specs.Prelude.{◌≡◌, ◌==◌, ◌&&◌, ℕ, ◌+◌, ◌-◌, ◌≤◌, Bool, true, false, not, List, Option, Some, None, Result, Ok, Err, position, filter_map, slice_index_or, slice_set, if◌then◌else◌}
+use Rattle.std.specs.Prelude.{◌≡◌, ◌==◌, ◌&&◌, ℕ, ◌+◌, ◌-◌, ◌≤◌}
+use Rattle.std.specs.Prelude.{Bool, true, false, not, List, Option, Some, None, Result, Ok, Err}
+use Rattle.std.specs.Prelude.{position, filter_map, slice_index_or, slice_set, if◌then◌else◌}
 use Rattle.std.specs.List.{enumerate_from}
 use Rattle.std.specs.Option.{option_map}
 use Rattle.gh_base.specs.CapWord.{state_of, master_of, object_of, revoked_bits, masked_bits}
@@ -54,7 +56,8 @@ free_slot words = option_map (λ place. place + 1) (position is_free words)
 
 -- the word is a valid capability of the object and not its master
 abbrev pub is_child : ℕ → CapWord → Bool
-is_child object word = is_valid (state_of word.0) && (not (master_of word.0) && (object_of word.0 == object))
+is_child object word =
+    is_valid (state_of word.0) && (not (master_of word.0) && (object_of word.0 == object))
 
 -- the slot, where its word is a child of the object
 abbrev pub child_slot : ℕ → (ℕ × CapWord) → Option ℕ

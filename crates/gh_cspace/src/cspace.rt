@@ -1,8 +1,11 @@
 //! The capability space: the words of its slots, and a bit for each slot that is filled.
 
-ghost use Rattle.std.specs.Prelude.{◌≡◌, ◌+◌, ◌<◌, ◌≤◌, IfSome, IfOk, OnOk, OnErr, length, replicate};
+ghost use Rattle.std.specs.Prelude.{◌≡◌, ◌+◌, ◌<◌, ◌≤◌};
+ghost use Rattle.std.specs.Prelude.{IfSome, IfOk, OnOk, OnErr, length, replicate};
 ghost use Rattle.gh_base.specs.CapWord.{state_of};
-ghost use Rattle.gh_cspace.specs.Cspace.{never_set, word_at, with_word, IsSlot, IsFreeSlot, free_slot, children, copy_word, revoked_word, empty_word, delete_answer, revoke_answer, SetsSlot};
+ghost use Rattle.gh_cspace.specs.Cspace.{never_set, word_at, with_word, IsSlot, IsFreeSlot};
+ghost use Rattle.gh_cspace.specs.Cspace.{free_slot, children, copy_word, revoked_word};
+ghost use Rattle.gh_cspace.specs.Cspace.{empty_word, delete_answer, revoke_answer, SetsSlot};
 
 use crate::words::{is_child, is_free};
 use arrayvec::ArrayVec;

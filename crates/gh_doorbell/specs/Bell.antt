@@ -1,7 +1,8 @@
 -- What callers see of a doorbell: three words of 64 bits.
 use Rattle.std.specs.Prelude.{ℕ, bit_and}
 use Rattle.std.specs.Int.{bit_not, w64}
-use Rattle.gh_base.specs.declared.limits.TheConstants.{NEW_BELL_FLAGS, NEW_BELL_ENABLE, NEW_BELL_ACK}
+use Rattle.gh_base.specs.declared.limits.TheConstants.{NEW_BELL_FLAGS}
+use Rattle.gh_base.specs.declared.limits.TheConstants.{NEW_BELL_ENABLE, NEW_BELL_ACK}
 
 -- the flags set, the mask of those that may interrupt, and of those that an interrupt clears
 pub record BellWords : Type 0 where

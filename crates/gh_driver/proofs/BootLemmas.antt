@@ -1,10 +1,16 @@
 -- The CPUs of a boot state, and the run that begins there.
-use Rattle.std.proofs.Common.{◌≡◌, ◌==◌, ◌+◌, ◌≤◌, ◌∙◌, ℕ, suc, List, [], ◌∷◌, ◌++◌, length, fold, filter, map, IsTrue, All, refl, sym, ap, subst, cond, count_by, nat_lt, if◌then◌else◌, arith, length-append}
+use Rattle.std.proofs.Common.{◌≡◌, ◌==◌, ◌+◌, ◌≤◌, ◌∙◌, ℕ}
+use Rattle.std.proofs.Common.{suc, List, [], ◌∷◌, ◌++◌, length, fold, filter}
+use Rattle.std.proofs.Common.{map, IsTrue, All, refl, sym, ap, subst, cond, count_by}
+use Rattle.std.proofs.Common.{nat_lt, if◌then◌else◌, arith, length-append}
 use Rattle.std.proofs.lemmas.Bool.Decides.{nat_tests}
 use Rattle.std.proofs.lemmas.List.{length-map}
 use Rattle.std.proofs.lemmas.List.Elements.{All-map}
 use Rattle.gh_model.specs.declared.boot_line.BootLine.{BootLine}
-use Rattle.gh_model.specs.declared.boot_line.BootLine.TheVariants.{Pages, Partition, Cspace, Addrspace, Doorbell, RootExtent, Extent, Msgqueue, Map, Cap, Vm, Rm, Link}
+use Rattle.gh_model.specs.declared.boot_line.BootLine.TheVariants.{Pages, Partition, Cspace}
+use Rattle.gh_model.specs.declared.boot_line.BootLine.TheVariants.{Addrspace, Doorbell}
+use Rattle.gh_model.specs.declared.boot_line.BootLine.TheVariants.{RootExtent, Extent, Msgqueue}
+use Rattle.gh_model.specs.declared.boot_line.BootLine.TheVariants.{Map, Cap, Vm, Rm, Link}
 use Rattle.gh_model.specs.declared.rows.CpuRow.{CpuRow}
 use Rattle.gh_model.specs.declared.running.Running.{Running}
 use Rattle.gh_model.specs.declared.state.State.{State}
@@ -56,7 +62,10 @@ fold-entries s [] = refl
 fold-entries s (line ∷ lines) = fold-entries (after_line s line) lines ∙ after_line-entries s line
 
 -- the CPUs in order are not more than the rows
-pub one_part : (row : CpuRow) (rows managers vms : List CpuRow) (cpu : ℕ) → length managers + length vms ≤ length rows → length (if cpu == 0 then row ∷ managers else managers) + length (if nat_lt 0 cpu then row ∷ vms else vms) ≤ suc (length rows)
+pub one_part : (row : CpuRow) (rows managers vms : List CpuRow) (cpu : ℕ)
+    → length managers + length vms ≤ length rows
+    → length (if cpu == 0 then row ∷ managers else managers)
+    + length (if nat_lt 0 cpu then row ∷ vms else vms) ≤ suc (length rows)
 one_part row rows managers vms cpu few = grind (arith, nat_tests)
 
 pub order_parts : (rows : List CpuRow) → length (filter is_manager rows) + length (filter is_vm rows) ≤ length rows
@@ -88,7 +97,12 @@ pub record IsFresh (w : Running Progress) : Type 0 where
   pub bounded : IsBounded has_made_one w
   pub calls : w.marks ≡ []
 
-pub start_fresh : (lines : List BootLine) (files : List (List Line)) (plain : State) (w : Running Progress) → length (boot_state lines).cpus ≤ 9 → plain ≡ boot_state lines → w ≡ run_start vm_answer vm_after plain (file_program files) → IsFresh w
+pub start_fresh : (lines : List BootLine) (files : List (List Line)) (plain : State)
+    (w : Running Progress)
+    → length (boot_state lines).cpus ≤ 9
+    → plain ≡ boot_state lines
+    → w ≡ run_start vm_answer vm_after plain (file_program files)
+    → IsFresh w
 start_fresh lines files plain w few booted begun =
     let start : w ≡ run_start vm_answer vm_after (boot_state lines) (file_program files) = begun ∙ ap (λ (s : State). run_start vm_answer vm_after s (file_program files)) booted in
     subst (λ (v : Running Progress). IsFresh v) (sym start) (record { cpus = start_cpus lines files few; bounded = start_bounded lines files; calls = refl })

@@ -10,7 +10,11 @@ use Rattle.gh_model.specs.Marks.{reply_of}
 use Rattle.gh_model.specs.Run.{IsRun, file_frames, file_of}
 use Rattle.gh_model.proofs.RunLaw.{run_is_run}
 
-pub file_run_is_run : (lines : List BootLine) (files : List (List Line)) → boot_fits lines ≡ true → has_manager lines ≡ false → IsRun lines (file_frames files) (file_run lines files).entries (file_run lines files).marks (file_run lines files).plain
+pub file_run_is_run : (lines : List BootLine) (files : List (List Line))
+    → boot_fits lines ≡ true
+    → has_manager lines ≡ false
+    → IsRun lines (file_frames files) (file_run lines files).entries (file_run lines files).marks
+    (file_run lines files).plain
 file_run_is_run lines files fits none =
     let run = run_is_run vm_answer vm_after (file_program files) lines fits in
     record {

@@ -1,5 +1,9 @@
 -- Turns and rounds, step by step, and what they keep.
-use Rattle.std.proofs.Common.{◌≡◌, ◌==◌, ◌+◌, ◌-◌, ◌<◌, ◌≤◌, ◌^◌, ◌∙◌, ℕ, zero, suc, Bool, true, false, List, [], ◌∷◌, ◌++◌, length, refl, subst, sym, ap, arith, Option, Some, None, Result, Ok, Err, get_or, slice_get, slice_set, All, if◌then◌else◌, length-append, length-set}
+use Rattle.std.proofs.Common.{◌≡◌, ◌==◌, ◌+◌, ◌-◌, ◌<◌, ◌≤◌}
+use Rattle.std.proofs.Common.{◌^◌, ◌∙◌, ℕ, zero, suc, Bool, true, false, List, []}
+use Rattle.std.proofs.Common.{◌∷◌, ◌++◌, length, refl, subst, sym, ap, arith, Option}
+use Rattle.std.proofs.Common.{Some, None, Result, Ok, Err, get_or, slice_get, slice_set}
+use Rattle.std.proofs.Common.{All, if◌then◌else◌, length-append, length-set}
 use Rattle.std.specs.List.{list_all, refill}
 use Rattle.std.proofs.lemmas.List.Elements.{All-get_or, All-set, All-weaker}
 use Rattle.std.proofs.lemmas.Option.{get_or_from_slice_get, slice_get-get_or, slice_get_within}
@@ -12,7 +16,9 @@ use Rattle.gh_model.specs.declared.running.Running.{Running}
 use Rattle.gh_model.specs.declared.running.Seat.{Seat}
 use Rattle.gh_model.specs.declared.state.State.{State}
 use Rattle.gh_model.specs.Program.{is_exit}
-use Rattle.gh_model.specs.Calls.{Called, call_with, next_call, turn, turn_of, turns, round, rounds, has_ended, with_call, seat_after, seat_behind, after_mark, entries_of}
+use Rattle.gh_model.specs.Calls.{Called, call_with, next_call, turn, turn_of}
+use Rattle.gh_model.specs.Calls.{turns, round, rounds, has_ended, with_call}
+use Rattle.gh_model.specs.Calls.{seat_after, seat_behind, after_mark, entries_of}
 use Rattle.gh_model.proofs.CallsLemmas.{call_entries, turns_step, rounds_none, rounds_step}
 use Rattle.gh_model.proofs.RowLemmas.{refilled_set}
 use Rattle.gh_model.proofs.Tests.{and-first, and-second}
@@ -37,7 +43,10 @@ module _ {P : Type 0} (answer : P → Option Reply → Step) (after : P → Opti
   going_turn w x true going = cc
   going_turn w x false going = refl
 
-  pub turn_going : (w : Running P) (at : ℕ) (seat : Seat P) → slice_get w.seats at ≡ Some seat → seat.cpu.ended ≡ false → turn answer after w at ≡ with_call answer after w at seat (next_call w.plain seat)
+  pub turn_going : (w : Running P) (at : ℕ) (seat : Seat P)
+      → slice_get w.seats at ≡ Some seat
+      → seat.cpu.ended ≡ false
+      → turn answer after w at ≡ with_call answer after w at seat (next_call w.plain seat)
   turn_going w at seat is going = ap (λ (found : Option (Seat P)). turn_of answer after w at found) is ∙ going_turn w _ seat.cpu.ended going
 
   pub turn_still : (w : Running P) (at : ℕ) (seat : Seat P) → slice_get w.seats at ≡ Some seat → seat.cpu.ended ≡ true → turn answer after w at ≡ w
@@ -74,14 +83,21 @@ module _ {P : Type 0} (answer : P → Option Reply → Step) (after : P → Opti
       sym (ap (λ (left : ℕ). rounds answer after left w) none ∙ rounds_none answer after w) ∙ rest
 
   -- the rounds that are left change nothing
-  pub rounds_still : (w all : Running P) (left : ℕ) (seats : List (Seat P)) (ended : Bool) → seats ≡ w.seats → ended ≡ list_all has_ended seats → ended ≡ true → rounds answer after left w ≡ all → w ≡ all
+  pub rounds_still : (w all : Running P) (left : ℕ) (seats : List (Seat P)) (ended : Bool)
+      → seats ≡ w.seats
+      → ended ≡ list_all has_ended seats
+      → ended ≡ true
+      → rounds answer after left w ≡ all
+      → w ≡ all
   rounds_still w all left seats ended same is_ended is rest =
       let every : list_all has_ended w.seats ≡ true = ap (λ (xs : List (Seat P)). list_all has_ended xs) (sym same) ∙ sym is_ended ∙ is in
       sym (rounds_ended left w every) ∙ rest
 
   -- the counts behind a call
 
-  behind_counts : (exit : Bool) (seat : Seat P) (c : CpuRun) (reply : Reply) → ((seat_behind answer after exit seat c reply).cpu.number ≡ c.number) × ((seat_behind answer after exit seat c reply).cpu.sections ≡ c.sections)
+  behind_counts : (exit : Bool) (seat : Seat P) (c : CpuRun) (reply : Reply)
+      → ((seat_behind answer after exit seat c reply).cpu.number ≡ c.number)
+      × ((seat_behind answer after exit seat c reply).cpu.sections ≡ c.sections)
   behind_counts true seat c reply = (refl, refl)
   behind_counts false seat c reply = (refl, refl)
 
@@ -90,7 +106,10 @@ module _ {P : Type 0} (answer : P → Option Reply → Step) (after : P → Opti
   one_at_most false = omega arith
 
   module _ (wants : P → Bool) where
-    called_paced : (calls : ℕ) (seat : Seat P) (mark : Mark) → IsPaced wants calls seat → IsReady wants (seat_after answer after seat mark).standing → IsPaced wants (calls + 1) (seat_after answer after seat mark)
+    called_paced : (calls : ℕ) (seat : Seat P) (mark : Mark)
+        → IsPaced wants calls seat
+        → IsReady wants (seat_after answer after seat mark).standing
+        → IsPaced wants (calls + 1) (seat_after answer after seat mark)
     called_paced calls seat mark paced ready =
         let numbered : seat.cpu.number ≤ calls = paced.numbered in
         let opened : seat.cpu.sections ≤ seat.cpu.number = paced.opened in
@@ -106,7 +125,11 @@ module _ {P : Type 0} (answer : P → Option Reply → Step) (after : P → Opti
         record { numbered = omega arith; opened = paced.opened; ready = paced.ready }
 
     -- a call more keeps a run bounded
-    pub call_bounded : (w : Running P) (at : ℕ) (seat : Seat P) → slice_get w.seats at ≡ Some seat → IsReady wants (seat_after answer after seat (next_call w.plain seat).mark).standing → IsBounded wants w → IsBounded wants (with_call answer after w at seat (next_call w.plain seat))
+    pub call_bounded : (w : Running P) (at : ℕ) (seat : Seat P)
+        → slice_get w.seats at ≡ Some seat
+        → IsReady wants (seat_after answer after seat (next_call w.plain seat).mark).standing
+        → IsBounded wants w
+        → IsBounded wants (with_call answer after w at seat (next_call w.plain seat))
     call_bounded w at seat is ready bounded =
         let called : Called = next_call w.plain seat in
         let made : w.plain.entries ≤ length w.marks = bounded.made in
@@ -115,7 +138,10 @@ module _ {P : Type 0} (answer : P → Option Reply → Step) (after : P → Opti
         let here : get_or w.seats at seat ≡ seat = get_or_from_slice_get w.seats at seat seat is in
         let paced : IsPaced wants (length w.marks) seat = subst (IsPaced wants (length w.marks)) here (All-get_or (IsPaced wants (length w.marks)) w.seats at seat (slice_get_within w.seats at seat is) bounded.paced) in
         let later : All (IsPaced wants (length w.marks + 1)) w.seats = All-weaker (IsPaced wants (length w.marks)) (IsPaced wants (length w.marks + 1)) (paced_later (length w.marks)) w.seats bounded.paced in
-        let all : All (IsPaced wants (length w.marks + 1)) (slice_set w.seats at (seat_after answer after seat (next_call w.plain seat).mark)) = All-set (IsPaced wants (length w.marks + 1)) w.seats at (seat_after answer after seat (next_call w.plain seat).mark) (called_paced (length w.marks) seat (next_call w.plain seat).mark paced ready) later in
+        let next : Seat P = seat_after answer after seat called.mark in
+        let all : All (IsPaced wants (length w.marks + 1)) (slice_set w.seats at next) =
+        All-set (IsPaced wants (length w.marks + 1)) w.seats at next
+        (called_paced (length w.marks) seat called.mark paced ready) later in
         record {
           made = omega (arith, one);
           paced = subst (λ (calls : ℕ). All (IsPaced wants calls) (slice_set w.seats at (seat_after answer after seat (next_call w.plain seat).mark))) (sym one) all;
@@ -185,15 +211,24 @@ module _ {P : Type 0} (answer : P → Option Reply → Step) (after : P → Opti
   pub turn_left_bounded : IsBounded wants w → IsBounded wants (run_with w.plain w.entries w.marks seat)
   turn_left_bounded bounded = subst (λ (v : Running P). IsBounded wants v) (sym unchanged) bounded
 
-  -- one that goes on has made its call
-  module _ (plain : State) (entries : List Entry) (marks : List Mark) (moved : Seat P) (going : seat.cpu.ended ≡ false) (plain_is : plain ≡ (next_call w.plain seat).after) (entries_are : entries ≡ w.entries ++ entries_of (next_call w.plain seat).mark) (marks_are : marks ≡ w.marks ++ (next_call w.plain seat).mark ∷ []) (moved_is : moved ≡ seat_after answer after seat (next_call w.plain seat).mark) where
+  -- one that goes on has made its call: these are the parts of the run behind it
+  pub record HasCalled (plain : State) (entries : List Entry) (marks : List Mark)
+      (moved : Seat P) : Type 0 where
+    pub going : seat.cpu.ended ≡ false
+    pub plain_is : plain ≡ (next_call w.plain seat).after
+    pub entries_are : entries ≡ w.entries ++ entries_of (next_call w.plain seat).mark
+    pub marks_are : marks ≡ w.marks ++ (next_call w.plain seat).mark ∷ []
+    pub moved_is : moved ≡ seat_after answer after seat (next_call w.plain seat).mark
+
+  module _ (plain : State) (entries : List Entry) (marks : List Mark) (moved : Seat P)
+      (called : HasCalled plain entries marks moved) where
     parts : run_with plain entries marks moved ≡ with_call answer after w at seat (next_call w.plain seat)
-    parts = rw (seats_are moved, plain_is, entries_are, marks_are, moved_is) refl
+    parts = rw (seats_are moved, called.plain_is, called.entries_are, called.marks_are, called.moved_is) refl
 
     pub turn_made : run_with plain entries marks moved ≡ turn answer after w at
-    turn_made = parts ∙ sym (turn_going answer after w at seat there going)
+    turn_made = parts ∙ sym (turn_going answer after w at seat there called.going)
 
     pub turn_made_bounded : IsReady wants moved.standing → IsBounded wants w → IsBounded wants (run_with plain entries marks moved)
     turn_made_bounded ready bounded =
         subst (λ (v : Running P). IsBounded wants v) (sym parts)
-        (call_bounded answer after wants w at seat there (subst (λ (s : Seat P). IsReady wants s.standing) moved_is ready) bounded)
+        (call_bounded answer after wants w at seat there (subst (λ (s : Seat P). IsReady wants s.standing) called.moved_is ready) bounded)

@@ -15,6 +15,7 @@ pub record IsPaced {P : Type 0} (wants : P → Bool) (calls : ℕ) (seat : Seat 
   pub opened : seat.cpu.sections ≤ seat.cpu.number
   pub ready : IsReady wants seat.standing
 
+-- so are those of all CPUs, and the entries are not more than the calls
 pub record IsBounded {P : Type 0} (wants : P → Bool) (w : Running P) : Type 0 where
   pub made : w.plain.entries ≤ length w.marks
   pub paced : All (IsPaced wants (length w.marks)) w.seats

@@ -1,4 +1,4 @@
-//! What a program is asked for, and the exit call.
+//! What a program is asked for, and the frame of the exit call.
 
 ghost use Rattle.std.specs.Prelude.{◌≡◌, ◌≢◌, is_some, false, true, IfOk, OnOk, Some};
 ghost use Rattle.gh_driver.specs.Pace.{IsReady};
@@ -14,7 +14,7 @@ use std::alloc::Global;
 /// The exit call's function, in x0 of a frame.
 const EXIT: u64 = 0xc600_8240;
 
-fn exit(alloc: Global) -> Frame
+fn exit_frame(alloc: Global) -> Frame
     ensures { result ≡ exit_frame }
 {
     Frame {
@@ -35,7 +35,7 @@ fn frame_of(alloc: Global, step: Step) -> Frame
 {
     match step {
         Step::Make(frame) => frame,
-        Step::Idle | Step::End => exit(alloc),
+        Step::Idle | Step::End => exit_frame(alloc),
     }
 }
 
@@ -46,8 +46,10 @@ fn step_of<P: Program>(
     last: Option<&Reply>,
 ) -> Result<Step, NoMemory>
     requires { is_some last ≡ P.wants_reply program.old }
-    ensures step { IfOk result (λ step. step ≡ next_step P.answer P.after program.old (told last.entry)) }
-    ensures program { OnOk result (program.new ≡ next_state P.answer P.after program.old (told last.entry)) }
+    ensures step { IfOk result
+        (λ step. step ≡ next_step P.answer P.after program.old (told last.entry)) }
+    ensures program { OnOk result
+        (program.new ≡ next_state P.answer P.after program.old (told last.entry)) }
     ensures wants { OnOk result (P.wants_reply program.new ≡ true) }
 {
     match program.next(alloc, last)? {
@@ -64,11 +66,12 @@ pub(crate) fn ask<P: Program>(
     last: Option<&Reply>,
 ) -> Result<(), NoMemory>
     requires { is_some last ≡ P.wants_reply standing.old.program }
-    ensures standing { OnOk result (standing.new ≡ asked P.answer P.after number standing.old.program (told last.entry)) }
+    ensures standing { OnOk result
+        (standing.new ≡ asked P.answer P.after number standing.old.program (told last.entry)) }
     ensures ready { OnOk result (IsReady P.wants_reply standing.new) }
 {
     if number == CALL_NUMBERS {
-        standing.frame = exit(alloc);
+        standing.frame = exit_frame(alloc);
         return Ok(());
     }
     let step = step_of(alloc, &mut standing.program, last)?;

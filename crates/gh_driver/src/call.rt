@@ -1,7 +1,8 @@
 //! One whole call of a CPU.
 
 ghost use Rattle.std.specs.Prelude.{◌≡◌, ◌<◌, Ok, None, IfOk, OnOk};
-ghost use Rattle.gh_model.specs.Calls.{call_mark, by_shape, by_looks, call_with as called_with, act_end};
+ghost use Rattle.gh_model.specs.Calls.{call_mark, by_shape, by_looks};
+ghost use Rattle.gh_model.specs.Calls.{call_with as called_with, act_end};
 ghost use Rattle.gh_model.specs.Legal.{is_short};
 
 use crate::looks::{grants, look_up, unlooked};
@@ -65,8 +66,10 @@ fn acted(
 ) -> Result<Mark, NoMemory>
     requires entries { plain.old.entries < HISTORY_ENTRIES }
     requires number { c.now.number < 4294967295 }
-    ensures mark { IfOk result (λ mark. mark ≡ (by_looks plain.old c.now frame.now call.now looked None).mark) }
-    ensures state { OnOk result (plain.new ≡ (by_looks plain.old c.now frame.now call.now looked None).after) }
+    ensures mark { IfOk result
+        (λ mark. mark ≡ (by_looks plain.old c.now frame.now call.now looked None).mark) }
+    ensures state { OnOk result
+        (plain.new ≡ (by_looks plain.old c.now frame.now call.now looked None).after) }
 {
     let count = needs(call).len();
     let grants = grants(alloc, looked.words.as_slice(), count)?;
@@ -93,8 +96,10 @@ fn looked_up(
 ) -> Result<Mark, NoMemory>
     requires entries { plain.old.entries < HISTORY_ENTRIES }
     requires number { c.now.number < 4294967295 }
-    ensures mark { IfOk result (λ mark. mark ≡ (by_shape plain.old c.now frame.now (Ok call.now)).mark) }
-    ensures state { OnOk result (plain.new ≡ (by_shape plain.old c.now frame.now (Ok call.now)).after) }
+    ensures mark { IfOk result
+        (λ mark. mark ≡ (by_shape plain.old c.now frame.now (Ok call.now)).mark) }
+    ensures state { OnOk result
+        (plain.new ≡ (by_shape plain.old c.now frame.now (Ok call.now)).after) }
 {
     let needs = needs(call);
     let looked = look_up(plain, c.cspace, needs.as_slice(), c.place);

@@ -8,8 +8,8 @@ ghost use Rattle.gh_model.specs.Run.{IsRun, file_frames};
 use gh_base::Sequence;
 use gh_model::{Boot, Line};
 
-/// The run of a boot file without a resource manager is a legal history, graced, and each CPU's calls
-/// are those of its VM's call file. The function does nothing; its clause is the law.
+/// The run of a boot file without a resource manager is a legal history, graced, and each CPU's
+/// calls are those of its VM's call file. The function does nothing; its clause is the law.
 pub fn file_run_is_legal(boot: &Boot, files: &[Sequence<Line>])
     ensures { has_manager boot.now ≡ false
         → IsRun boot.now (file_frames files.now) (file_run boot.now files.now).entries

@@ -1,6 +1,7 @@
 //! The capability lookups of a call.
 
-ghost use Rattle.std.specs.Prelude.{◌≡◌, ◌<◌, ◌≤◌, length, map, take, IfOk, Option, Result};
+ghost use Rattle.std.specs.Prelude.{◌≡◌, ◌<◌, ◌≤◌, length};
+ghost use Rattle.std.specs.Prelude.{map, take, IfOk, Option, Result};
 ghost use Rattle.gh_model.specs.Word.{word_at};
 ghost use Rattle.gh_model.specs.Act.{granted};
 ghost use Rattle.gh_model.specs.Calls.{no_looks, with_look, look_all, refusal_of};

@@ -71,7 +71,9 @@ pub(crate) fn seat_of(
     row: &CpuRow,
     files: &[Sequence<Line>],
 ) -> Result<Seat<VmProgram>, NoMemory>
-    ensures { IfOk result (λ seat. seat ≡ seat_start vm_answer vm_after row.now (file_program files.now row.now.cpu.0)) }
+    ensures { IfOk result
+        (λ seat. seat
+        ≡ seat_start vm_answer vm_after row.now (file_program files.now row.now.cpu.0)) }
 {
     let lines = copies_of(alloc, lines_of(files, row.cpu))?;
     let mut standing = Standing {

@@ -6,7 +6,8 @@ ghost use Rattle.gh_callfile.specs.VmProgress.{vm_after, vm_answer};
 ghost use Rattle.gh_driver.specs.FileRun.{file_program, file_run};
 ghost use Rattle.gh_driver.specs.Pace.{IsBounded};
 ghost use Rattle.gh_model.specs.Boot.{boot_state};
-ghost use Rattle.gh_model.specs.Calls.{seat_start, round as round_of, rounds, rows_in_order, has_ended, run_start};
+ghost use Rattle.gh_model.specs.Calls.{seat_start, round as round_of, rounds};
+ghost use Rattle.gh_model.specs.Calls.{rows_in_order, has_ended, run_start};
 ghost use Rattle.gh_model.specs.Program.{last_number};
 
 use crate::programs::seat_of;
@@ -87,7 +88,10 @@ fn seats_of(
     rows: &[CpuRow],
     files: &[Sequence<Line>],
 ) -> Result<Sequence<Seat<VmProgram>>, NoMemory>
-    ensures { IfOk result (λ seats. seats ≡ map (λ row. seat_start vm_answer vm_after row (file_program files.now row.cpu.0)) rows.now) }
+    ensures { IfOk result
+        (λ seats. seats
+        ≡ map (λ row. seat_start vm_answer vm_after row (file_program files.now row.cpu.0))
+        rows.now) }
 {
     let mut seats = Sequence::new(alloc);
     for row in rows {
@@ -102,7 +106,8 @@ fn start(
     plain: Plain,
     files: &[Sequence<Line>],
 ) -> Result<Running<VmProgram>, NoMemory>
-    ensures { IfOk result (λ run. run ≡ run_start vm_answer vm_after plain (file_program files.now)) }
+    ensures { IfOk result
+        (λ run. run ≡ run_start vm_answer vm_after plain (file_program files.now)) }
 {
     let rows = cpus(alloc, plain.state().cpus.as_slice())?;
     let seats = seats_of(alloc, rows.as_slice(), files)?;
@@ -122,8 +127,8 @@ fn few_cpus(boot: &Boot)
     let _lines = boot.lines();
 }
 
-/// Runs the programs of the call files: the CPUs in rising order each make one call, round after round,
-/// until all have ended.
+/// Runs the programs of the call files: the CPUs in rising order each make one call, round after
+/// round, until all have ended.
 pub fn run_step(alloc: Global, boot: &Boot, files: &[Sequence<Line>]) -> Result<Finished, NoMemory>
     ensures history { IfOk result (λ done. done.history ≡ (file_run boot.now files.now).entries) }
     ensures marks { IfOk result (λ done. done.marks ≡ (file_run boot.now files.now).marks) }

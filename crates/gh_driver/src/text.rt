@@ -1,12 +1,18 @@
 //! The history text.
 
-ghost use Rattle.std.specs.Prelude.{◌≡◌, ◌+◌, ◌<◌, ◌^◌, ◌++◌, ℕ, OnOk, IfOk, string_bytes, filter};
+ghost use Rattle.std.specs.Prelude.{◌≡◌, ◌+◌, ◌<◌, ◌^◌, ◌++◌};
+ghost use Rattle.std.specs.Prelude.{ℕ, OnOk, IfOk, string_bytes, filter};
 ghost use Rattle.std.specs.List.{flat_map, enumerate_from, list_any};
 ghost use Rattle.gh_driver.specs.Mapped.{maps_page};
 ghost use Rattle.gh_model.specs.Access.{access_at};
 ghost use Rattle.gh_model.specs.Boot.{is_row_of};
 ghost use Rattle.gh_model.specs.Small.{IsSmall};
-ghost use Rattle.gh_model.specs.Text.{spaced, spaced_register, byte_text, entry_words, entry_line, look_words, held_words, end_words, bytes_words, reply_words, call_head, call_line, cpu_lines, units_line, run_line, ended_run, open_run, goes_on_with, runs_from, space_lines, entries_part, calls_part, state_part, is_partition_row, is_space_row, no_run, pages_from, history_text as text_of};
+ghost use Rattle.gh_model.specs.Text.{spaced, spaced_register, byte_text, entry_words, entry_line};
+ghost use Rattle.gh_model.specs.Text.{look_words, held_words, end_words, bytes_words, reply_words};
+ghost use Rattle.gh_model.specs.Text.{call_head, call_line, cpu_lines, units_line, run_line};
+ghost use Rattle.gh_model.specs.Text.{ended_run, open_run, goes_on_with, runs_from, space_lines};
+ghost use Rattle.gh_model.specs.Text.{entries_part, calls_part, state_part, is_partition_row};
+ghost use Rattle.gh_model.specs.Text.{is_space_row, no_run, pages_from, history_text as text_of};
 
 use crate::run::{Finished, cpus};
 use gh_base::{Access, CpuNo, End, Held, Kind, Look, Mark, NoMemory, PageNo, Reply, Serial};
@@ -39,7 +45,8 @@ fn put_byte(out: &mut String, byte: u8) -> Result<(), NoMemory>
 }
 
 fn put_counters(out: &mut String, seen: &[u64]) -> Result<(), NoMemory>
-    ensures { OnOk result (string_bytes out.new ≡ string_bytes out.old ++ flat_map spaced seen.now) }
+    ensures { OnOk result
+        (string_bytes out.new ≡ string_bytes out.old ++ flat_map spaced seen.now) }
 {
     for counter in seen {
         put(out, *counter)?;
@@ -54,7 +61,9 @@ fn put_part(
     space: Serial,
     slot: u8,
 ) -> Result<(), NoMemory>
-    ensures { OnOk result (string_bytes out.new ≡ string_bytes out.old ++ entry_words (Entry.Part cpu number space slot)) }
+    ensures { OnOk result
+        (string_bytes out.new
+        ≡ string_bytes out.old ++ entry_words (Entry.Part cpu number space slot)) }
 {
     out.push_str(" part")?;
     put(out, cpu.0 as u64)?;
@@ -93,7 +102,8 @@ fn put_entry(out: &mut String, entry: &Entry) -> Result<(), NoMemory>
 }
 
 fn put_entry_line(out: &mut String, number: u64, entry: &Entry) -> Result<(), NoMemory>
-    ensures { OnOk result (string_bytes out.new ≡ string_bytes out.old ++ entry_line (number, entry.now)) }
+    ensures { OnOk result
+        (string_bytes out.new ≡ string_bytes out.old ++ entry_line (number, entry.now)) }
 {
     write!(out, "{number}")?;
     put_entry(out, entry)?;
@@ -102,7 +112,9 @@ fn put_entry_line(out: &mut String, number: u64, entry: &Entry) -> Result<(), No
 }
 
 fn put_entries(out: &mut String, entries: &[Entry]) -> Result<(), NoMemory>
-    ensures { OnOk result (string_bytes out.new ≡ string_bytes out.old ++ flat_map entry_line (enumerate_from 1 entries.now)) }
+    ensures { OnOk result
+        (string_bytes out.new
+        ≡ string_bytes out.old ++ flat_map entry_line (enumerate_from 1 entries.now)) }
 {
     for (at, entry) in entries.iter().enumerate() {
         put_entry_line(out, at as u64 + 1, entry)?;
@@ -111,7 +123,8 @@ fn put_entries(out: &mut String, entries: &[Entry]) -> Result<(), NoMemory>
 }
 
 fn put_looks(out: &mut String, looks: &[Look]) -> Result<(), NoMemory>
-    ensures { OnOk result (string_bytes out.new ≡ string_bytes out.old ++ flat_map look_words looks.now) }
+    ensures { OnOk result
+        (string_bytes out.new ≡ string_bytes out.old ++ flat_map look_words looks.now) }
 {
     for look in looks {
         put_look(out, look)?;
@@ -150,7 +163,8 @@ fn put_held(out: &mut String, held: &Held) -> Result<(), NoMemory>
 }
 
 fn put_all_held(out: &mut String, held: &[Held]) -> Result<(), NoMemory>
-    ensures { OnOk result (string_bytes out.new ≡ string_bytes out.old ++ flat_map held_words held.now) }
+    ensures { OnOk result
+        (string_bytes out.new ≡ string_bytes out.old ++ flat_map held_words held.now) }
 {
     for cause in held {
         put_held(out, cause)?;
@@ -183,7 +197,8 @@ fn put_end(out: &mut String, end: &End) -> Result<(), NoMemory>
 }
 
 fn put_each_byte(out: &mut String, bytes: &[u8]) -> Result<(), NoMemory>
-    ensures { OnOk result (string_bytes out.new ≡ string_bytes out.old ++ flat_map byte_text bytes.now) }
+    ensures { OnOk result
+        (string_bytes out.new ≡ string_bytes out.old ++ flat_map byte_text bytes.now) }
 {
     for byte in bytes {
         put_byte(out, *byte)?;
@@ -203,7 +218,8 @@ fn put_bytes(out: &mut String, bytes: &[u8]) -> Result<(), NoMemory>
 }
 
 fn put_registers(out: &mut String, registers: &[u64]) -> Result<(), NoMemory>
-    ensures { OnOk result (string_bytes out.new ≡ string_bytes out.old ++ flat_map spaced_register registers.now) }
+    ensures { OnOk result
+        (string_bytes out.new ≡ string_bytes out.old ++ flat_map spaced_register registers.now) }
 {
     for register in registers {
         put_register(out, *register)?;
@@ -241,7 +257,8 @@ fn put_call(out: &mut String, mark: &Mark) -> Result<(), NoMemory>
 
 /// The calls of one CPU.
 fn put_cpu(out: &mut String, marks: &[Mark], row: &CpuRow) -> Result<(), NoMemory>
-    ensures { OnOk result (string_bytes out.new ≡ string_bytes out.old ++ cpu_lines marks.now row.now) }
+    ensures { OnOk result
+        (string_bytes out.new ≡ string_bytes out.old ++ cpu_lines marks.now row.now) }
 {
     let cpu = row.cpu;
     for mark in marks {
@@ -253,7 +270,8 @@ fn put_cpu(out: &mut String, marks: &[Mark], row: &CpuRow) -> Result<(), NoMemor
 }
 
 fn put_cpus(out: &mut String, marks: &[Mark], rows: &[CpuRow]) -> Result<(), NoMemory>
-    ensures { OnOk result (string_bytes out.new ≡ string_bytes out.old ++ flat_map (cpu_lines marks.now) rows.now) }
+    ensures { OnOk result
+        (string_bytes out.new ≡ string_bytes out.old ++ flat_map (cpu_lines marks.now) rows.now) }
 {
     for row in rows {
         put_cpu(out, marks, row)?;
@@ -264,7 +282,8 @@ fn put_cpus(out: &mut String, marks: &[Mark], rows: &[CpuRow]) -> Result<(), NoM
 /// The units of a live partition.
 fn put_units(out: &mut String, state: &State, row: &ObjectRow) -> Result<(), NoMemory>
     requires { IsSmall state.now }
-    ensures { OnOk result (string_bytes out.new ≡ string_bytes out.old ++ units_line state.now row.now) }
+    ensures { OnOk result
+        (string_bytes out.new ≡ string_bytes out.old ++ units_line state.now row.now) }
 {
     let partition = row.serial;
     out.push_str("units")?;
@@ -278,7 +297,10 @@ fn put_units(out: &mut String, state: &State, row: &ObjectRow) -> Result<(), NoM
 
 fn put_partitions(out: &mut String, state: &State, rows: &[ObjectRow]) -> Result<(), NoMemory>
     requires { IsSmall state.now }
-    ensures { OnOk result (string_bytes out.new ≡ string_bytes out.old ++ flat_map (units_line state.now) (filter is_partition_row rows.now)) }
+    ensures { OnOk result
+        (string_bytes out.new
+        ≡ string_bytes out.old
+        ++ flat_map (units_line state.now) (filter is_partition_row rows.now)) }
 {
     for row in rows {
         if row.kind == Kind::Partition {
@@ -289,7 +311,8 @@ fn put_partitions(out: &mut String, state: &State, rows: &[ObjectRow]) -> Result
 }
 
 fn put_run(out: &mut String, space: Serial, run: &PageRun) -> Result<(), NoMemory>
-    ensures { OnOk result (string_bytes out.new ≡ string_bytes out.old ++ run_line space.0 run.now) }
+    ensures { OnOk result
+        (string_bytes out.new ≡ string_bytes out.old ++ run_line space.0 run.now) }
 {
     out.push_str("access")?;
     put(out, space.0 as u64)?;
@@ -303,7 +326,8 @@ fn put_run(out: &mut String, space: Serial, run: &PageRun) -> Result<(), NoMemor
 
 /// The line of a run that doesn't go on.
 fn put_ended(out: &mut String, space: Serial, run: &PageRun, goes: bool) -> Result<(), NoMemory>
-    ensures { OnOk result (string_bytes out.new ≡ string_bytes out.old ++ ended_run space.0 run.now goes) }
+    ensures { OnOk result
+        (string_bytes out.new ≡ string_bytes out.old ++ ended_run space.0 run.now goes) }
 {
     if goes || run.count == 0 {
         return Ok(());
@@ -396,7 +420,9 @@ fn put_pages(
 ) -> Result<(), NoMemory>
     requires small { IsSmall state.now }
     requires own { own.now ≡ filter (is_row_of space.0) state.now.mappings }
-    ensures { OnOk result (string_bytes out.new ≡ string_bytes out.old ++ runs_from state.now space.0 no_run (pages_from 0 4096)) }
+    ensures { OnOk result
+        (string_bytes out.new
+        ≡ string_bytes out.old ++ runs_from state.now space.0 no_run (pages_from 0 4096)) }
 {
     let mut run = PageRun::NONE;
     for page in 0..PAGES {
@@ -410,7 +436,9 @@ fn put_pages(
 /// The longest runs of pages of an address space.
 fn put_space(alloc: Global, out: &mut String, state: &State, space: Serial) -> Result<(), NoMemory>
     requires { IsSmall state.now }
-    ensures { OnOk result (string_bytes out.new ≡ string_bytes out.old ++ runs_from state.now space.0 no_run (pages_from 0 4096)) }
+    ensures { OnOk result
+        (string_bytes out.new
+        ≡ string_bytes out.old ++ runs_from state.now space.0 no_run (pages_from 0 4096)) }
 {
     let own = rows_of(alloc, state.mappings.as_slice(), space)?;
     put_pages(out, state, own.as_slice(), space)
@@ -423,7 +451,9 @@ fn put_spaces(
     rows: &[ObjectRow],
 ) -> Result<(), NoMemory>
     requires { IsSmall state.now }
-    ensures { OnOk result (string_bytes out.new ≡ string_bytes out.old ++ flat_map (space_lines state.now) (filter is_space_row rows.now)) }
+    ensures { OnOk result
+        (string_bytes out.new
+        ≡ string_bytes out.old ++ flat_map (space_lines state.now) (filter is_space_row rows.now)) }
 {
     for row in rows {
         if row.kind == Kind::Space {
@@ -434,7 +464,8 @@ fn put_spaces(
 }
 
 fn put_history(out: &mut String, entries: &[Entry]) -> Result<(), NoMemory>
-    ensures { OnOk result (string_bytes out.new ≡ string_bytes out.old ++ entries_part entries.now) }
+    ensures { OnOk result
+        (string_bytes out.new ≡ string_bytes out.old ++ entries_part entries.now) }
 {
     out.push_str("history")?;
     put(out, entries.len() as u64)?;
@@ -443,7 +474,8 @@ fn put_history(out: &mut String, entries: &[Entry]) -> Result<(), NoMemory>
 }
 
 fn put_calls(alloc: Global, out: &mut String, marks: &[Mark], state: &State) -> Result<(), NoMemory>
-    ensures { OnOk result (string_bytes out.new ≡ string_bytes out.old ++ calls_part marks.now state.now) }
+    ensures { OnOk result
+        (string_bytes out.new ≡ string_bytes out.old ++ calls_part marks.now state.now) }
 {
     let rows = cpus(alloc, state.cpus.as_slice())?;
     out.push_str("calls")?;
@@ -465,7 +497,8 @@ fn put_state(alloc: Global, out: &mut String, state: &State) -> Result<(), NoMem
 
 /// The text of a finished run: its history, its calls, and the state after it.
 pub fn history_text(alloc: Global, done: &Finished) -> Result<String, NoMemory>
-    ensures { IfOk result (λ text. string_bytes text ≡ text_of done.now.history done.now.marks done.now.state) }
+    ensures { IfOk result
+        (λ text. string_bytes text ≡ text_of done.now.history done.now.marks done.now.state) }
 {
     let mut out = String::new(alloc);
     put_history(&mut out, done.history.as_slice())?;

@@ -1,8 +1,10 @@
 //! A CPU's turn in a run by whole calls.
 
-ghost use Rattle.std.specs.Prelude.{◌≡◌, ◌+◌, ◌<◌, ◌≤◌, ◌++◌, ◌∷◌, [], false, Some, fold, length, slice_get, IfOk, OnOk};
+ghost use Rattle.std.specs.Prelude.{◌≡◌, ◌+◌, ◌<◌, ◌≤◌, ◌++◌, ◌∷◌};
+ghost use Rattle.std.specs.Prelude.{[], false, Some, fold, length, slice_get, IfOk, OnOk};
 ghost use Rattle.gh_driver.specs.Pace.{IsReady, IsBounded};
-ghost use Rattle.gh_model.specs.Calls.{after_mark, entries_of, last_look_place, next_call, place_after_mark, seat_after, turn as turn_of};
+ghost use Rattle.gh_model.specs.Calls.{after_mark, entries_of, last_look_place, next_call};
+ghost use Rattle.gh_model.specs.Calls.{place_after_mark, seat_after, turn as turn_of};
 
 use crate::ask::{ask, exits};
 use crate::call::make_call;
@@ -11,7 +13,7 @@ use gh_model::{CpuRun, Entry, Plain, Program, Running, Seat};
 use std::alloc::Global;
 
 /// The place of the last look, or the place before them.
-fn looked(before: u32, looks: &[Look]) -> u32
+fn last_look_place(before: u32, looks: &[Look]) -> u32
     ensures { result ≡ last_look_place before looks.now }
 {
     let mut last = before;
@@ -22,11 +24,11 @@ fn looked(before: u32, looks: &[Look]) -> u32
 }
 
 /// The CPU's last place after its call.
-fn place(c: &CpuRun, mark: &Mark) -> u32
+fn place_after_mark(c: &CpuRun, mark: &Mark) -> u32
     ensures { result ≡ place_after_mark c.now.place mark.now }
 {
     match mark.end {
-        End::Frame | End::Refused | End::Dead => looked(c.place, mark.looks.as_slice()),
+        End::Frame | End::Refused | End::Dead => last_look_place(c.place, mark.looks.as_slice()),
         End::Act { place } => place,
         End::Short { place, held: _ } => place,
         End::Entry { number } => number,
@@ -43,7 +45,7 @@ fn count_call(c: CpuRun, mark: &Mark) -> CpuRun
     CpuRun {
         number: c.number + 1,
         sections: c.sections + opened,
-        place: place(&c, mark),
+        place: place_after_mark(&c, mark),
         ..c
     }
 }
@@ -83,8 +85,9 @@ fn move_on<P: Program>(alloc: Global, seat: &mut Seat<P>, mark: &Mark) -> Result
     )
 }
 
-/// The call of a CPU that hasn't ended: what it leaves of the state, the history, the marks and the CPU.
-fn call_of<P: Program>(
+/// The call of a CPU that hasn't ended: what it leaves of the state, the history, the marks and
+/// the CPU.
+fn make_next_call<P: Program>(
     alloc: Global,
     plain: &mut Plain,
     entries: &mut Sequence<Entry>,
@@ -96,9 +99,12 @@ fn call_of<P: Program>(
     requires sections { seat.old.cpu.sections < 4294967295 }
     requires ready { IsReady P.wants_reply seat.old.standing }
     ensures state { OnOk result (plain.new ≡ (next_call plain.old seat.old).after) }
-    ensures entries { OnOk result (entries.new ≡ entries.old ++ entries_of (next_call plain.old seat.old).mark) }
-    ensures marks { OnOk result (marks.new ≡ marks.old ++ (next_call plain.old seat.old).mark ∷ []) }
-    ensures seat { OnOk result (seat.new ≡ seat_after P.answer P.after seat.old (next_call plain.old seat.old).mark) }
+    ensures entries { OnOk result
+        (entries.new ≡ entries.old ++ entries_of (next_call plain.old seat.old).mark) }
+    ensures marks { OnOk result
+        (marks.new ≡ marks.old ++ (next_call plain.old seat.old).mark ∷ []) }
+    ensures seat { OnOk result
+        (seat.new ≡ seat_after P.answer P.after seat.old (next_call plain.old seat.old).mark) }
     ensures ready { OnOk result (IsReady P.wants_reply seat.new.standing) }
 {
     let mark = make_call(alloc, plain, &seat.cpu, &seat.standing.frame)?;
@@ -124,7 +130,7 @@ pub(crate) fn turn<P: Program>(
     if seat.cpu.ended {
         return Ok(());
     }
-    call_of(
+    make_next_call(
         alloc,
         &mut run.plain,
         &mut run.entries,

@@ -1,10 +1,17 @@
 -- Runs of pages: where they end, and what lies before and behind a page.
-use Rattle.std.proofs.Common.{◌≡◌, not, ℕ, zero, suc, ◌+◌, ◌-◌, ◌<◌, ◌≤◌, ◌⊎◌, inl, inr, true, false, List, [], ◌∷◌, ◌++◌, length, take, drop, get_or, replicate, slice_get, nat_le, Bool, Some, refl, sym, ap, ◌∙◌, arith, rules, one-add, add-one}
+use Rattle.std.proofs.Common.{◌≡◌, not, ℕ, zero, suc, ◌+◌, ◌-◌, ◌<◌, ◌≤◌}
+use Rattle.std.proofs.Common.{◌⊎◌, inl, inr, true, false, List, [], ◌∷◌, ◌++◌}
+use Rattle.std.proofs.Common.{length, take, drop, get_or, replicate, slice_get, nat_le, Bool, Some}
+use Rattle.std.proofs.Common.{refl, sym, ap, ◌∙◌, arith, rules, one-add, add-one}
 use Rattle.std.specs.List.{insert, list_all, remove, prefix_len, position_or_len}
 use Rattle.std.specs.List.Sorted.{IsNonDecreasingBy, IsPartitionPoint}
 use Rattle.std.proofs.Math.Seq.{drop-append-add}
 use Rattle.std.proofs.lemmas.Bool.{cases_lt, eq-eqb, le-leb, leb-false, lt-leb}
-use Rattle.std.proofs.lemmas.List.{append_assoc, drop-drop, length-take-le, length-drop, places, drop-append-le, drop-replicate, length-append, length-replicate, replicate-append-replicate, take-append-drop, drop_more, drop_all, take_at, get_or_append_left, get_or-append_right, get_or-replicate}
+use Rattle.std.proofs.lemmas.List.{append_assoc, drop-drop, length-take-le, length-drop}
+use Rattle.std.proofs.lemmas.List.{places, drop-append-le, drop-replicate, length-append}
+use Rattle.std.proofs.lemmas.List.{length-replicate, replicate-append-replicate}
+use Rattle.std.proofs.lemmas.List.{take-append-drop, drop_more, drop_all, take_at}
+use Rattle.std.proofs.lemmas.List.{get_or_append_left, get_or-append_right, get_or-replicate}
 use Rattle.std.proofs.lemmas.List.Edits.{length-insert}
 use Rattle.std.proofs.lemmas.List.Folds.{prefix_len-append, prefix_len-replicate}
 use Rattle.std.proofs.lemmas.Option.{slice_get-get_or}

@@ -1,6 +1,10 @@
 -- The extents as callers see them: the row of each, in the order in which they were made, and for
 -- each page of the machine its one holder.
-use Rattle.std.specs.Prelude.{◌≡◌, ◌≢◌, ◌==◌, ◌&&◌, ◌||◌, ◌+◌, ◌≤◌, not, ℕ, Bool, true, false, IsTrue, List, [], ◌∷◌, ◌++◌, length, drop, replicate, filter, find, position, Option, Some, None, IsSome, IsSomeAnd, nat_le, nat_lt, bit_and, All, if◌then◌else◌}
+use Rattle.std.specs.Prelude.{◌≡◌, ◌≢◌, ◌==◌, ◌&&◌, ◌||◌, ◌+◌}
+use Rattle.std.specs.Prelude.{◌≤◌, not, ℕ, Bool, true, false, IsTrue, List, []}
+use Rattle.std.specs.Prelude.{◌∷◌, ◌++◌, length, drop, replicate, filter, find}
+use Rattle.std.specs.Prelude.{position, Option, Some, None, IsSome, IsSomeAnd, nat_le}
+use Rattle.std.specs.Prelude.{nat_lt, bit_and, All, if◌then◌else◌}
 use Rattle.std.specs.List.{list_any, prefix_len}
 use Rattle.std.specs.Option.{option_map}
 use Rattle.gh_base.specs.Access.{IsWithin}
@@ -18,6 +22,7 @@ use Rattle.gh_model.specs.Rows.{is_extent}
 use Rattle.gh_model.specs.declared.memory.Span.{Span}
 use Rattle.gh_model.specs.declared.rows.ExtentRow.{ExtentRow}
 
+-- the extents: their rows in the order in which they were made, and for each page its holder
 pub record Extents : Type 0 where
   pub rows : List ExtentRow
   pub holders : List Serial
@@ -96,7 +101,8 @@ child_row child offset count access parent = record {
 
 -- why the range can't be derived: it passes the span's end, or the access is more than the parent's
 -- or a page isn't held by the parent
-abbrev pub row_derive_refusal : Extents → ℕ → ℕ → ℕ → Option ExtentRow → Option Errno
+abbrev pub row_derive_refusal :
+    Extents → ℕ → ℕ → ℕ → Option ExtentRow → Option Errno
 row_derive_refusal s offset count access None = None
 row_derive_refusal s offset count access (Some parent) =
     if nat_lt parent.count (offset + count) then Some ArgSize
@@ -105,16 +111,21 @@ row_derive_refusal s offset count access (Some parent) =
     then None
     else Some Denied
 
+-- why a range of the extent with this serial can't be derived
 abbrev pub derive_refusal : Extents → ℕ → ℕ → ℕ → ℕ → Option Errno
 derive_refusal s parent offset count access =
     row_derive_refusal s offset count access (row_of s parent)
 
 -- the extents with the derived child, which holds its span
-abbrev pub row_derived : Extents → Serial → ℕ → ℕ → Access → Option ExtentRow → Extents
+abbrev pub row_derived :
+    Extents → Serial → ℕ → ℕ → Access → Option ExtentRow → Extents
 row_derived s child offset count access None = s
 row_derived s child offset count access (Some parent) =
-    moved (with_row s (child_row child offset count access parent)) (parent.first.0 + offset) count child
+    moved
+    (with_row s (child_row child offset count access parent))
+    (parent.first.0 + offset) count child
 
+-- the extents with a child derived from the extent with this serial
 abbrev pub derived : Extents → Serial → ℕ → ℕ → ℕ → Access → Extents
 derived s child parent offset count access =
     row_derived s child offset count access (row_of s parent)
@@ -145,6 +156,7 @@ rows_donate_refusal s relation offset count (Some from) (Some to) =
     else if holds_all s.holders from.serial.0 (from.first.0 + offset) count then None
     else Some Denied
 
+-- why pages can't be donated from the extent with the one serial to that with the other
 abbrev pub donate_refusal : Extents → Relation → ℕ → ℕ → ℕ → ℕ → Option Errno
 donate_refusal s relation from to offset count =
     rows_donate_refusal s relation offset count (row_of s from) (row_of s to)
@@ -154,6 +166,7 @@ abbrev pub row_donated : Extents → Serial → ℕ → ℕ → Option ExtentRow
 row_donated s to offset count None = s
 row_donated s to offset count (Some from) = moved s (from.first.0 + offset) count to
 
+-- the extents once pages from the span of the extent with this serial are the receiver's
 abbrev pub donated : Extents → ℕ → Serial → ℕ → ℕ → Extents
 donated s from to offset count = row_donated s to offset count (row_of s from)
 
@@ -179,6 +192,7 @@ span_row serial parent span = record {
 abbrev pub parcel_row : Serial → ExtentRow → ExtentRow
 parcel_row serial parent = record parent { serial = serial; parent = parent.serial; parcel = true }
 
+-- the extents with that of a parcel, where its parent has a row
 abbrev pub with_parcel : Extents → Serial → Option ExtentRow → Extents
 with_parcel s serial None = s
 with_parcel s serial (Some parent) = with_row s (parcel_row serial parent)
@@ -210,6 +224,7 @@ abbrev pub row_returned : Extents → PageNo × ℕ → Option ExtentRow → Ext
 row_returned s run None = s
 row_returned s run (Some row) = moved s run.0.0 run.1 row.parent
 
+-- the extents once a run of the extent with this serial is its parent's
 abbrev pub returned : Extents → ℕ → PageNo × ℕ → Extents
 returned s extent run = row_returned s run (row_of s extent)
 

@@ -1,6 +1,7 @@
 -- How the holders of the pages lie: as runs of pages, one after another. No public clause cites
 -- this module.
-use Rattle.std.specs.Prelude.{◌≡◌, ◌-◌, ◌<◌, ◌≤◌, ⊤, ℕ, Bool, List, [], ◌∷◌, ◌++◌, length, replicate, nat_le}
+use Rattle.std.specs.Prelude.{◌≡◌, ◌-◌, ◌<◌, ◌≤◌, ⊤, ℕ, Bool}
+use Rattle.std.specs.Prelude.{List, [], ◌∷◌, ◌++◌, length, replicate, nat_le}
 use Rattle.gh_base.specs.declared.ids.Serial.{Serial}
 use Rattle.gh_extent.specs.declared.run_list.Run.{Run}
 

@@ -1,8 +1,15 @@
 //! The tree of extents, with the holder of each page.
 
-ghost use Rattle.std.specs.Prelude.{◌≡◌, ◌+◌, ◌<◌, ◌≤◌, IfOk, IfNone, IfSome, IsSomeAnd, OnErr, OnOk, IsOk, Some, All, filter, find, length, slice_get};
+ghost use Rattle.std.specs.Prelude.{◌≡◌, ◌+◌, ◌<◌, ◌≤◌, IfOk};
+ghost use Rattle.std.specs.Prelude.{IfNone, IfSome, IsSomeAnd, OnErr, OnOk, IsOk};
+ghost use Rattle.std.specs.Prelude.{Some, All, filter, find, length, slice_get};
 ghost use Rattle.std.specs.Result.{result_err};
-ghost use Rattle.gh_extent.specs.Extents.{CanGiveBack, HasRow, IsNewChild, IsSpanIn, IsTree, after_give_back, derive_refusal, derived, donate_refusal, donated, first_run, is_other, is_related, moved, root_alone, row_derive_refusal, row_of, rows_donate_refusal, span_row, spans_all, with_parcel, with_row, without_row};
+ghost use Rattle.gh_extent.specs.Extents.{CanGiveBack, HasRow, IsNewChild, IsSpanIn, IsTree};
+ghost use Rattle.gh_extent.specs.Extents.{after_give_back, derive_refusal, derived};
+ghost use Rattle.gh_extent.specs.Extents.{donate_refusal, donated, first_run, is_other};
+ghost use Rattle.gh_extent.specs.Extents.{is_related, moved, root_alone, row_derive_refusal};
+ghost use Rattle.gh_extent.specs.Extents.{row_of, rows_donate_refusal, span_row, spans_all};
+ghost use Rattle.gh_extent.specs.Extents.{with_parcel, with_row, without_row};
 ghost use Rattle.gh_model.specs.Boot.{access_fits};
 ghost use Rattle.gh_model.specs.Memory.{HoldsRun};
 ghost use Rattle.gh_model.specs.Rows.{is_extent};
@@ -100,8 +107,8 @@ impl Extents {
 
     /// Makes an extent of a range of its parent's span, and moves the range's pages to it.
     ///
-    /// `ArgSize` where the range passes the end of the parent's span, else `Denied` where the access
-    /// isn't within the parent's or the parent doesn't hold each page.
+    /// `ArgSize` where the range passes the end of the parent's span, else `Denied` where the
+    /// access isn't within the parent's or the parent doesn't hold each page.
     pub fn derive(
         &mut self,
         child: Serial,

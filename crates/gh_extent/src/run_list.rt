@@ -1,6 +1,7 @@
 //! Runs of pages, one after another, as they lie in a list.
 
-ghost use Rattle.std.specs.Prelude.{◌≡◌, ◌∷◌, ◌++◌, ◌+◌, ◌<◌, ◌≤◌, ◌-◌, length, take, drop, vec_len, vec_capacity};
+ghost use Rattle.std.specs.Prelude.{◌≡◌, ◌∷◌, ◌++◌, ◌+◌, ◌<◌, ◌≤◌};
+ghost use Rattle.std.specs.Prelude.{◌-◌, length, take, drop, vec_len, vec_capacity};
 ghost use Rattle.std.specs.List.{prefix_len, position};
 ghost use Rattle.std.specs.Option.{option_map};
 ghost use Rattle.gh_extent.specs.Runs.{end_of, Rising, ends_by, spread};

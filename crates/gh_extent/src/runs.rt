@@ -1,6 +1,7 @@
 //! The holder of each page, as runs of pages.
 
-ghost use Rattle.std.specs.Prelude.{◌≡◌, ◌+◌, ◌<◌, ◌≤◌, IfOk, Some, length, drop, replicate, slice_get};
+ghost use Rattle.std.specs.Prelude.{◌≡◌, ◌+◌, ◌<◌, ◌≤◌, IfOk};
+ghost use Rattle.std.specs.Prelude.{Some, length, drop, replicate, slice_get};
 ghost use Rattle.std.specs.List.{prefix_len};
 ghost use Rattle.gh_extent.specs.Extents.{first_run};
 ghost use Rattle.gh_model.specs.Boot.{move_pages};

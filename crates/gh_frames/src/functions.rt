@@ -1,5 +1,5 @@
-//! The numbers of the functions. Those up to 0x8061 are the Linux drivers', those from 0x8201 on are
-//! this project's own.
+//! The numbers of the functions. Those up to 0x8061 are the Linux drivers', those from 0x8201 on
+//! are this project's own.
 
 ghost use Rattle.std.specs.Prelude.{◌≡◌, ◌%◌, ◌-◌, ◌^◌, slice_index};
 ghost use Rattle.gh_model.specs.Registers.{function_number};

@@ -17,8 +17,8 @@ use crate::object::{activate, configure_partition, create};
 use crate::queue::{configure_queue, msgq_flush, msgq_recv, msgq_send};
 use gh_base::{Call, Errno, Frame};
 
-/// The functions that the hypervisor has by now: identify, bell_send and exit. A frame of another is
-/// refused as of no function.
+/// The functions that the hypervisor has by now: identify, bell_send and exit. A frame of another
+/// is refused as of no function.
 pub const BUILT: [u64; 3] = [IDENTIFY, BELL_SEND, EXIT];
 
 fn is_built(number: u64) -> bool
@@ -27,9 +27,9 @@ fn is_built(number: u64) -> bool
     BUILT.contains(&number)
 }
 
-/// The call of a frame, whether it is built or not. It is refused with -1 where it names no function,
-/// then with 1 for a register that must be zero and isn't, then for its shape. Bits of x0 above 31
-/// aren't looked at. It takes no memory.
+/// The call of a frame, whether it is built or not. It is refused with -1 where it names no
+/// function, then with 1 for a register that must be zero and isn't, then for its shape. Bits of
+/// x0 above 31 aren't looked at. It takes no memory.
 pub fn read_shape(frame: &Frame) -> Result<Call, Errno>
     ensures { result ≡ shape_of frame.now }
 {

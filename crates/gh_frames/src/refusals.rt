@@ -1,12 +1,14 @@
-//! What refuses a frame whose function is known: the register that must be zero, and then its shape.
+//! What refuses a frame whose function is known: the register that must be zero, and then its
+//! shape.
 
-ghost use Rattle.std.specs.Prelude.{◌≡◌, ◌==◌, ◌||◌, Err, not, nat_lt, drop, if◌then◌else◌};
+ghost use Rattle.std.specs.Prelude.{◌≡◌, ◌==◌, ◌||◌, Err};
+ghost use Rattle.std.specs.Prelude.{not, nat_lt, drop, if◌then◌else◌};
 ghost use Rattle.gh_model.specs.Registers.{first_of, shaped};
 
 use gh_base::{Call, Errno};
 
-/// The call. It is refused with 1 where the register that must be zero isn't, and else for the first
-/// refusal that holds.
+/// The call. It is refused with 1 where the register that must be zero isn't, and else for the
+/// first refusal that holds.
 pub fn accepted(call: Call, zero: u64, refusals: &[(bool, Errno)]) -> Result<Call, Errno>
     ensures { result ≡
         (if not (zero == 0) then Err Errno.ArgInval else shaped call (first_of refusals.now)) }

@@ -48,7 +48,7 @@ module _ (s : State) where
   rings_give queue message true x1 = refl
   rings_give queue message false x1 = refl
 
-  put_gives : (queue : Serial) (message : List ℕ) (fill : Option QueueFill) → GivesToReferred s (queues.sent s queue message fill)
+  put_gives : (queue : Serial) (message : List ℕ) (fill : Option QueueFill) → GivesToReferred s (queues.message_sent s queue message fill)
   put_gives queue message None = tt
   put_gives queue message (Some fill) =
       gives_unless s (nat_lt fill.size (length message)) ArgSize _ (λ short.
@@ -56,7 +56,7 @@ module _ (s : State) where
       rings_give queue message (queues.is_request_queue s queue) (queues.one_if (nat_lt (fill.count + 1) fill.depth))))
 
   taken_gives : (queue : Serial) (room : ℕ) (fill : Option QueueFill) (first : Option (List ℕ))
-      → GivesToReferred s (queues.received queue room fill first)
+      → GivesToReferred s (queues.message_received queue room fill first)
   taken_gives queue room None first = tt
   taken_gives queue room (Some fill) None = tt
   taken_gives queue room (Some fill) (Some message) =

@@ -107,7 +107,7 @@ entry_holds test s event (Reclaimed serial seen) none acted parted retired recla
     if_holds test (is_doomed s serial.0 && is_retired (object_row s serial.0)) (change.Reclaim serial ∷ []) none (reclaimed serial)
 
 -- what a call comes to
-judged_sets : (s : State) (cpu : ℕ) (event : Event) → SetsOne s cpu (may_exit event.call) (judged_by s cpu event)
+pub judged_sets : (s : State) (cpu : ℕ) (event : Event) → SetsOne s cpu (may_exit event.call) (judged_by s cpu event)
 judged_sets s cpu event =
     decision_sets s (has_moved s cpu event.call event.words) cpu event.call event.bytes (grants_of event.call event.words)
 
@@ -115,9 +115,12 @@ entry_last : (s : State) (event : Event) (entry : Entry) → IsTrue (sets_last (
 entry_last s event entry =
     entry_holds sets_last s event entry refl (λ cpu. (judged_sets s cpu event).last) (λ space n. refl) (λ serial seen. refl) (λ serial. refl)
 
+pub entry_of_calls : (s : State) (event : Event) (entry : Entry) → IsTrue (list_all is_of_calls (entry_changes s event entry))
+entry_of_calls s event entry =
+    entry_holds (list_all is_of_calls) s event entry refl (λ cpu. (judged_sets s cpu event).calls) (λ space n. refl) (λ serial seen. refl) (λ serial. refl)
+
 pub event_of_calls : (s : State) (event : Event) → IsTrue (list_all is_of_calls (changes_of s event))
-event_of_calls s event =
-    entry_holds (list_all is_of_calls) s event event.entry refl (λ cpu. (judged_sets s cpu event).calls) (λ space n. refl) (λ serial seen. refl) (λ serial. refl)
+event_of_calls s event = entry_of_calls s event event.entry
 
 pub event_sets_few : (s : State) (event : Event) → slots_set (changes_of s event) ≤ 1
 event_sets_few s event = last_few (changes_of s event) (entry_last s event event.entry)

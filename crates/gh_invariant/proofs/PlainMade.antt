@@ -45,7 +45,7 @@ module _ (s : State) where
   rings_made queue message false x1 may = record { first = may; others = tt }
 
   put_made_by : (queue : Serial) (message : List ℕ) (row : Option QueueRow) → find (is_queue queue.0) s.queues ≡ row
-      → MayMake s (queues.sent s queue message (queues.row_fill row))
+      → MayMake s (queues.message_sent s queue message (queues.row_fill row))
   put_made_by queue message None found = tt
   put_made_by queue message (Some row) found =
       unless s (nat_lt row.size (length message)) ArgSize _ (λ short.
@@ -62,7 +62,7 @@ module _ (s : State) where
   put_made queue message = put_made_by queue message (find (is_queue queue.0) s.queues) refl
 
   pub taken_made : (queue : Serial) (room : ℕ) (fill : Option QueueFill) (first : Option (List ℕ))
-      → MayMake s (queues.received queue room fill first)
+      → MayMake s (queues.message_received queue room fill first)
   taken_made queue room None first = tt
   taken_made queue room (Some fill) None = tt
   taken_made queue room (Some fill) (Some message) =

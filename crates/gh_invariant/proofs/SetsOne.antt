@@ -110,13 +110,13 @@ module _ (s : State) (cpu : ℕ) (may : Bool) where
   rings_set queue message true reply = record { last = refl; makes = inl refl; exits = refl; calls = refl }
   rings_set queue message false reply = record { last = refl; makes = inl refl; exits = refl; calls = refl }
 
-  put_sets : (queue : Serial) (message : List ℕ) (fill : Option QueueFill) → SetsOne s cpu may (queues.sent s queue message fill)
+  put_sets : (queue : Serial) (message : List ℕ) (fill : Option QueueFill) → SetsOne s cpu may (queues.message_sent s queue message fill)
   put_sets queue message None = record { last = refl; makes = inl refl; exits = refl; calls = refl }
   put_sets queue message (Some fill) =
       sets_unless (nat_lt fill.size (length message)) ArgSize _ (sets_unless (nat_le fill.depth fill.count) QueueFull _
       (rings_set queue message (queues.is_request_queue s queue) (done_with (queues.one_if (nat_lt (fill.count + 1) fill.depth)))))
 
-  taken_sets : (queue : Serial) (room : ℕ) (fill : Option QueueFill) (first : Option (List ℕ)) → SetsOne s cpu may (queues.received queue room fill first)
+  taken_sets : (queue : Serial) (room : ℕ) (fill : Option QueueFill) (first : Option (List ℕ)) → SetsOne s cpu may (queues.message_received queue room fill first)
   taken_sets queue room None first = record { last = refl; makes = inl refl; exits = refl; calls = refl }
   taken_sets queue room (Some fill) None = record { last = refl; makes = inl refl; exits = refl; calls = refl }
   taken_sets queue room (Some fill) (Some message) =

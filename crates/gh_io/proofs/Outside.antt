@@ -1,5 +1,6 @@
 -- For callers of a sink: the bytes that it tells, over several puts.
-use Rattle.std.proofs.Common.{◌≡◌, ℕ, List, ◌++◌, Option, None, Some, refl, ap, append_assoc}
+use Rattle.std.proofs.Common.{◌≡◌, ℕ, List, ◌++◌, Option}
+use Rattle.std.proofs.Common.{None, Some, refl, ap, append_assoc}
 use Rattle.std.specs.Io.KnownBytes.{append_known}
 
 -- two pieces taken one after the other are one piece

@@ -1,5 +1,7 @@
 -- What callers see of files and sinks over memory.
-use Rattle.std.specs.Prelude.{◌==◌, ◌||◌, ℕ, List, [], ◌∷◌, ◌++◌, take, Option, Some, None, Result, Ok, Err, Bool, true, false, Vec, is_none, unwrap_or, string_bytes, if◌then◌else◌}
+use Rattle.std.specs.Prelude.{◌==◌, ◌||◌, ℕ, List, [], ◌∷◌, ◌++◌, take}
+use Rattle.std.specs.Prelude.{Option, Some, None, Result, Ok, Err, Bool, true, false, Vec}
+use Rattle.std.specs.Prelude.{is_none, unwrap_or, string_bytes, if◌then◌else◌}
 use Rattle.std.specs.List.{find, list_any}
 use Rattle.std.specs.Option.{option_map}
 use Rattle.std.specs.Str.{bytes_eq}
@@ -64,7 +66,8 @@ next_bytes files name most =
     if load_fails files name then None else Some (take most (contents_of files.entries name))
 
 -- after a load: an answer adds its request and counts as a call; without memory all stays
-abbrev pub after_load : {T : Type 0} → FilesInMemory → Request → Result T LoadErr → FilesInMemory
+abbrev pub after_load :
+    {T : Type 0} → FilesInMemory → Request → Result T LoadErr → FilesInMemory
 after_load files asks (Ok _) =
     record files { asked = files.asked ++ asks ∷ []; plan = after_call files.plan false }
 after_load files asks (Err load.Failed) =

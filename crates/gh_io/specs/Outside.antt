@@ -1,5 +1,6 @@
 -- What a call of files or of a sink does to their meanings.
-use Rattle.std.specs.Prelude.{◌≡◌, ◌⊎◌, ℕ, ◌+◌, ◌-◌, ◌^◌, ◌≤◌, min, List, [], ◌∷◌, ◌++◌, take, Option, Result, Ok, Err, IfSome}
+use Rattle.std.specs.Prelude.{◌≡◌, ◌⊎◌, ℕ, ◌+◌, ◌-◌, ◌^◌, ◌≤◌, min}
+use Rattle.std.specs.Prelude.{List, [], ◌∷◌, ◌++◌, take, Option, Result, Ok, Err, IfSome}
 use Rattle.std.specs.Option.{option_map}
 use Rattle.gh_io.specs.declared.files.LoadErr.{LoadErr}
 use Rattle.gh_io.specs.declared.files.LoadErr.TheVariants.{Failed, NoMemory}
@@ -26,7 +27,9 @@ abbrev pub request : List ℕ → ℕ → Request
 request name most = record { name = name; most = most }
 
 -- a load adds its request to those made; where memory ran out it may be left out
-abbrev pub Asks : {T : Type 0} → Result T LoadErr → List Request → List Request → List ℕ → ℕ → Type 0
+abbrev pub Asks :
+    {T : Type 0} → Result T LoadErr → List Request → List Request → List ℕ → ℕ
+    → Type 0
 Asks (Ok _) old new name most = new ≡ old ++ request name most ∷ []
 Asks (Err Failed) old new name most = new ≡ old ++ request name most ∷ []
 Asks (Err NoMemory) old new name most = (new ≡ old) ⊎ (new ≡ old ++ request name most ∷ [])

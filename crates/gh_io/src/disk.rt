@@ -1,6 +1,8 @@
 //! The calls of a system that files are loaded by, and the front of a file as they give it.
 
-ghost use Rattle.std.specs.Prelude.{◌≡◌, ◌<◌, ◌≤◌, ◌+◌, ℕ, List, Option, Bool, false, length, take, vec_len, IfOk, IfSome, OnOk, IsErrOf};
+ghost use Rattle.std.specs.Prelude.{◌≡◌, ◌<◌, ◌≤◌, ◌+◌};
+ghost use Rattle.std.specs.Prelude.{ℕ, List, Option, Bool, false, length};
+ghost use Rattle.std.specs.Prelude.{take, vec_len, IfOk, IfSome, OnOk, IsErrOf};
 ghost use Rattle.std.specs.Io.KnownBytes.{prepend_known, IsAtEnd};
 ghost use Rattle.gh_io.specs.Outside.{IsFront, bytes_told};
 
@@ -105,8 +107,8 @@ fn read_by_chunks<R: Reader>(
     Ok(bytes)
 }
 
-/// The first `max` bytes that a reader has left, or all of them where there are fewer. No more of it is
-/// read. An error of a read is told, wherever it comes.
+/// The first `max` bytes that a reader has left, or all of them where there are fewer. No more of
+/// it is read. An error of a read is told, wherever it comes.
 pub(crate) fn read_front<R: Reader>(
     alloc: Global,
     reader: &mut R,

@@ -1,6 +1,7 @@
 //! Files that are loaded by name.
 
-ghost use Rattle.std.specs.Prelude.{◌≡◌, ◌≤◌, ℕ, List, Option, Bool, false, IfOk, OnOk, IsErrOf, vec_len};
+ghost use Rattle.std.specs.Prelude.{◌≡◌, ◌≤◌, ℕ, List, Option};
+ghost use Rattle.std.specs.Prelude.{Bool, false, IfOk, OnOk, IsErrOf, vec_len};
 ghost use Rattle.gh_io.specs.Outside.{Rose, IsFront, Asks};
 
 use gh_base::{NoMemory, Sequence};
@@ -65,13 +66,15 @@ pub trait Files {
         ensures bound { IfOk result (λ bytes. vec_len bytes ≤ max) }
 
         // A fault has its cause.
-        ensures failed { IsErrOf result LoadErr.Failed → Rose (faults self.old) (faults self.new) }
+        ensures failed { IsErrOf result LoadErr.Failed
+            → Rose (faults self.old) (faults self.new) }
         ensures unsure { IsErrOf result LoadErr.Failed → is_sure self.old ≡ false }
 
         ensures asked { Asks result (asked self.old) (asked self.new) name.now max }
         ensures never_falls { faults self.old ≤ faults self.new }
         ensures ok { OnOk result (faults self.new ≡ faults self.old) }
-        ensures no_memory { IsErrOf result LoadErr.NoMemory → faults self.new ≡ faults self.old }
+        ensures no_memory { IsErrOf result LoadErr.NoMemory
+            → faults self.new ≡ faults self.old }
 
         // What no call changes.
         ensures told { contents self.new ≡ contents self.old }

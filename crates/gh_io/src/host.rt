@@ -72,8 +72,8 @@ impl<D: Disk> Files for HostFiles<D> {
     }
 }
 
-/// A sink over a stream. Each error of the stream but want of memory counts as a fault, and so does a
-/// write that takes nothing.
+/// A sink over a stream. Each error of the stream but want of memory counts as a fault, and so
+/// does a write that takes nothing.
 #[derive(Drop)]
 pub struct HostSink<W> {
     writer: W,

@@ -1,6 +1,7 @@
 //! Files over memory, which tell their contents.
 
-ghost use Rattle.std.specs.Prelude.{◌≡◌, ◌≤◌, [], ◌∷◌, ◌++◌, take, IfOk, IfErr, OnOk, OnErr, IsErrOf, Some, true, false};
+ghost use Rattle.std.specs.Prelude.{◌≡◌, ◌≤◌, [], ◌∷◌, ◌++◌, take};
+ghost use Rattle.std.specs.Prelude.{IfOk, IfErr, OnOk, OnErr, IsErrOf, Some, true, false};
 ghost use Rattle.std.specs.Option.{option_copied, option_map};
 ghost use Rattle.gh_io.specs.Memory.{bytes_under, contents_of};
 ghost use Rattle.gh_io.specs.Outside.{request};
@@ -116,7 +117,8 @@ impl Files for MemFiles {
     ghost is_sure = { λ _. false };
 
     fn load(&mut self, alloc: Global, name: &str, max: usize) -> Result<Vec<u8>, LoadErr>
-        ensures bytes { IfOk result (λ bytes. Some bytes.items ≡ next_bytes self.old name.now max) }
+        ensures bytes { IfOk result
+            (λ bytes. Some bytes.items ≡ next_bytes self.old name.now max) }
         ensures failed { IsErrOf result LoadErr.Failed → load_fails self.old name.now ≡ true }
         ensures after { self.new ≡ after_load self.old (request name.now max) result }
         ensures never_falls { self.old.plan.faults ≤ self.new.plan.faults }
@@ -162,7 +164,8 @@ impl Files for SureFiles {
             (λ bytes. bytes.items ≡ take max (contents_of self.old.entries name.now)) }
         ensures memory { IfErr result (λ e. e ≡ LoadErr.NoMemory) }
         ensures ok { OnOk result
-            (self.new ≡ record self.old { asked = self.old.asked ++ request name.now max ∷ [] }) }
+            (self.new
+            ≡ record self.old { asked = self.old.asked ++ request name.now max ∷ [] }) }
         ensures err { OnErr result (self.new ≡ self.old) }
     {
         let bytes = bytes_under(self.entries.as_slice(), name).unwrap_or(&[]);

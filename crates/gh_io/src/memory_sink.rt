@@ -1,6 +1,7 @@
 //! Sinks over memory, which tell their bytes.
 
-ghost use Rattle.std.specs.Prelude.{◌≡◌, ◌≤◌, ◌<◌, ◌++◌, [], length, min, IfOk, IfErr, OnOk, OnErr, IsErrOf, Some, true, false};
+ghost use Rattle.std.specs.Prelude.{◌≡◌, ◌≤◌, ◌<◌, ◌++◌, [], length, min};
+ghost use Rattle.std.specs.Prelude.{IfOk, IfErr, OnOk, OnErr, IsErrOf, Some, true, false};
 
 use crate::fault_plan::FaultPlan;
 use crate::sink::{PutErr, Sink};

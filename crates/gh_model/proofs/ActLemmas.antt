@@ -1,5 +1,8 @@
 -- What acts keep, and what a refused act of a call that is built answers.
-use Rattle.std.proofs.Common.{arith, ◌≡◌, ◌≢◌, ◌==◌, ◌+◌, ◌||◌, ◌⊎◌, inl, inr, ℕ, Bool, true, false, List, [], Option, Some, None, Result, Ok, Err, IfOk, OnErr, refl, subst, sym, ap, ◌∙◌, map, find, slice_get, slice_index, not, if◌then◌else◌}
+use Rattle.std.proofs.Common.{arith, ◌≡◌, ◌≢◌, ◌==◌, ◌+◌, ◌||◌, ◌⊎◌}
+use Rattle.std.proofs.Common.{inl, inr, ℕ, Bool, true, false, List, [], Option, Some, None}
+use Rattle.std.proofs.Common.{Result, Ok, Err, IfOk, OnErr, refl, subst, sym, ap, ◌∙◌, map}
+use Rattle.std.proofs.Common.{find, slice_get, slice_index, not, if◌then◌else◌}
 use Rattle.std.specs.Bool.{⊤}
 use Rattle.std.specs.List.{list_any, position_or_len}
 use Rattle.std.proofs.lemmas.Bool.{eqb-true}
@@ -7,9 +10,11 @@ use Rattle.std.proofs.lemmas.Option.{get_or_from_slice_get}
 use Rattle.std.proofs.Math.Seq.{map-set_same}
 use Rattle.gh_base.specs.Reply.{refusal}
 use Rattle.gh_base.specs.declared.call.Call.{Call}
-use Rattle.gh_base.specs.declared.call.Call.TheVariants.{Identify, Exit, BellSend, Create, ConfigurePartition, ConfigureQueue}
+use Rattle.gh_base.specs.declared.call.Call.TheVariants.{Identify, Exit, BellSend, Create}
+use Rattle.gh_base.specs.declared.call.Call.TheVariants.{ConfigurePartition, ConfigureQueue}
 use Rattle.gh_base.specs.declared.errno.Errno.{Errno}
-use Rattle.gh_base.specs.declared.errno.Errno.TheVariants.{ArgInval, CapRevoked, ObjState, Retry, Unimplemented}
+use Rattle.gh_base.specs.declared.errno.Errno.TheVariants.{ArgInval, CapRevoked, ObjState}
+use Rattle.gh_base.specs.declared.errno.Errno.TheVariants.{Retry, Unimplemented}
 use Rattle.gh_base.specs.declared.frame.Frame.{Frame}
 use Rattle.gh_base.specs.declared.frame.Reply.{Reply}
 use Rattle.gh_base.specs.declared.ids.NoMemory.{NoMemory}
@@ -26,11 +31,13 @@ use Rattle.gh_model.specs.declared.word.Word.{Word}
 use Rattle.gh_model.specs.Act.{Judges, Verdict, Done, Refused, counted, grants_of}
 use Rattle.gh_model.specs.BellCalls.{bell_row, sent}
 use Rattle.gh_model.specs.Changes.{as_exited, changed_all}
-use Rattle.gh_model.specs.Decide.{decided, decision, has_moved, is_at_end, judge, stages_fit, verdict}
+use Rattle.gh_model.specs.Decide.{decided, decision, has_moved}
+use Rattle.gh_model.specs.Decide.{is_at_end, judge, stages_fit, verdict}
 use Rattle.gh_model.specs.Decisions.{done, grant_at}
 use Rattle.gh_model.specs.Legal.{is_short}
 use Rattle.gh_model.specs.ManagerCalls.{exit_changes}
-use Rattle.gh_model.specs.Registers.{built, call_of, function_number, functions, read_function, shape_of, shaped}
+use Rattle.gh_model.specs.Registers.{built, call_of, function_number, functions}
+use Rattle.gh_model.specs.Registers.{read_function, shape_of, shaped}
 use Rattle.gh_model.specs.Rows.{is_cpu, put_row}
 use Rattle.gh_model.specs.Small.{IsKept}
 use Rattle.gh_model.proofs.DecideLemmas.{MayDecide, MayMake, decision_may, small_kept}
@@ -75,7 +82,13 @@ judged_kept s new judged moved cpu call bytes grants is kept =
     verdict_kept s new (decision moved s cpu call bytes grants) judged (decision_may s (small_kept s kept) moved cpu call bytes grants).is is kept
 
 -- and so it does with its answer, if it has one
-pub act_kept : (s new : State) (moved : Bool) (cpu : ℕ) (call : Call) (bytes : List ℕ) (grants : List Serial) (result : Result Judged NoMemory) → IfOk result (λ judged. Judges s new judged (verdict s (decision moved s cpu call bytes grants))) → OnErr result (new ≡ s) → IsKept s → IsKept new
+pub act_kept : (s new : State) (moved : Bool) (cpu : ℕ) (call : Call) (bytes : List ℕ)
+    (grants : List Serial) (result : Result Judged NoMemory)
+    → IfOk result
+    (λ judged. Judges s new judged (verdict s (decision moved s cpu call bytes grants)))
+    → OnErr result (new ≡ s)
+    → IsKept s
+    → IsKept new
 act_kept s new moved cpu call bytes grants (Ok judged) is same kept = judged_kept s new judged moved cpu call bytes grants is kept
 act_kept s new moved cpu call bytes grants (Err none) is same kept = subst (λ (t : State). IsKept t) (sym same) kept
 
@@ -126,7 +139,13 @@ choose : (P : Decision → Type 0) (here : Bool) (a b : Decision) → P a → P 
 choose P true a b first second = first
 choose P false a b first second = second
 
-decision_is : (P : Decision → Type 0) (moved : Bool) (s : State) (cpu : ℕ) (call : Call) (bytes : List ℕ) (grants : List Serial) → P (Refuse CapRevoked) → P (Refuse ObjState) → P (Refuse Retry) → P (decided s cpu call bytes grants) → P (decision moved s cpu call bytes grants)
+decision_is : (P : Decision → Type 0) (moved : Bool) (s : State) (cpu : ℕ) (call : Call)
+    (bytes : List ℕ) (grants : List Serial)
+    → P (Refuse CapRevoked)
+    → P (Refuse ObjState)
+    → P (Refuse Retry)
+    → P (decided s cpu call bytes grants)
+    → P (decision moved s cpu call bytes grants)
 decision_is P moved s cpu call bytes grants revoked stage retry others =
     choose P (is_at_end s call grants) _ _ revoked (choose P (not (stages_fit s call grants)) _ _ stage (choose P moved _ _ retry others))
 

@@ -1,5 +1,9 @@
 -- The CPUs of a boot file: no two have one number, and none is lost where they are put in order.
-use Rattle.std.proofs.Common.{◌≡◌, ◌≢◌, ◌==◌, ◌&&◌, ◌+◌, ◌≤◌, ◌∙◌, ℕ, zero, suc, Bool, true, false, not, List, [], ◌∷◌, ◌++◌, ◌⊎◌, inl, inr, refl, subst, sym, ap, arith, Option, Some, None, slice_get, map, fold, filter, find, IsSome, if◌then◌else◌}
+use Rattle.std.proofs.Common.{◌≡◌, ◌≢◌, ◌==◌, ◌&&◌, ◌+◌}
+use Rattle.std.proofs.Common.{◌≤◌, ◌∙◌, ℕ, zero, suc, Bool, true, false}
+use Rattle.std.proofs.Common.{not, List, [], ◌∷◌, ◌++◌, ◌⊎◌, inl, inr}
+use Rattle.std.proofs.Common.{refl, subst, sym, ap, arith, Option, Some, None, slice_get}
+use Rattle.std.proofs.Common.{map, fold, filter, find, IsSome, if◌then◌else◌}
 use Rattle.std.specs.Prelude.{count_by, nat_lt, is_some}
 use Rattle.std.specs.Option.{option_map}
 use Rattle.std.proofs.lemmas.Option.{slice_get-map}
@@ -8,11 +12,15 @@ use Rattle.std.proofs.lemmas.List.Filters.{sum_by-filter_both}
 use Rattle.std.proofs.lemmas.Bool.{and_parts}
 use Rattle.std.proofs.lemmas.Bool.Decides.{eqb_tells, nat_tests}
 use Rattle.gh_model.specs.declared.boot_line.BootLine.{BootLine}
-use Rattle.gh_model.specs.declared.boot_line.BootLine.TheVariants.{Pages, Partition, Cspace, Addrspace, Doorbell, RootExtent, Extent, Msgqueue, Map, Cap, Vm, Rm, Link}
+use Rattle.gh_model.specs.declared.boot_line.BootLine.TheVariants.{Pages, Partition, Cspace}
+use Rattle.gh_model.specs.declared.boot_line.BootLine.TheVariants.{Addrspace, Doorbell}
+use Rattle.gh_model.specs.declared.boot_line.BootLine.TheVariants.{RootExtent, Extent, Msgqueue}
+use Rattle.gh_model.specs.declared.boot_line.BootLine.TheVariants.{Map, Cap, Vm, Rm, Link}
 use Rattle.gh_model.specs.declared.rows.CpuRow.{CpuRow}
 use Rattle.gh_model.specs.declared.state.State.{State}
 use Rattle.gh_model.specs.Rows.{is_cpu}
-use Rattle.gh_model.specs.Boot.{boot_state, boot_fits, lines_fit, line_fits, after_line, empty_state, is_vm, vm_count}
+use Rattle.gh_model.specs.Boot.{boot_state, boot_fits, lines_fit, line_fits}
+use Rattle.gh_model.specs.Boot.{after_line, empty_state, is_vm, vm_count}
 use Rattle.gh_model.specs.Calls.{rows_in_order, is_manager}
 use Rattle.gh_model.specs.Fitting.{IsNumbered}
 use Rattle.gh_model.proofs.RunLists.{count_snoc}

@@ -105,14 +105,14 @@ message_sent : (s : State) (queue : Serial) (message : List ℕ) (rings : Bool) 
 message_sent s queue message true reply = record { is = record { serials = omega arith; rings = omega arith; modest = (tt, (tt, tt)) } }
 message_sent s queue message false reply = record { is = record { serials = omega arith; rings = omega arith; modest = (tt, tt) } }
 
-queue_sent : (s : State) (queue : Serial) (message : List ℕ) (fill : Option QueueFill) → May s (queues.sent s queue message fill)
+queue_sent : (s : State) (queue : Serial) (message : List ℕ) (fill : Option QueueFill) → May s (queues.message_sent s queue message fill)
 queue_sent s queue message None = record { is = tt }
 queue_sent s queue message (Some fill) =
     unless_two (nat_lt fill.size (length message)) (nat_le fill.depth fill.count) s ArgSize QueueFull
     (Make (PutMessage queue message ∷ queues.rings_if (queues.is_request_queue s queue)) (done_with (queues.one_if (nat_lt (fill.count + 1) fill.depth))))
     (message_sent s queue message (queues.is_request_queue s queue) (done_with (queues.one_if (nat_lt (fill.count + 1) fill.depth))))
 
-queue_received : (s : State) (queue : Serial) (room : ℕ) (fill : Option QueueFill) (first : Option (List ℕ)) → May s (queues.received queue room fill first)
+queue_received : (s : State) (queue : Serial) (room : ℕ) (fill : Option QueueFill) (first : Option (List ℕ)) → May s (queues.message_received queue room fill first)
 queue_received s queue room None first = record { is = tt }
 queue_received s queue room (Some fill) None = record { is = tt }
 queue_received s queue room (Some fill) (Some message) = unless _ s _ _ (may_one s _ _ (omega arith) (omega arith) tt)

@@ -1,5 +1,9 @@
 -- A whole call is legal where it is made, and its entry, if it has one, is the next.
-use Rattle.std.proofs.Common.{◌≡◌, ◌≢◌, ◌==◌, ◌+◌, ◌*◌, ◌≤◌, ◌∙◌, ℕ, Bool, true, false, List, [], ◌∷◌, ◌++◌, ◌⊎◌, inl, inr, length, take, refl, subst, sym, ap, arith, Option, Some, None, Result, Ok, Err, IsSome, slice_get, map, if◌then◌else◌}
+use Rattle.std.proofs.Common.{◌≡◌, ◌≢◌, ◌==◌, ◌+◌, ◌*◌}
+use Rattle.std.proofs.Common.{◌≤◌, ◌∙◌, ℕ, Bool, true, false, List, []}
+use Rattle.std.proofs.Common.{◌∷◌, ◌++◌, ◌⊎◌, inl, inr, length, take}
+use Rattle.std.proofs.Common.{refl, subst, sym, ap, arith, Option, Some, None, Result}
+use Rattle.std.proofs.Common.{Ok, Err, IsSome, slice_get, map, if◌then◌else◌}
 use Rattle.std.specs.Prelude.{is_some}
 use Rattle.std.proofs.lemmas.List.{length-append}
 use Rattle.std.proofs.lemmas.List.Sums.{fold-append}
@@ -19,12 +23,16 @@ use Rattle.gh_model.specs.Rows.{cpu_row}
 use Rattle.gh_model.specs.Registers.{needs_of}
 use Rattle.gh_model.specs.Act.{Verdict, Done, Refused}
 use Rattle.gh_model.specs.Decide.{judge}
-use Rattle.gh_model.specs.Marks.{Seen, Made, InTurn, look_of, word_of, place_after_looks, place_after_call}
-use Rattle.gh_model.specs.History.{Event, event_of, acted, after_event, grants_fit, reclaims, replay, state_at, word_for}
+use Rattle.gh_model.specs.Marks.{Seen, Made, InTurn, look_of, word_of}
+use Rattle.gh_model.specs.Marks.{place_after_looks, place_after_call}
+use Rattle.gh_model.specs.History.{Event, event_of, acted, after_event, grants_fit}
+use Rattle.gh_model.specs.History.{reclaims, replay, state_at, word_for}
 use Rattle.gh_model.specs.Legal.{LookIs, KeepsGrants, FrameIs, is_short}
-use Rattle.gh_model.specs.Calls.{Called, call_mark, entries_of, unmade, by_verdict, by_looks, by_shape, no_looks}
+use Rattle.gh_model.specs.Calls.{Called, call_mark, entries_of, unmade}
+use Rattle.gh_model.specs.Calls.{by_verdict, by_looks, by_shape, no_looks}
 use Rattle.gh_model.proofs.ActLemmas.{Keeps, act_keeps, act_refuses, is_built}
-use Rattle.gh_model.proofs.Looks.{Sees, looked, looks_kept, refusal_in, look_all_is, looked_ends, looked_fails, looked_within, looked_is, grants_are, words_for}
+use Rattle.gh_model.proofs.Looks.{Sees, looked, looks_kept, refusal_in, look_all_is, looked_ends}
+use Rattle.gh_model.proofs.Looks.{looked_fails, looked_within, looked_is, grants_are, words_for}
 use Rattle.gh_model.proofs.RunLists.{slice_get_seam, snoc_cases, take_all}
 use Rattle.gh_model.proofs.Stays.{IsFront, front_more, front_state, look_stays}
 

@@ -1,5 +1,8 @@
 -- Looks of the present words are legal, and what a whole call's looks come to.
-use Rattle.std.proofs.Common.{◌≡◌, ◌<◌, ◌≤◌, ◌∙◌, ℕ, zero, suc, Bool, true, false, not, List, [], ◌∷◌, ◌++◌, length, take, max, refl, subst, sym, ap, arith, Option, Some, None, Result, Ok, Err, slice_get, map, if◌then◌else◌, append_assoc}
+use Rattle.std.proofs.Common.{◌≡◌, ◌<◌, ◌≤◌, ◌∙◌, ℕ, zero, suc, Bool}
+use Rattle.std.proofs.Common.{true, false, not, List, [], ◌∷◌, ◌++◌, length, take}
+use Rattle.std.proofs.Common.{max, refl, subst, sym, ap, arith, Option, Some, None, Result}
+use Rattle.std.proofs.Common.{Ok, Err, slice_get, map, if◌then◌else◌, append_assoc}
 use Rattle.std.specs.Prelude.{◌&&◌, ◌||◌, nat_lt}
 use Rattle.std.proofs.lemmas.List.{append-nil, map-append}
 use Rattle.std.proofs.lemmas.List.Sums.{fold-append}
@@ -12,8 +15,10 @@ use Rattle.gh_model.specs.declared.rows.CapabilityRow.{CapabilityRow}
 use Rattle.gh_model.specs.declared.running.Looked.{Looked}
 use Rattle.gh_model.specs.declared.state.State.{State}
 use Rattle.gh_model.specs.declared.word.Word.{Word}
-use Rattle.gh_model.specs.Word.{word_at, look_reply, slot_reply, kind_fits, rights_fit, bits_of, row_bits, ShowsRow}
-use Rattle.gh_model.specs.Marks.{Seen, Outcome, Wants, Fails, Grants, InTurn, outcome, on_grant, failure, look_of, word_of, place_after_looks, after_look}
+use Rattle.gh_model.specs.Word.{word_at, look_reply, slot_reply, kind_fits}
+use Rattle.gh_model.specs.Word.{rights_fit, bits_of, row_bits, ShowsRow}
+use Rattle.gh_model.specs.Marks.{Seen, Outcome, Wants, Fails, Grants, InTurn, outcome, on_grant}
+use Rattle.gh_model.specs.Marks.{failure, look_of, word_of, place_after_looks, after_look}
 use Rattle.gh_model.specs.History.{Event, state_at, grants_fit, row_fits, word_for}
 use Rattle.gh_model.specs.Legal.{LookIs}
 use Rattle.gh_model.specs.Calls.{no_looks, with_look, refusal_of, unless_refused, look_all}
@@ -32,14 +37,20 @@ look_at last slot word = record {
 }
 
 module _ (boot : State) (history : List Event) (s : State) (cspace : ℕ) where
-  -- no slot's setting is above the history, and from its setting on each slot's word is the present one
+  -- no slot's setting is above the history, and from its setting on each slot's word is the
+  -- present one
   pub record Sees : Type 0 where
     pub settings : (slot : ℕ) → (word_at s cspace slot).set_at ≤ length history
     pub same : (slot place : ℕ) → (word_at s cspace slot).set_at ≤ place → place ≤ length history
         → word_at (state_at boot history place) cspace slot ≡ word_at s cspace slot
 
   -- a look of the present word is legal
-  pub look_is : (last : ℕ) (needs : List (ℕ × Need)) (front : List Seen) (slot : ℕ) (need : Need) → Sees → place_after_looks last front ≤ length history → outcome needs (map word_of front) ≡ Wants slot need → LookIs boot history cspace last needs front (look_at (place_after_looks last front) slot (word_at s cspace slot))
+  pub look_is : (last : ℕ) (needs : List (ℕ × Need)) (front : List Seen) (slot : ℕ) (need : Need)
+      → Sees
+      → place_after_looks last front ≤ length history
+      → outcome needs (map word_of front) ≡ Wants slot need
+      → LookIs boot history cspace last needs front
+      (look_at (place_after_looks last front) slot (word_at s cspace slot))
   look_is last needs front slot need sees within asked =
       let settings : (word_at s cspace slot).set_at ≤ length history = sees.settings slot in
       record {
@@ -75,7 +86,13 @@ abbrev pub refusal_in : List (ℕ × Need) → List Seen → Option Errno
 refusal_in needs seen = failure (outcome needs (map word_of seen))
 
 module _ (s : State) (cspace : ℕ) where
-  kept_by : (reply : Result Serial Errno) (one all before : Looked) (seen : Seen) (others : List Seen) (needs : List (ℕ × Need)) → one ≡ looks_kept before (seen ∷ []) (refusal_of reply) → (refusal_of reply ≡ None → all ≡ looks_kept one others (refusal_in needs others)) → unless_refused (refusal_of reply) one all ≡ looks_kept before (seen ∷ behind_grant reply others) (failure (on_grant reply (outcome needs (map word_of (behind_grant reply others)))))
+  kept_by : (reply : Result Serial Errno) (one all before : Looked) (seen : Seen)
+      (others : List Seen) (needs : List (ℕ × Need))
+      → one ≡ looks_kept before (seen ∷ []) (refusal_of reply)
+      → (refusal_of reply ≡ None → all ≡ looks_kept one others (refusal_in needs others))
+      → unless_refused (refusal_of reply) one all
+      ≡ looks_kept before (seen ∷ behind_grant reply others)
+      (failure (on_grant reply (outcome needs (map word_of (behind_grant reply others)))))
   kept_by (Err errno) one all before seen others needs is rest = is
   kept_by (Ok serial) one all before seen others needs is rest =
       rest refl ∙ ap (λ (l : Looked). looks_kept l others (refusal_in needs others)) is ∙ rw (append_assoc, append_assoc) refl
@@ -83,7 +100,11 @@ module _ (s : State) (cspace : ℕ) where
   look_all_kept : (needs : List (ℕ × Need)) (before : Looked) → before.refused ≡ None → look_all s cspace needs before ≡ looks_kept before (looked s cspace before.place needs) (refusal_in needs (looked s cspace before.place needs))
   look_all_kept [] before open_ = rw (append-nil before.looks, append-nil before.words, ← open_) refl
   look_all_kept (need ∷ needs) before open_ =
-      kept_by (look_reply (word_at s cspace need.0) need.1) (with_look before need.0 (word_at s cspace need.0) need.1) (look_all s cspace needs (with_look before need.0 (word_at s cspace need.0) need.1)) before (look_at before.place need.0 (word_at s cspace need.0)) (looked s cspace (max (word_at s cspace need.0).set_at before.place) needs) needs refl
+      let next : Looked = with_look before need.0 (word_at s cspace need.0) need.1 in
+      let others : List Seen =
+      looked s cspace (max (word_at s cspace need.0).set_at before.place) needs in
+      kept_by (look_reply (word_at s cspace need.0) need.1) next (look_all s cspace needs next) before
+      (look_at before.place need.0 (word_at s cspace need.0)) others needs refl
       (λ granted. look_all_kept needs (with_look before need.0 (word_at s cspace need.0) need.1) granted)
 
   -- the looks of a run's call are these
@@ -91,7 +112,10 @@ module _ (s : State) (cspace : ℕ) where
   look_all_is last needs = look_all_kept needs (no_looks last) refl
 
   -- a whole call's looks end with a refusal, or every need has its grant
-  ends_by : (reply : Result Serial Errno) (needs : List (ℕ × Need)) (others : List Seen) → (refusal_in needs others ≡ None → outcome needs (map word_of others) ≡ Grants) → failure (on_grant reply (outcome needs (map word_of (behind_grant reply others)))) ≡ None → on_grant reply (outcome needs (map word_of (behind_grant reply others))) ≡ Grants
+  ends_by : (reply : Result Serial Errno) (needs : List (ℕ × Need)) (others : List Seen)
+      → (refusal_in needs others ≡ None → outcome needs (map word_of others) ≡ Grants)
+      → failure (on_grant reply (outcome needs (map word_of (behind_grant reply others)))) ≡ None
+      → on_grant reply (outcome needs (map word_of (behind_grant reply others))) ≡ Grants
   ends_by (Err errno) needs others rest open_ = absurd (let never : ⊥ = cc in never)
   ends_by (Ok serial) needs others rest open_ = rest open_
 
@@ -141,7 +165,19 @@ module _ (boot : State) (history : List Event) (s : State) (cspace : ℕ) where
       ap (outcome all) (sym (append-nil (map word_of front))) ∙ stands []
 
   -- the looks behind those before are legal
-  behind_by : (first : ℕ) (all : List (ℕ × Need)) (front : List Seen) (need : ℕ × Need) (needs : List (ℕ × Need)) (seen : Seen) (others : List Seen) (reply : Result Serial Errno) → look_reply seen.word need.1 ≡ reply → LookIs boot history cspace first all front seen → ((serial : Serial) → look_reply seen.word need.1 ≡ Ok serial → (i : ℕ) (item : Seen) → slice_get others i ≡ Some item → LookIs boot history cspace first all ((front ++ seen ∷ []) ++ take i others) item) → (i : ℕ) (item : Seen) → slice_get (seen ∷ behind_grant reply others) i ≡ Some item → LookIs boot history cspace first all (front ++ take i (seen ∷ behind_grant reply others)) item
+  abbrev AreLegal : ℕ → List (ℕ × Need) → List Seen → List Seen → Type 0
+  AreLegal first all front others = (i : ℕ) (item : Seen)
+      → slice_get others i ≡ Some item
+      → LookIs boot history cspace first all (front ++ take i others) item
+
+  -- so they are where the first is, and the others are once it has its grant
+  behind_by : (first : ℕ) (all : List (ℕ × Need)) (front : List Seen) (need : ℕ × Need)
+      (needs : List (ℕ × Need)) (seen : Seen) (others : List Seen) (reply : Result Serial Errno)
+      → look_reply seen.word need.1 ≡ reply
+      → LookIs boot history cspace first all front seen
+      → ((serial : Serial) → look_reply seen.word need.1 ≡ Ok serial
+      → AreLegal first all (front ++ seen ∷ []) others)
+      → AreLegal first all front (seen ∷ behind_grant reply others)
   behind_by first all front need needs seen others reply is here rest zero item at =
       let same : seen ≡ item = cc in
       subst (λ (looks : List Seen). LookIs boot history cspace first all looks item) (sym (append-nil front))
@@ -151,7 +187,13 @@ module _ (boot : State) (history : List Event) (s : State) (cspace : ℕ) where
       subst (λ (looks : List Seen). LookIs boot history cspace first all looks item) (append_assoc front (seen ∷ []) (take i others))
       (rest serial is i item at)
 
-  looked_behind : (first : ℕ) (all : List (ℕ × Need)) (front : List Seen) (last : ℕ) (needs : List (ℕ × Need)) → Sees boot history s cspace → StandsFor all front needs → place_after_looks first front ≡ last → last ≤ length history → (i : ℕ) (item : Seen) → slice_get (looked s cspace last needs) i ≡ Some item → LookIs boot history cspace first all (front ++ take i (looked s cspace last needs)) item
+  looked_behind : (first : ℕ) (all : List (ℕ × Need)) (front : List Seen) (last : ℕ)
+      (needs : List (ℕ × Need))
+      → Sees boot history s cspace
+      → StandsFor all front needs
+      → place_after_looks first front ≡ last
+      → last ≤ length history
+      → AreLegal first all front (looked s cspace last needs)
   looked_behind first all front last [] sees stands placed within i item at = absurd (no_item i item at)
   looked_behind first all front last (need ∷ needs) sees stands placed within i item at =
       let settings : (word_at s cspace need.0).set_at ≤ length history = sees.settings need.0 in
@@ -179,7 +221,12 @@ reply_fits None need serial is = absurd (let never : ⊥ = cc in never)
 reply_fits (Some row) need serial is =
     fits_by row.valid (kind_fits need.kind row.kind) (not (rights_fit need.rights.0 row.rights.0) || (need.master && not row.master)) row.serial serial is
 
-grant_by : (need : ℕ × Need) (needs : List (ℕ × Need)) (word : Word) (words : List Word) (reply : Result Serial Errno) → look_reply word need.1 ≡ reply → on_grant reply (outcome needs words) ≡ Grants → (outcome needs words ≡ Grants → grants_fit needs words ≡ true) → (row_fits word.row need.1 && grants_fit needs words) ≡ true
+grant_by : (need : ℕ × Need) (needs : List (ℕ × Need)) (word : Word) (words : List Word)
+    (reply : Result Serial Errno)
+    → look_reply word need.1 ≡ reply
+    → on_grant reply (outcome needs words) ≡ Grants
+    → (outcome needs words ≡ Grants → grants_fit needs words ≡ true)
+    → (row_fits word.row need.1 && grants_fit needs words) ≡ true
 grant_by need needs word words (Err errno) is all rest = absurd (let never : ⊥ = cc in never)
 grant_by need needs word words (Ok serial) is all rest = rw (reply_fits word.row need.1 serial is) (rest all)
 

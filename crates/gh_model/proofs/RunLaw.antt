@@ -1,5 +1,8 @@
 -- The whole run of a boot file is legal, graced and by its programs.
-use Rattle.std.proofs.Common.{◌≡◌, ◌≢◌, ◌==◌, ◌≤◌, ◌∙◌, ℕ, zero, suc, Bool, true, false, List, [], ◌∷◌, ◌++◌, inr, refl, subst, sym, ap, arith, Option, Some, None, slice_get, map, fold, filter, find, IsTrue, IsSome, if◌then◌else◌, eq-eqb}
+use Rattle.std.proofs.Common.{◌≡◌, ◌≢◌, ◌==◌, ◌≤◌, ◌∙◌, ℕ, zero}
+use Rattle.std.proofs.Common.{suc, Bool, true, false, List, [], ◌∷◌, ◌++◌, inr}
+use Rattle.std.proofs.Common.{refl, subst, sym, ap, arith, Option, Some, None, slice_get, map}
+use Rattle.std.proofs.Common.{fold, filter, find, IsTrue, IsSome, if◌then◌else◌, eq-eqb}
 use Rattle.std.specs.Prelude.{count_by}
 use Rattle.std.specs.List.{last_or}
 use Rattle.std.proofs.lemmas.List.{append-nil}
@@ -9,7 +12,10 @@ use Rattle.gh_base.specs.declared.frame.Frame.{Frame}
 use Rattle.gh_base.specs.declared.frame.Reply.{Reply}
 use Rattle.gh_base.specs.declared.mark.End.TheVariants as ends
 use Rattle.gh_model.specs.declared.boot_line.BootLine.{BootLine}
-use Rattle.gh_model.specs.declared.boot_line.BootLine.TheVariants.{Pages, Partition, Cspace, Addrspace, Doorbell, RootExtent, Extent, Msgqueue, Map, Cap, Vm, Rm, Link}
+use Rattle.gh_model.specs.declared.boot_line.BootLine.TheVariants.{Pages, Partition, Cspace}
+use Rattle.gh_model.specs.declared.boot_line.BootLine.TheVariants.{Addrspace, Doorbell}
+use Rattle.gh_model.specs.declared.boot_line.BootLine.TheVariants.{RootExtent, Extent, Msgqueue}
+use Rattle.gh_model.specs.declared.boot_line.BootLine.TheVariants.{Map, Cap, Vm, Rm, Link}
 use Rattle.gh_model.specs.declared.entry.Entry.{Entry}
 use Rattle.gh_model.specs.declared.program.Step.{Step}
 use Rattle.gh_model.specs.declared.rows.CpuRow.{CpuRow}
@@ -28,11 +34,13 @@ use Rattle.gh_model.specs.Run.{FollowPrograms, IsRun, is_mark_of}
 use Rattle.gh_model.specs.Calls.{seat_start, run_start, run_of, rows_in_order}
 use Rattle.gh_model.proofs.ActLemmas.{row_number}
 use Rattle.gh_model.specs.Fitting.{IsNumbered as HaveNumbers}
-use Rattle.gh_model.proofs.CpuRows.{Found, Stands, Comes, found_here, found_counts, counted_found, from_map, to_map, from_order, count_order, boot_numbered}
+use Rattle.gh_model.proofs.CpuRows.{Found, Stands, Comes, found_here, found_counts, counted_found}
+use Rattle.gh_model.proofs.CpuRows.{from_map, to_map, from_order, count_order, boot_numbered}
 use Rattle.gh_model.proofs.Ends.{IsAct}
 use Rattle.gh_model.proofs.RunLists.{no_item}
 use Rattle.gh_model.proofs.RunSteps.{calls_of, Steady, Own}
-use Rattle.gh_model.proofs.RunWhole.{number_of, Between, Pace, AllPaced, pace_over, marks_of_calls, rounds_between, rounds_paced}
+use Rattle.gh_model.proofs.RunWhole.{number_of, Between, Pace, AllPaced, pace_over}
+use Rattle.gh_model.proofs.RunWhole.{marks_of_calls, rounds_between, rounds_paced}
 
 -- acts are no parts, and keep no counters
 
@@ -77,19 +85,46 @@ module _ {P : Type 0} (answer : P → Option Reply → Step) (after : P → Opti
   seated w n between known =
       let counted : 1 ≤ count_by (is_cpu n) (rows_in_order boot.cpus) = subst (λ (k : ℕ). 1 ≤ k) (sym (count_order n boot.cpus)) (found_counts (is_cpu n) boot.cpus known) in
       let found : Found (is_cpu n) (rows_in_order boot.cpus) = counted_found (is_cpu n) (rows_in_order boot.cpus) counted in
-      let comes : Comes (number_of answer after) w.seats found.at found.item.cpu.0 = from_map (number_of answer after) w.seats found.at found.item.cpu.0 (subst (λ (ns : List ℕ). slice_get ns found.at ≡ Some found.item.cpu.0) (sym between.numbers) (to_map row_number (rows_in_order boot.cpus) found.at found.item found.is)) in
+      let row : slice_get (map row_number (rows_in_order boot.cpus)) found.at ≡ Some found.item.cpu.0 =
+      to_map row_number (rows_in_order boot.cpus) found.at found.item found.is in
+      let place : slice_get (map (number_of answer after) w.seats) found.at ≡ Some found.item.cpu.0 =
+      subst (λ (ns : List ℕ). slice_get ns found.at ≡ Some found.item.cpu.0) (sym between.numbers) row in
+      let comes : Comes (number_of answer after) w.seats found.at found.item.cpu.0 =
+      from_map (number_of answer after) w.seats found.at found.item.cpu.0 place in
       record { seat = comes.item; at = found.at; is = comes.is; numbered = comes.gives ∙ eqb-true found.item.cpu.0 n found.passes }
+
+  -- a CPU that has a row is not one that has none
+  not_missing : (n cpu : ℕ) → cpu_row boot n ≡ None → IsSome (cpu_row boot cpu) → cpu ≢ n
+  not_missing n cpu none known = λ (same : cpu ≡ n).
+      let there : IsSome (cpu_row boot n) = subst (λ (k : ℕ). IsSome (cpu_row boot k)) same known in
+      let nowhere : IsSome {T = CpuRow} None = subst (λ (o : Option CpuRow). IsSome o) none there in
+      let never : ⊥ = cc in
+      never
 
   none_of : (n : ℕ) (made : List Made) → cpu_row boot n ≡ None → ((i : ℕ) (m : Made) → slice_get made i ≡ Some m → IsSome (cpu_row boot m.mark.cpu.0)) → calls_of made n ≡ []
   none_of n [] none known = refl
   none_of n (m ∷ made) none known =
       let here : IsSome (cpu_row boot m.mark.cpu.0) = known zero m refl in
-      let differs : m.mark.cpu.0 ≢ n = λ (same : m.mark.cpu.0 ≡ n). (let row : cpu_row boot m.mark.cpu.0 ≡ None = ap (cpu_row boot) same ∙ none in let never : IsSome (cpu_row boot n) = subst (λ (k : ℕ). IsSome (cpu_row boot k)) same here in let false_is : IsSome {T = CpuRow} None = subst (λ (o : Option CpuRow). IsSome o) none never in let no_more : ⊥ = cc in no_more) in
+      let differs : m.mark.cpu.0 ≢ n = not_missing n m.mark.cpu.0 none here in
       ap (λ (b : Bool). if◌then◌else◌ {A = List Made} b (m ∷ calls_of made n) (calls_of made n)) (let other : (m.mark.cpu.0 == n) ≡ false = grind (arith, nat_tests) in other)
       ∙ none_of n made none (λ i other is. known (suc i) other is)
 
+  -- the calls of a seat's CPU so far
+  abbrev calls_in : (w : Running P) → Between answer after boot program w → Seat P → List Made
+  calls_in w between seat = calls_of between.made (number_of answer after seat)
+
+  -- what a seat's calls so far are to it
+  abbrev OwnIn : (w : Running P) → Between answer after boot program w → Seat P → Type 0
+  OwnIn w between seat = Own boot answer after program between.history (calls_in w between seat) seat
+
   -- what holds of each CPU's calls, and of no calls, holds of every number's
-  each_number : (w : Running P) (between : Between answer after boot program w) (Q : ℕ → List Made → Type 0) (n : ℕ) (row : Option CpuRow) → cpu_row boot n ≡ row → ((seat : Seat P) → Own boot answer after program between.history (calls_of between.made (number_of answer after seat)) seat → Q (number_of answer after seat) (calls_of between.made (number_of answer after seat))) → Q n [] → Q n (calls_of between.made n)
+  each_number : (w : Running P) (between : Between answer after boot program w)
+      (Q : ℕ → List Made → Type 0) (n : ℕ) (row : Option CpuRow)
+      → cpu_row boot n ≡ row
+      → ((seat : Seat P) → OwnIn w between seat
+      → Q (number_of answer after seat) (calls_in w between seat))
+      → Q n []
+      → Q n (calls_of between.made n)
   each_number w between Q n None is each none =
       subst (λ (calls : List Made). Q n calls) (sym (none_of n between.made is between.known)) none
   each_number w between Q n (Some row) is each none =

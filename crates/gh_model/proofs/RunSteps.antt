@@ -1,5 +1,10 @@
--- One call more keeps a run legal: what holds of the whole run, and what holds of the CPU's own calls.
-use Rattle.std.proofs.Common.{◌≡◌, ◌≢◌, ◌==◌, ◌+◌, ◌*◌, ◌≤◌, ◌∙◌, ℕ, zero, suc, Bool, true, false, List, [], ◌∷◌, ◌++◌, inl, inr, length, refl, subst, sym, ap, arith, Option, Some, None, IsSome, slice_get, map, filter, find, if◌then◌else◌, append_assoc, eq-eqb}
+-- One call more keeps a run legal: what holds of the whole run, and what holds of the CPU's own
+-- calls.
+use Rattle.std.proofs.Common.{◌≡◌, ◌≢◌, ◌==◌, ◌+◌, ◌*◌, ◌≤◌}
+use Rattle.std.proofs.Common.{◌∙◌, ℕ, zero, suc, Bool, true, false, List, []}
+use Rattle.std.proofs.Common.{◌∷◌, ◌++◌, inl, inr, length, refl, subst, sym, ap}
+use Rattle.std.proofs.Common.{arith, Option, Some, None, IsSome, slice_get, map, filter}
+use Rattle.std.proofs.Common.{find, if◌then◌else◌, append_assoc, eq-eqb}
 use Rattle.std.specs.Prelude.{◌||◌, is_some, count_by, nat_lt}
 use Rattle.std.specs.List.{last_or, list_any}
 use Rattle.std.specs.Option.{unwrap_or}
@@ -18,6 +23,7 @@ use Rattle.gh_base.specs.declared.mark.End.{End}
 use Rattle.gh_base.specs.declared.mark.End.TheVariants as ends
 use Rattle.gh_model.specs.declared.entry.Entry.{Entry}
 use Rattle.gh_model.specs.declared.entry.Entry.TheVariants.{Acted, Part, Retired, Reclaimed}
+use Rattle.gh_model.specs.declared.program.Standing.{Standing}
 use Rattle.gh_model.specs.declared.program.Step.{Step}
 use Rattle.gh_model.specs.declared.rows.CpuRow.{CpuRow}
 use Rattle.gh_model.specs.declared.running.CpuRun.{CpuRun}
@@ -28,14 +34,18 @@ use Rattle.gh_model.specs.Word.{word_at, is_slot, setting}
 use Rattle.gh_model.specs.Rows.{cpu_row, is_cpu, fills}
 use Rattle.gh_model.specs.Registers.{call_of}
 use Rattle.gh_model.specs.History.{Event, after_event, entry_of, replay, state_at}
-use Rattle.gh_model.specs.Marks.{Seen, Made, InTurn, frame_of, reply_of, look_of, place, place_after, place_after_call, place_after_looks, has_looks, cspace_of}
+use Rattle.gh_model.specs.Marks.{Seen, Made, InTurn, frame_of, reply_of}
+use Rattle.gh_model.specs.Marks.{look_of, place, place_after, place_after_call}
+use Rattle.gh_model.specs.Marks.{place_after_looks, has_looks, cspace_of}
 use Rattle.gh_model.specs.Legal.{FrameIs, CallIs, IsEndOf, IsNumbered, EntryIs, exits, is_exit_call}
 use Rattle.gh_model.specs.Program.{is_exit}
 use Rattle.gh_model.specs.Programs.{asked, frames_on, frames_made}
-use Rattle.gh_model.specs.Calls.{Called, after_mark, last_look_place, seat_behind, seat_after, next_call, entries_of}
+use Rattle.gh_model.specs.Calls.{Called, after_mark, last_look_place}
+use Rattle.gh_model.specs.Calls.{seat_behind, seat_after, next_call, entries_of}
 use Rattle.gh_model.proofs.ActLemmas.{Keeps, row_number}
 use Rattle.gh_model.proofs.Ends.{IsAct, seen_by, made_by, Here, MakesNone, MakesOne, IsWhole}
-use Rattle.gh_model.proofs.RunLists.{snoc_cases, slice_get_left, slice_get_seam, in_turn_snoc, count_snoc, last_or_snoc, take_all}
+use Rattle.gh_model.proofs.RunLists.{snoc_cases, slice_get_left, slice_get_seam}
+use Rattle.gh_model.proofs.RunLists.{in_turn_snoc, count_snoc, last_or_snoc, take_all}
 use Rattle.gh_model.proofs.Stays.{IsFront, front_self, front_more, front_length, calls_stay}
 
 -- the calls of a CPU
@@ -370,7 +380,17 @@ module _ (boot : State) where
       field : {A : Type 0} (f : CpuRun → A) → f (record counted_cpu { ended = true }) ≡ f counted_cpu → f moved.cpu ≡ f counted_cpu
       field f same = cpu_field answer after f (is_exit seat.standing.frame) seat counted_cpu called.mark.reply same
 
-      left_by : (exit : Bool) → frames_left (seat_behind answer after exit seat counted_cpu called.mark.reply) ≡ (λ (replies : List Reply). if exit then [] else frames_on answer after (seat.cpu.number + 1 + 1) (asked answer after (seat.cpu.number + 1 + 1) seat.standing.program (Some called.mark.reply)) replies)
+      -- what is asked behind the call, and the frames that are made from there on
+      abbrev asked_behind : Standing P
+      asked_behind =
+          asked answer after (seat.cpu.number + 1 + 1) seat.standing.program (Some called.mark.reply)
+
+      abbrev frames_behind : List Reply → List Frame
+      frames_behind replies = frames_on answer after (seat.cpu.number + 1 + 1) asked_behind replies
+
+      left_by : (exit : Bool)
+          → frames_left (seat_behind answer after exit seat counted_cpu called.mark.reply)
+          ≡ (λ (replies : List Reply). if exit then [] else frames_behind replies)
       left_by true = refl
       left_by false = rw going refl
 

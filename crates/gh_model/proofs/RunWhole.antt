@@ -1,5 +1,9 @@
 -- A whole run: every CPU ends, and the run is legal, graced and by the programs.
-use Rattle.std.proofs.Common.{◌≡◌, ◌≢◌, ◌==◌, ◌+◌, ◌<◌, ◌≤◌, ◌∙◌, ℕ, zero, suc, Bool, true, false, List, [], ◌∷◌, ◌++◌, ◌⊎◌, inl, inr, length, refl, subst, sym, ap, arith, Option, Some, None, slice_get, map, filter, IsSome, if◌then◌else◌, eq-eqb}
+use Rattle.std.proofs.Common.{◌≡◌, ◌≢◌, ◌==◌, ◌+◌, ◌<◌}
+use Rattle.std.proofs.Common.{◌≤◌, ◌∙◌, ℕ, zero, suc, Bool, true, false}
+use Rattle.std.proofs.Common.{List, [], ◌∷◌, ◌++◌, ◌⊎◌, inl, inr, length}
+use Rattle.std.proofs.Common.{refl, subst, sym, ap, arith, Option, Some, None, slice_get}
+use Rattle.std.proofs.Common.{map, filter, IsSome, if◌then◌else◌, eq-eqb, count_by}
 use Rattle.std.specs.Prelude.{slice_set, nat_lt}
 use Rattle.std.proofs.lemmas.List.{map-append, length-set}
 use Rattle.std.proofs.lemmas.Option.{get_or_from_slice_get, slice_get_within}
@@ -21,14 +25,18 @@ use Rattle.gh_model.specs.Marks.{Made, mark_of}
 use Rattle.gh_model.specs.Program.{is_exit, exit_frame, last_number}
 use Rattle.gh_model.specs.Programs.{asked}
 use Rattle.gh_model.specs.Run.{is_mark_of}
-use Rattle.gh_model.specs.Calls.{after_mark, seat_behind, seat_after, next_call, turn_of, turn, turns, round, rounds, with_call, entries_of, rows_in_order}
+use Rattle.gh_model.specs.Calls.{after_mark, seat_behind, seat_after, next_call, turn_of, turn}
+use Rattle.gh_model.specs.Calls.{turns, round, rounds, with_call, entries_of, rows_in_order}
 use Rattle.gh_model.proofs.ActLemmas.{call_built, row_number}
 use Rattle.gh_model.proofs.CallsLemmas.{rounds_none, rounds_more}
 use Rattle.gh_model.specs.Fitting.{IsNumbered as HaveNumbers}
-use Rattle.gh_model.proofs.CpuRows.{Stands, Comes, same_place, found_here, from_map, to_map, from_order, count_order}
+use Rattle.gh_model.proofs.CpuRows.{Stands, Comes, same_place, found_here}
+use Rattle.gh_model.proofs.CpuRows.{from_map, to_map, from_order, count_order}
 use Rattle.gh_model.proofs.RunLists.{snoc_cases, no_item}
 use Rattle.gh_model.proofs.Ends.{whole_is}
-use Rattle.gh_model.proofs.RunSteps.{calls_of, calls_same, calls_other, cpu_field, ended_by, Told, Own, Grown, IsCall, made_in, here_of, own_later, own_step, grown}
+use Rattle.gh_model.proofs.RunSteps.{calls_of, calls_same, calls_other, cpu_field}
+use Rattle.gh_model.proofs.RunSteps.{ended_by, Told, Own, Grown, IsCall, made_in}
+use Rattle.gh_model.proofs.RunSteps.{here_of, own_later, own_step, grown}
 
 -- the CPU that had its turn, and the others
 
@@ -85,7 +93,12 @@ module _ {P : Type 0} (answer : P → Option Reply → Step) (after : P → Opti
       apart w i j c d numbers is also differs = λ same.
           let first : Comes row_number (rows_in_order boot.cpus) i (number_of c) = row_of w i c numbers is in
           let second : Comes row_number (rows_in_order boot.cpus) j (number_of d) = row_of w j d numbers also in
-          differs (same_place (is_cpu (number_of c)) (rows_in_order boot.cpus) i j first.item second.item (subst (λ (n : ℕ). n ≤ 1) (sym (count_order (number_of c) boot.cpus)) (numbered.once (number_of c))) first.is (eq-eqb first.item.cpu.0 (number_of c) first.gives) second.is (eq-eqb second.item.cpu.0 (number_of c) (second.gives ∙ sym same)))
+          let once : count_by (is_cpu (number_of c)) (rows_in_order boot.cpus) ≤ 1 =
+          subst (λ (n : ℕ). n ≤ 1) (sym (count_order (number_of c) boot.cpus)) (numbered.once (number_of c)) in
+          differs
+          (same_place (is_cpu (number_of c)) (rows_in_order boot.cpus) i j first.item second.item once
+          first.is (eq-eqb first.item.cpu.0 (number_of c) first.gives)
+          second.is (eq-eqb second.item.cpu.0 (number_of c) (second.gives ∙ sym same)))
 
       -- a seat's CPU is one of the boot file
       is_known : (w : Running P) (i : ℕ) (seat : Seat P) → map number_of w.seats ≡ map row_number (rows_in_order boot.cpus) → slice_get w.seats i ≡ Some seat → IsSome (cpu_row boot (number_of seat))
@@ -166,8 +179,8 @@ module _ {P : Type 0} (answer : P → Option Reply → Step) (after : P → Opti
 
   -- every program ends
 
-  -- so many rounds before the last, a CPU has ended, or made a call in each round so far; its call of the last number is the
-  -- exit call
+  -- so many rounds before the last, a CPU has ended, or made a call in each round so far; its call
+  -- of the last number is the exit call
   pub record Pace (k : ℕ) (seat : Seat P) : Type 0 where
     pub pace : (seat.cpu.ended ≡ true) ⊎ ((0 < k) × (seat.cpu.number + k ≡ last_number))
     pub last : seat.cpu.ended ≡ false → seat.cpu.number + 1 ≡ last_number → seat.standing.frame ≡ exit_frame
@@ -188,7 +201,15 @@ module _ {P : Type 0} (answer : P → Option Reply → Step) (after : P → Opti
   moved_counts : (w : Running P) (seat : Seat P) → (moved w seat).cpu.number ≡ seat.cpu.number + 1
   moved_counts w seat = cpu_field answer after (λ c. c.number) (is_exit seat.standing.frame) seat (after_mark seat.cpu (next_call w.plain seat).mark) (next_call w.plain seat).mark.reply refl
 
-  pace_by : (k : ℕ) (w : Running P) (seat : Seat P) → seat.cpu.ended ≡ false → Pace (suc k) seat → (seat.cpu.ended ≡ true) ⊎ ((0 < suc k) × (seat.cpu.number + suc k ≡ last_number)) → ((moved w seat).cpu.ended ≡ true) ⊎ ((0 < k) × ((moved w seat).cpu.number + k ≡ last_number))
+  -- the CPU has ended, or so many calls are left to it
+  abbrev HasLeft : ℕ → Seat P → Type 0
+  HasLeft k seat = (seat.cpu.ended ≡ true) ⊎ ((0 < k) × (seat.cpu.number + k ≡ last_number))
+
+  pace_by : (k : ℕ) (w : Running P) (seat : Seat P)
+      → seat.cpu.ended ≡ false
+      → Pace (suc k) seat
+      → HasLeft (suc k) seat
+      → HasLeft k (moved w seat)
   pace_by k w seat going paced (inl over) = absurd (let never : ⊥ = cc in never)
   pace_by zero w seat going paced (inr count) =
       inl (moved_ends w seat going ∙ ap is_exit (paced.last going (let one : seat.cpu.number + 1 ≡ seat.cpu.number + suc zero = omega arith in one ∙ count.1)) ∙ exit_is)
@@ -241,7 +262,12 @@ module _ {P : Type 0} (answer : P → Option Reply → Step) (after : P → Opti
   paced_ended : (k : ℕ) (w : Running P) (at : ℕ) (seat : Seat P) → PacedTo k at w → slice_get w.seats at ≡ Some seat → seat.cpu.ended ≡ true → PacedTo k (at + 1) w
   paced_ended k w at seat paced here over = λ (i : ℕ) (other : Seat P) (is : slice_get w.seats i ≡ Some other).
       elim (eqb_tells i at) as (λ _. Pace (rounds_before k (at + 1) i) other) [
-        | inl same ↦ pace_ended (rounds_before k at i) (rounds_before k (at + 1) i) other (let there : slice_get w.seats i ≡ Some seat = subst (λ (n : ℕ). slice_get w.seats n ≡ Some seat) (sym same.1) here in let one : seat ≡ other = cc in subst (λ (s : Seat P). s.cpu.ended ≡ true) one over) (paced i other is)
+        | inl same ↦ pace_ended (rounds_before k at i) (rounds_before k (at + 1) i) other
+            (let there : slice_get w.seats i ≡ Some seat =
+            subst (λ (n : ℕ). slice_get w.seats n ≡ Some seat) (sym same.1) here in
+            let one : seat ≡ other = cc in
+            subst (λ (s : Seat P). s.cpu.ended ≡ true) one over)
+            (paced i other is)
         | inr differs ↦ subst (λ (n : ℕ). Pace n other) (same_rounds k at i (λ (place : i ≡ at). let yes : (i == at) ≡ true = eq-eqb i at place in let never : ⊥ = cc in never)) (paced i other is)
       ]
 

@@ -1,5 +1,6 @@
 -- Which machine page stands at a page of an address space, and what may be done with it.
-use Rattle.std.specs.Prelude.{◌==◌, ◌&&◌, ◌+◌, ◌-◌, ℕ, Bool, false, Option, Some, None, find, slice_get, nat_le, nat_lt, if◌then◌else◌}
+use Rattle.std.specs.Prelude.{◌==◌, ◌&&◌, ◌+◌, ◌-◌, ℕ, Bool, false, Option}
+use Rattle.std.specs.Prelude.{Some, None, find, slice_get, nat_le, nat_lt, if◌then◌else◌}
 use Rattle.gh_base.specs.declared.access.Access.{Access}
 use Rattle.gh_base.specs.declared.ids.PageNo.{PageNo}
 use Rattle.gh_base.specs.declared.ids.Serial.{Serial}
@@ -18,6 +19,7 @@ abbrev pub is_holder : ℕ → Option Serial → Bool
 is_holder extent None = false
 is_holder extent (Some holder) = holder.0 == extent
 
+-- the extent with this serial is the holder of a page
 abbrev pub holds : State → ℕ → ℕ → Bool
 holds s extent page = is_holder extent (slice_get s.holders page)
 
@@ -27,12 +29,14 @@ named_page extent row page = extent.first.0 + row.offset + page - row.base
 
 -- the page with the row's access, where the row's extent is now the holder of the page that the row
 -- names
-abbrev pub row_access : State → ℕ → MappingRow → Option ExtentRow → Option (PageNo × Access)
+abbrev pub row_access :
+    State → ℕ → MappingRow → Option ExtentRow → Option (PageNo × Access)
 row_access s page row None = None
 row_access s page row (Some extent) =
     if holds s row.extent.0 (named_page extent row page)
     then Some (record { 0 = named_page extent row page }, row.access) else None
 
+-- the access that a page of a space has through the row that covers it, if there is one
 abbrev pub covered_access : State → ℕ → Option MappingRow → Option (PageNo × Access)
 covered_access s page None = None
 covered_access s page (Some row) = row_access s page row (find (is_extent row.extent.0) s.extents)

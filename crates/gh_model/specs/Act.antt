@@ -1,5 +1,6 @@
 -- What an act comes to, and the objects that it is granted.
-use Rattle.std.specs.Prelude.{◌≡◌, ◌+◌, Bool, true, false, List, [], length, take, Option, Some, None, map}
+use Rattle.std.specs.Prelude.{◌≡◌, ◌+◌, Bool, true, false, List}
+use Rattle.std.specs.Prelude.{[], length, take, Option, Some, None, map}
 use Rattle.std.specs.List.{list_any, list_all}
 use Rattle.gh_base.specs.Reply.{register_reply}
 use Rattle.gh_base.specs.declared.call.Call.{Call}
@@ -31,11 +32,13 @@ Judges old new (says.Refused reply) verdict = (verdict ≡ Refused reply) × (ne
 abbrev pub counted : State → State
 counted s = record s { entries = s.entries + 1; taken = [] }
 
+-- the stage is active
 abbrev pub is_active_stage : Stage → Bool
 is_active_stage Init = false
 is_active_stage Ready = false
 is_active_stage Active = true
 
+-- the object is there and active
 abbrev pub is_active_row : Option ObjectRow → Bool
 is_active_row None = false
 is_active_row (Some row) = is_active_stage row.stage
@@ -57,6 +60,7 @@ abbrev pub row_serial : Option CapabilityRow → Serial
 row_serial None = record { 0 = 0 }
 row_serial (Some row) = row.serial
 
+-- the object that a word grants
 abbrev pub granted : Word → Serial
 granted word = row_serial word.row
 

@@ -1,6 +1,9 @@
 -- A run by whole calls: the CPUs in rising order each make one call, round after round, until all
 -- have ended.
-use Rattle.std.specs.Prelude.{◌==◌, ◌+◌, ◌*◌, ℕ, zero, suc, Bool, true, false, List, [], ◌∷◌, ◌++◌, length, fold, max, Option, Some, None, Result, Ok, Err, filter, map, slice_get, slice_set, if◌then◌else◌}
+use Rattle.std.specs.Prelude.{◌==◌, ◌+◌, ◌*◌, ℕ, zero, suc, Bool, true}
+use Rattle.std.specs.Prelude.{false, List, [], ◌∷◌, ◌++◌, length, fold}
+use Rattle.std.specs.Prelude.{max, Option, Some, None, Result, Ok, Err, filter, map}
+use Rattle.std.specs.Prelude.{slice_get, slice_set, if◌then◌else◌}
 use Rattle.std.specs.Option.{unwrap_or}
 use Rattle.gh_base.specs.Reply.{refusal}
 use Rattle.gh_base.specs.declared.call.Call.{Call}
@@ -38,6 +41,7 @@ use Rattle.gh_model.specs.Legal.{is_short}
 abbrev pub no_looks : ℕ → Looked
 no_looks place = record { looks = []; words = []; place = place; refused = None }
 
+-- why a look grants nothing, if it does not
 abbrev pub refusal_of : Result Serial Errno → Option Errno
 refusal_of (Err errno) = Some errno
 refusal_of (Ok serial) = None
@@ -46,7 +50,9 @@ refusal_of (Ok serial) = None
 abbrev pub with_look : Looked → ℕ → Word → Need → Looked
 with_look looked slot word need = record {
   looks =
-      looked.looks ++ record { slot = slot; place = max word.set_at looked.place; word = bits_of word } ∷ [];
+      looked.looks
+      ++ record { slot = slot; place = max word.set_at looked.place; word = bits_of word }
+      ∷ [];
   words = looked.words ++ word ∷ [];
   place = max word.set_at looked.place;
   refused = refusal_of (look_reply word need);
@@ -57,6 +63,7 @@ abbrev pub unless_refused : Option Errno → Looked → Looked → Looked
 unless_refused None looked others = others
 unless_refused (Some errno) looked others = looked
 
+-- the looks for these needs in order, up to the first that is refused
 abbrev pub look_all : State → ℕ → List (ℕ × Need) → Looked → Looked
 look_all s cspace [] looked = looked
 look_all s cspace (need ∷ needs) looked =
@@ -71,6 +78,7 @@ pub record Called : Type 0 where
   pub words : List Word
   pub after : State
 
+-- the mark of a call: its CPU, its number, its section, its looks, its end and its reply
 abbrev pub call_mark : CpuRun → Looked → End → Reply → Mark
 call_mark c looked end reply = record {
   cpu = c.cpu;
@@ -86,6 +94,7 @@ abbrev pub entry_or_none : Mark → Option ℕ → List Entry
 entry_or_none mark None = []
 entry_or_none mark (Some number) = Acted mark.cpu mark.number ∷ []
 
+-- the entry of a call, if it made one
 abbrev pub entries_of : Mark → List Entry
 entries_of mark = entry_or_none mark (number mark.end)
 
@@ -103,6 +112,7 @@ unmade s c frame looked end reply = record {
 abbrev pub act_end : Call → Reply → ℕ → End
 act_end call reply place = if is_short call reply then ends.Short place [] else ends.Act place
 
+-- the call by its verdict: done, it ends at the entry that it made; refused, at its act
 abbrev pub by_verdict : State → CpuRun → Frame → Call → Looked → Verdict → Called
 by_verdict s c frame call looked (Done new reply) = record {
   mark = call_mark c looked (ends.Entry new.entries) reply;
@@ -113,11 +123,13 @@ by_verdict s c frame call looked (Done new reply) = record {
 by_verdict s c frame call looked (Refused reply) =
     unmade s c frame looked (act_end call reply s.entries) reply
 
+-- the call by its looks: refused by one of them, or judged
 abbrev pub by_looks : State → CpuRun → Frame → Call → Looked → Option Errno → Called
 by_looks s c frame call looked (Some errno) = unmade s c frame looked ends.Refused (refusal errno)
 by_looks s c frame call looked None =
     by_verdict s c frame call looked (judge s c.cpu.0 call frame.bytes looked.words)
 
+-- the call by its shape: refused for it, or made by its looks
 abbrev pub by_shape : State → CpuRun → Frame → Result Call Errno → Called
 by_shape s c frame (Err errno) = unmade s c frame (no_looks c.place) ends.Frame (refusal errno)
 by_shape s c frame (Ok call) =
@@ -134,9 +146,11 @@ call_with s c frame = by_shape s c frame (call_of frame)
 abbrev pub last_look_place : ℕ → List Look → ℕ
 last_look_place last looks = fold (λ before (look : Look). look.place) last looks
 
+-- a CPU's last place behind a call: that of its end, or of its last look where its end has none
 abbrev pub place_after_mark : ℕ → Mark → ℕ
 place_after_mark last mark = unwrap_or (place mark.end) (last_look_place last mark.looks)
 
+-- a CPU behind a call: one call more, one section more where it looked, and its last place
 abbrev pub after_mark : CpuRun → Mark → CpuRun
 after_mark c mark = record c {
   number = c.number + 1;
@@ -150,7 +164,8 @@ next_call s seat = call_with s seat.cpu seat.standing.frame
 
 -- a seat: a CPU with its program and the frame of its next call. An exit call ends it; else the
 -- program is asked for the next call, by the reply to this one
-module _ {P : Type 0} (answer : P → Option Reply → Step) (after : P → Option Reply → P) where
+module _ {P : Type 0} (answer : P → Option Reply → Step)
+    (after : P → Option Reply → P) where
   abbrev pub seat_behind : Bool → Seat P → CpuRun → Reply → Seat P
   seat_behind true seat c reply = record seat { cpu = record c { ended = true } }
   seat_behind false seat c reply =
@@ -199,12 +214,15 @@ module _ {P : Type 0} (answer : P → Option Reply → Step) (after : P → Opti
 abbrev pub is_manager : CpuRow → Bool
 is_manager row = row.cpu.0 == 0
 
+-- the rows of CPUs in order: the resource manager, then the VMs
 abbrev pub rows_in_order : List CpuRow → List CpuRow
 rows_in_order rows = filter is_manager rows ++ filter is_vm rows
 
+-- the CPUs of a state in order
 abbrev pub cpus_in_order : State → List CpuRow
 cpus_in_order s = rows_in_order s.cpus
 
+-- the CPU in this seat has ended
 abbrev pub has_ended : {P : Type 0} → Seat P → Bool
 has_ended seat = seat.cpu.ended
 
@@ -219,7 +237,8 @@ cpu_start row = record {
   place = 0;
 }
 
-module _ {P : Type 0} (answer : P → Option Reply → Step) (after : P → Option Reply → P) where
+module _ {P : Type 0} (answer : P → Option Reply → Step)
+    (after : P → Option Reply → P) where
   abbrev pub seat_start : CpuRow → P → Seat P
   seat_start row program = record {
     cpu = cpu_start row;

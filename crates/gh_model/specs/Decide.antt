@@ -1,5 +1,6 @@
 -- The act of any call: it is decided, and then done.
-use Rattle.std.specs.Prelude.{◌==◌, ◌&&◌, not, ℕ, Bool, true, false, List, [], length, Option, Some, None, slice_get, if◌then◌else◌}
+use Rattle.std.specs.Prelude.{◌==◌, ◌&&◌, not, ℕ, Bool, true, false, List, []}
+use Rattle.std.specs.Prelude.{length, Option, Some, None, slice_get, if◌then◌else◌}
 use Rattle.std.specs.Option.{unwrap_or}
 use Rattle.gh_base.specs.Kind.{kind_number}
 use Rattle.gh_base.specs.Reply.{refusal}
@@ -12,7 +13,8 @@ use Rattle.gh_model.specs.declared.change.Decision.TheVariants.{Refuse, Unfinish
 use Rattle.gh_model.specs.declared.rows.CapabilityRow.{CapabilityRow}
 use Rattle.gh_model.specs.declared.word.Word.{Word}
 use Rattle.gh_model.specs.declared.state.State.{State}
-use Rattle.gh_model.specs.Act.{Verdict, Done, Refused, counted, any_doomed, all_active, is_active_row, identified, grants_of}
+use Rattle.gh_model.specs.Act.{Verdict, Done, Refused, counted, any_doomed}
+use Rattle.gh_model.specs.Act.{all_active, is_active_row, identified, grants_of}
 use Rattle.gh_model.specs.BellCalls as bells
 use Rattle.gh_model.specs.Boot.{cpu_cspace}
 use Rattle.gh_model.specs.CapabilityCalls.{cap_copy, cap_delete, cap_revoke, caps_revoke}
@@ -30,9 +32,11 @@ abbrev pub is_at_end : State → Call → List Serial → Bool
 is_at_end s (calls.CapsRevoke cap) grants = (length s.taken == 0) && any_doomed s grants
 is_at_end s _ grants = any_doomed s grants
 
+-- the object with this serial is active
 abbrev pub is_active : State → Serial → Bool
 is_active s object = is_active_row (object_row s object.0)
 
+-- the object with this serial is at its first stage, Init
 abbrev pub is_init : State → Serial → Bool
 is_init s object = is_init_row (object_row s object.0)
 
@@ -53,16 +57,21 @@ abbrev pub decided : State → ℕ → Call → List ℕ → List Serial → Dec
 decided s cpu calls.Identify bytes grants = Make [] identified
 decided s cpu calls.Exit bytes grants = exit (record { 0 = cpu })
 decided s cpu (calls.BellSend cap flags) bytes grants = bells.bell_send s (grant_at grants 0) flags
-decided s cpu (calls.BellSetMask cap enable ack) bytes grants = bells.bell_set_mask s (grant_at grants 0) enable ack
-decided s cpu (calls.BellReceive cap clear) bytes grants = bells.bell_receive s (grant_at grants 0) clear
+decided s cpu (calls.BellSetMask cap enable ack) bytes grants =
+    bells.bell_set_mask s (grant_at grants 0) enable ack
+decided s cpu (calls.BellReceive cap clear) bytes grants =
+    bells.bell_receive s (grant_at grants 0) clear
 decided s cpu (calls.BellReset cap) bytes grants = bells.bell_reset (grant_at grants 0)
-decided s cpu (calls.MsgqSend cap size buffer flags) bytes grants = msgq_send s (grant_at grants 0) bytes
+decided s cpu (calls.MsgqSend cap size buffer flags) bytes grants =
+    msgq_send s (grant_at grants 0) bytes
 decided s cpu (calls.MsgqRecv cap buffer size) bytes grants = msgq_recv s (grant_at grants 0) size
 decided s cpu (calls.MsgqFlush cap) bytes grants = msgq_flush s (grant_at grants 0)
 decided s cpu (calls.Map space extent base attributes flags offset size) bytes grants =
-    memory.map s (memory.named_space s cpu space grants) (memory.named_extent space grants) base attributes flags offset size
+    memory.map s (memory.named_space s cpu space grants) (memory.named_extent space grants) base
+    attributes flags offset size
 decided s cpu (calls.Unmap space extent base flags offset size) bytes grants =
-    memory.unmap s (memory.named_space s cpu space grants) (memory.named_extent space grants) base flags offset size
+    memory.unmap s (memory.named_space s cpu space grants) (memory.named_extent space grants) base
+    flags offset size
 decided s cpu (calls.Donate options giver receiver offset size) bytes grants =
     memory.donate s options (grant_at grants 0) (grant_at grants 1) offset size
 decided s cpu (calls.Derive child parent offset size access) bytes grants =
@@ -71,8 +80,10 @@ decided s cpu (calls.AsLookup space address) bytes grants =
     memory.as_lookup s (memory.named_space s cpu space grants) address
 decided s cpu (calls.Create partition cspace number) bytes grants =
     create s (grant_at grants 0) (grant_at grants 1) number
-decided s cpu (calls.ConfigurePartition cap quota) bytes grants = configure_partition s (grant_at grants 0) quota
-decided s cpu (calls.ConfigureQueue cap depth size) bytes grants = configure_queue s (grant_at grants 0) depth size
+decided s cpu (calls.ConfigurePartition cap quota) bytes grants =
+    configure_partition s (grant_at grants 0) quota
+decided s cpu (calls.ConfigureQueue cap depth size) bytes grants =
+    configure_queue s (grant_at grants 0) depth size
 decided s cpu (calls.Activate cap) bytes grants = activate s (grant_at grants 0)
 decided s cpu (calls.CapCopy cspace source mask) bytes grants =
     cap_copy s cpu (grant_at grants 0) (grant_at grants 1) source mask
@@ -103,21 +114,25 @@ act s cpu call bytes grants = verdict s (decision false s cpu call bytes grants)
 
 -- two words are the same
 
+-- two truth values are the same
 abbrev pub same_truth : Bool → Bool → Bool
 same_truth a b = if a then b else not b
 
+-- two rows of capabilities are the same, field by field
 abbrev pub same_row : CapabilityRow → CapabilityRow → Bool
 same_row a b =
     (a.cspace.0 == b.cspace.0) && (a.slot == b.slot) && (a.serial.0 == b.serial.0)
     && (kind_number a.kind == kind_number b.kind) && (a.rights.0 == b.rights.0)
     && same_truth a.master b.master && same_truth a.valid b.valid
 
+-- both rows are there and the same, or neither is there
 abbrev pub same_rows : Option CapabilityRow → Option CapabilityRow → Bool
 same_rows None None = true
 same_rows None (Some b) = false
 same_rows (Some a) None = false
 same_rows (Some a) (Some b) = same_row a b
 
+-- two words are the same
 abbrev pub same_word : Word → Word → Bool
 same_word a b = (a.set_at == b.set_at) && same_rows a.row b.row
 
@@ -125,6 +140,7 @@ same_word a b = (a.set_at == b.set_at) && same_rows a.row b.row
 abbrev pub source_word : List Word → Word
 source_word words = unwrap_or (slice_get words 1) (record { row = None; set_at = 0 })
 
+-- the source of a copy is no longer what was looked up
 abbrev pub has_moved : State → ℕ → Call → List Word → Bool
 has_moved s cpu (calls.CapCopy cspace source mask) words =
     not (same_word (word_at s (cpu_cspace s.cpus cpu) source) (source_word words))

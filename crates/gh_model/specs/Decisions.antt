@@ -1,5 +1,6 @@
 -- What the decisions of all calls share.
-use Rattle.std.specs.Prelude.{ℕ, Bool, true, false, List, [], ◌∷◌, Option, Some, None, slice_get}
+use Rattle.std.specs.Prelude.{ℕ, Bool, true, false, List, []}
+use Rattle.std.specs.Prelude.{◌∷◌, Option, Some, None, slice_get}
 use Rattle.std.specs.Option.{unwrap_or}
 use Rattle.gh_base.specs.Reply.{register_reply}
 use Rattle.gh_base.specs.declared.frame.Reply.{Reply}
@@ -19,6 +20,7 @@ grant_at grants at = unwrap_or (slice_get grants at) (record { 0 = 0 })
 abbrev pub done : Reply
 done = register_reply 0 0 0 0
 
+-- the reply of a call that is done, with a number in x1
 abbrev pub done_with : ℕ → Reply
 done_with x1 = register_reply 0 x1 0 0
 
@@ -26,11 +28,13 @@ done_with x1 = register_reply 0 x1 0 0
 abbrev pub make_one : Change → Reply → Decision
 make_one change reply = Make (change ∷ []) reply
 
+-- the stage is Init
 abbrev pub is_init_stage : Stage → Bool
 is_init_stage Init = true
 is_init_stage Ready = false
 is_init_stage Active = false
 
+-- the object is there and at the stage Init
 abbrev pub is_init_row : Option ObjectRow → Bool
 is_init_row None = false
 is_init_row (Some row) = is_init_stage row.stage

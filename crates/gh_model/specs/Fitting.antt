@@ -1,9 +1,11 @@
 -- What the state of a machine has behind lines of a boot file that fit: the bounds that follow from
 -- the conditions of the lines.
-use Rattle.std.specs.Prelude.{◌≡◌, ◌==◌, ◌+◌, ◌-◌, ◌*◌, ◌<◌, ◌≤◌, ℕ, List, length, Option, Some, None, find, count_by, sum_by}
+use Rattle.std.specs.Prelude.{◌≡◌, ◌==◌, ◌+◌, ◌-◌, ◌*◌, ◌<◌, ◌≤◌}
+use Rattle.std.specs.Prelude.{ℕ, List, length, Option, Some, None, find, count_by, sum_by}
 use Rattle.gh_base.specs.Kind.{kind_number}
 use Rattle.gh_base.specs.declared.kind.Kind.TheVariants as kind
-use Rattle.gh_base.specs.declared.limits.TheConstants.{MACHINE_PAGES, PARTITIONS, PARTITION_UNITS, VMS}
+use Rattle.gh_base.specs.declared.limits.TheConstants.{MACHINE_PAGES, PARTITIONS}
+use Rattle.gh_base.specs.declared.limits.TheConstants.{PARTITION_UNITS, VMS}
 use Rattle.gh_model.specs.declared.rows.ExtentRow.{ExtentRow}
 use Rattle.gh_model.specs.declared.rows.ObjectRow.{ObjectRow}
 use Rattle.gh_model.specs.declared.rows.PartitionRow.{PartitionRow}
@@ -35,15 +37,18 @@ span_end None = 0
 span_end (Some row) = row.first.0 + row.count
 
 -- the objects and the units of their partitions
-pub record FitObjects (next_serial : ℕ) (objects : List ObjectRow) (partitions : List PartitionRow) : Type 0 where
+pub record FitObjects (next_serial : ℕ) (objects : List ObjectRow)
+    (partitions : List PartitionRow) : Type 0 where
   -- serials count the objects from 1
   pub serials : next_serial ≡ length objects + 1
   -- each object that is a partition has a row, and there are few
   pub rows : length partitions ≡ partitions_among objects
   pub few : length partitions ≤ PARTITIONS
   -- a quota is at most 128 units
-  pub quotas : (partition : ℕ) → row_quota (find (is_partition partition) partitions) ≤ PARTITION_UNITS
-  pub given : (partition : ℕ) → given_by partitions partition ≤ PARTITION_UNITS * length partitions
+  pub quotas :
+      (partition : ℕ) → row_quota (find (is_partition partition) partitions) ≤ PARTITION_UNITS
+  pub given :
+      (partition : ℕ) → given_by partitions partition ≤ PARTITION_UNITS * length partitions
   -- an object costs at most 17 units
   pub used : (partition : ℕ) → used_by objects partition ≤ object_units * length objects
   -- each object took a unit at least: with what is left there are 128 for each partition at most

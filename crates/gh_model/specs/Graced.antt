@@ -1,6 +1,8 @@
 -- Grace: an object is retired only without references, and reclaimed only once every CPU that was
 -- reading then, and every call that was granted it, has left its section.
-use Rattle.std.specs.Prelude.{◌≡◌, ◌==◌, ◌+◌, ◌*◌, ◌-◌, ◌<◌, ◌≤◌, ℕ, Bool, true, false, List, length, take, Option, Some, None, IsTrue, IfSome, count_by, slice_get, slice_index}
+use Rattle.std.specs.Prelude.{◌≡◌, ◌==◌, ◌+◌, ◌*◌, ◌-◌, ◌<◌}
+use Rattle.std.specs.Prelude.{◌≤◌, ℕ, Bool, true, false, List, length, take, Option}
+use Rattle.std.specs.Prelude.{Some, None, IsTrue, IfSome, count_by, slice_get, slice_index}
 use Rattle.std.specs.List.{list_any}
 use Rattle.gh_base.specs.Counters.{HaveLeft}
 use Rattle.gh_base.specs.declared.limits.TheConstants.{CPUS}
@@ -31,13 +33,16 @@ granting (ends.Act at) seen = seen
 granting (ends.Short at held) seen = seen
 granting (ends.Entry number) seen = seen
 
+-- the row is a capability of the object with this serial
 abbrev pub names_object : ℕ → Option CapabilityRow → Bool
 names_object serial None = false
 names_object serial (Some row) = row.serial.0 == serial
 
+-- the look found a capability of the object
 abbrev pub finds : ℕ → Seen → Bool
 finds serial seen = names_object serial seen.word.row
 
+-- the call was granted the object by one of its looks
 abbrev pub was_granted : ℕ → Made → Bool
 was_granted serial made = list_any (finds serial) (granting made.mark.end made.seen)
 
@@ -59,15 +64,19 @@ GoesUnread s (Reclaimed serial seen) =
     IfSome (retirement (object_row s serial.0)) (λ (before : List ℕ). HaveLeft before seen)
 
 -- the CPU's counter that the entry of this number kept, and a call of that CPU
-pub record Fits (entry : Entry) (number counter : ℕ) (front : List Made) (made : Made) : Type 0 where
+pub record Fits (entry : Entry) (number counter : ℕ) (front : List Made)
+    (made : Made) : Type 0 where
   -- a call that was granted the object that the entry reclaims had an earlier section
-  pub granted : (serial : ℕ) → reclaims entry ≡ Some serial → was_granted serial made ≡ true
+  pub granted :
+      (serial : ℕ) → reclaims entry ≡ Some serial → was_granted serial made ≡ true
       → made.mark.section < counter
   -- so had a call that ended with its entry, or with a refused act, below this number
-  pub ended : (at : ℕ) → has_looks made ≡ true → place made.mark.end ≡ Some at → at < number
+  pub ended :
+      (at : ℕ) → has_looks made ≡ true → place made.mark.end ≡ Some at → at < number
       → made.mark.section < counter
   -- and a call behind one that saw this entry has a later section
-  pub later : has_looks made ≡ true → number ≤ place_after front → counter < made.mark.section
+  pub later :
+      has_looks made ≡ true → number ≤ place_after front → counter < made.mark.section
 
 module _ (boot : State) (history : List Event) where
   -- the history and the finished calls of each CPU are graced. An entry at n has the number n + 1

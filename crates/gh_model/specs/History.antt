@@ -1,5 +1,7 @@
 -- The history and what it makes of the boot state.
-use Rattle.std.specs.Prelude.{◌&&◌, ◌+◌, not, ℕ, Bool, true, false, List, [], ◌∷◌, ◌++◌, take, Option, Some, None, fold, find, map, is_some, nat_lt, if◌then◌else◌}
+use Rattle.std.specs.Prelude.{◌&&◌, ◌+◌, not, ℕ, Bool, true, false, List}
+use Rattle.std.specs.Prelude.{[], ◌∷◌, ◌++◌, take, Option, Some, None}
+use Rattle.std.specs.Prelude.{fold, find, map, is_some, nat_lt, if◌then◌else◌}
 use Rattle.gh_base.specs.declared.call.Call.{Call}
 use Rattle.gh_base.specs.declared.cap_word.Need.{Need}
 use Rattle.gh_base.specs.declared.ids.Serial.{Serial}
@@ -31,7 +33,8 @@ pub record Event : Type 0 where
 -- what a look gives an entry of this number: its word, and of a look at that number or above it
 -- nothing
 abbrev pub word_for : ℕ → Seen → Word
-word_for number seen = if nat_lt seen.look.place number then seen.word else record { row = None; set_at = 0 }
+word_for number seen =
+    if nat_lt seen.look.place number then seen.word else record { row = None; set_at = 0 }
 
 -- the entry of this number that is the act of a finished call
 abbrev pub event_of : ℕ → Call → Made → Event
@@ -42,6 +45,7 @@ event_of number call made = record {
   words = map (word_for number) made.seen;
 }
 
+-- the entry of an event
 abbrev pub entry_of : Event → Entry
 entry_of event = event.entry
 
@@ -92,6 +96,7 @@ grants_fit (need ∷ needs) (word ∷ words) = row_fits word.row need.1 && grant
 abbrev pub may_act : State → ℕ → Call → List Word → Bool
 may_act s cpu call words = is_some (cpu_row s cpu) && grants_fit (needs_of call) words
 
+-- the state behind an act: as the verdict leaves it, one entry later
 abbrev pub after_verdict : State → Verdict → State
 after_verdict s (Done new reply) = new
 after_verdict s (Refused reply) = numbered s
@@ -101,6 +106,7 @@ abbrev pub acted : State → ℕ → Call → List ℕ → List Word → State
 acted s cpu call bytes words =
     if may_act s cpu call words then after_verdict s (judge s cpu call bytes words) else numbered s
 
+-- a row that a part revokes: valid, and not the master capability
 abbrev pub may_part : Option CapabilityRow → Bool
 may_part None = false
 may_part (Some row) = row.valid && not row.master
@@ -115,10 +121,12 @@ parted s space slot =
     if may_part (find (fills space.0 slot) s.caps)
     then numbered (took (changed s (change.RevokeCapability space slot)) space slot) else numbered s
 
+-- the object is there and not retired
 abbrev pub is_unretired : Option ObjectRow → Bool
 is_unretired None = false
 is_unretired (Some row) = not (is_some row.retired)
 
+-- the object is there and retired
 abbrev pub is_retired : Option ObjectRow → Bool
 is_retired None = false
 is_retired (Some row) = is_some row.retired
@@ -142,6 +150,7 @@ after_entry s event (Part cpu number space slot) = parted s space slot
 after_entry s event (Retired serial seen) = retired s serial seen
 after_entry s event (Reclaimed serial seen) = reclaimed s serial
 
+-- the state behind an event
 abbrev pub after_event : State → Event → State
 after_event s event = after_entry s event event.entry
 

@@ -2,12 +2,15 @@
 -- places, and each entry is that of a call. What is said of one finished call stands as the history
 -- grows; what is said of an entry stands beside it; and apart from both stand the numbering and the
 -- exit calls, which are the programs' side.
-use Rattle.std.specs.Prelude.{◌≡◌, ◌≢◌, ◌==◌, ◌+◌, ◌<◌, ◌≤◌, ℕ, Bool, true, false, List, [], length, max, Option, Some, None, Result, Ok, Err, IsTrue, IsSome, find, map, slice_get, slice_index}
+use Rattle.std.specs.Prelude.{◌≡◌, ◌≢◌, ◌==◌, ◌+◌, ◌<◌, ◌≤◌, ℕ}
+use Rattle.std.specs.Prelude.{Bool, true, false, List, [], length, max, Option, Some, None}
+use Rattle.std.specs.Prelude.{Result, Ok, Err, IsTrue, IsSome, find, map, slice_get, slice_index}
 use Rattle.std.specs.List.{list_any, last_or}
 use Rattle.std.specs.Option.{option_map_or}
 use Rattle.gh_base.specs.Reply.{refusal}
 use Rattle.gh_base.specs.declared.call.Call.{Call}
-use Rattle.gh_base.specs.declared.call.Call.TheVariants.{Create, ConfigurePartition, ConfigureQueue, CapsRevoke}
+use Rattle.gh_base.specs.declared.call.Call.TheVariants.{Create, ConfigurePartition}
+use Rattle.gh_base.specs.declared.call.Call.TheVariants.{ConfigureQueue, CapsRevoke}
 use Rattle.gh_base.specs.declared.cap_word.Need.{Need}
 use Rattle.gh_base.specs.declared.errno.Errno.{Errno}
 use Rattle.gh_base.specs.declared.errno.Errno.TheVariants.{CapRevoked}
@@ -24,7 +27,9 @@ use Rattle.gh_model.specs.Word.{word_at, Shows}
 use Rattle.gh_model.specs.Registers.{call_of, needs_of}
 use Rattle.gh_model.specs.Decide.{judge}
 use Rattle.gh_model.specs.Act.{Verdict, Done, Refused, granted}
-use Rattle.gh_model.specs.Marks.{Seen, Made, Outcome, Wants, Fails, Grants, InTurn, outcome, failure, look_of, word_of, words_of, has_looks, place_after, place_after_looks, section_after, cspace_of}
+use Rattle.gh_model.specs.Marks.{Seen, Made, Outcome, Wants, Fails, Grants, InTurn}
+use Rattle.gh_model.specs.Marks.{outcome, failure, look_of, word_of, words_of, has_looks}
+use Rattle.gh_model.specs.Marks.{place_after, place_after_looks, section_after, cspace_of}
 use Rattle.gh_model.specs.History.{Event, event_of, state_at, may_part, caller, retires, reclaims}
 use Rattle.gh_model.specs.Program.{is_exit}
 
@@ -77,6 +82,7 @@ abbrev pub is_revoke : Call → Bool
 is_revoke (CapsRevoke cap) = true
 is_revoke _ = false
 
+-- the entry is a part of a call of caps_revoke
 abbrev pub is_part : Entry → Bool
 is_part (Acted cpu number) = false
 is_part (Part cpu number space slot) = true
@@ -85,7 +91,8 @@ is_part (Reclaimed serial seen) = false
 
 -- the object of such a call: that of its one look
 abbrev pub revoked_object : Event → ℕ
-revoked_object event = option_map_or (λ (word : Word). (granted word).0) (slice_get event.words 0) 0
+revoked_object event =
+    option_map_or (λ (word : Word). (granted word).0) (slice_get event.words 0) 0
 
 -- the capability is of this object
 abbrev pub row_names : ℕ → Option CapabilityRow → Bool
@@ -109,6 +116,7 @@ pub record IsEndOf (calls : List Made) (number entry : ℕ) : Type 0 where
 
 -- the programs' side
 
+-- the call is the exit call
 abbrev pub exits : Made → Bool
 exits made = is_exit made.frame
 
@@ -117,6 +125,7 @@ pub record IsNumbered (front : List Made) (made : Made) : Type 0 where
   pub number : made.mark.number ≡ length front + 1
   pub no_exit : list_any exits front ≡ false
 
+-- there is a call, and it is the exit call
 abbrev pub is_exit_call : Option Made → Bool
 is_exit_call None = false
 is_exit_call (Some made) = exits made

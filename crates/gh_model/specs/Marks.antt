@@ -1,5 +1,7 @@
 -- Finished calls: what their looks found and came to, their places and their sections.
-use Rattle.std.specs.Prelude.{◌≡◌, ◌+◌, ◌*◌, ℕ, Bool, List, [], ◌∷◌, length, take, Option, Some, None, Result, Ok, Err, fold, map, count_by, slice_get, nat_lt, if◌then◌else◌}
+use Rattle.std.specs.Prelude.{◌≡◌, ◌+◌, ◌*◌, ℕ, Bool, List, [], ◌∷◌}
+use Rattle.std.specs.Prelude.{length, take, Option, Some, None, Result, Ok, Err, fold}
+use Rattle.std.specs.Prelude.{map, count_by, slice_get, nat_lt, if◌then◌else◌}
 use Rattle.std.specs.Option.{option_map_or, unwrap_or}
 use Rattle.gh_base.specs.declared.cap_word.Look.{Look}
 use Rattle.gh_base.specs.declared.cap_word.Need.{Need}
@@ -27,18 +29,23 @@ pub record Made : Type 0 where
   pub frame : Frame
   pub seen : List Seen
 
+-- the look of one that was seen
 abbrev pub look_of : Seen → Look
 look_of seen = seen.look
 
+-- the word that a look saw
 abbrev pub word_of : Seen → Word
 word_of seen = seen.word
 
+-- the mark of a call
 abbrev pub mark_of : Made → Mark
 mark_of made = made.mark
 
+-- the frame of a call
 abbrev pub frame_of : Made → Frame
 frame_of made = made.frame
 
+-- the reply to a call
 abbrev pub reply_of : Made → Reply
 reply_of made = made.mark.reply
 
@@ -48,7 +55,8 @@ words_of made = map word_of made.seen
 
 -- P of each item and those before it
 abbrev pub InTurn : {X : Type 0} → (List X → X → Type 0) → List X → Type 0
-InTurn {X} P items = (i : ℕ) (item : X) → slice_get items i ≡ Some item → P (take i items) item
+InTurn {X} P items =
+    (i : ℕ) (item : X) → slice_get items i ≡ Some item → P (take i items) item
 
 -- what the looks of a call came to: one more is wanted, at this slot and with this need; the last
 -- was refused; or every need has its grant
@@ -98,6 +106,7 @@ number (ends.Entry entry) = Some entry
 abbrev pub after_look : ℕ → Seen → ℕ
 after_look last seen = seen.look.place
 
+-- the place of the last look, or the place before them
 abbrev pub place_after_looks : ℕ → List Seen → ℕ
 place_after_looks last seen = fold after_look last seen
 
@@ -111,6 +120,7 @@ place_after calls = fold place_after_call 0 calls
 
 -- sections
 
+-- the call has made a look
 abbrev pub has_looks : Made → Bool
 has_looks made = nat_lt 0 (length made.seen)
 

@@ -1,5 +1,7 @@
 -- Who holds the pages of the machine, and which of them the rows of an address space show.
-use Rattle.std.specs.Prelude.{◌==◌, ◌&&◌, ◌+◌, ◌-◌, ◌≤◌, ℕ, Bool, List, Option, Some, None, IsTrue, find, length, take, drop, slice_get, nat_le, nat_lt, if◌then◌else◌}
+use Rattle.std.specs.Prelude.{◌==◌, ◌&&◌, ◌+◌, ◌-◌, ◌≤◌, ℕ, Bool}
+use Rattle.std.specs.Prelude.{List, Option, Some, None, IsTrue, find, length, take, drop}
+use Rattle.std.specs.Prelude.{slice_get, nat_le, nat_lt, if◌then◌else◌}
 use Rattle.std.specs.List.{list_all}
 use Rattle.gh_base.specs.declared.ids.PageNo.{PageNo}
 use Rattle.gh_base.specs.declared.ids.Serial.{Serial}
@@ -43,11 +45,13 @@ span_access holders row v None = None
 span_access holders row v (Some span) = held_access holders row (row_page span row v)
 
 -- what the row that covers a page gives there
-abbrev pub covering_access : (ℕ → Option Span) → List Serial → ℕ → Option MapRow → Option (PageNo × ℕ)
+abbrev pub covering_access :
+    (ℕ → Option Span) → List Serial → ℕ → Option MapRow → Option (PageNo × ℕ)
 covering_access spans holders v None = None
 covering_access spans holders v (Some row) = span_access holders row v (spans row.extent.0)
 
 -- the machine page and the access at a page of an address space with these rows: none where no row
 -- covers it, or the row's extent doesn't hold the machine page now
-abbrev pub access_of : (ℕ → Option Span) → List Serial → List MapRow → ℕ → Option (PageNo × ℕ)
+abbrev pub access_of :
+    (ℕ → Option Span) → List Serial → List MapRow → ℕ → Option (PageNo × ℕ)
 access_of spans holders rows v = covering_access spans holders v (find (row_covers v) rows)

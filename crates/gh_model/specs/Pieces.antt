@@ -2,6 +2,7 @@
 use Rattle.std.specs.Prelude.{◌==◌, ℕ, Bool, List, [], Option, Some, None}
 use Rattle.std.specs.List.{slice_split}
 
+-- the byte is the one that is wanted
 abbrev pub is_byte_of : ℕ → ℕ → Bool
 is_byte_of wanted byte = byte == wanted
 

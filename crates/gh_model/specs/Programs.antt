@@ -1,5 +1,6 @@
 -- What a program of any kind makes: its answers, and the frames of its calls.
-use Rattle.std.specs.Prelude.{◌==◌, ◌+◌, ℕ, Bool, true, false, List, [], ◌∷◌, Option, Some, None, if◌then◌else◌}
+use Rattle.std.specs.Prelude.{◌==◌, ◌+◌, ℕ, Bool, true, false, List, []}
+use Rattle.std.specs.Prelude.{◌∷◌, Option, Some, None, if◌then◌else◌}
 use Rattle.std.specs.Borrow.{Bor}
 use Rattle.std.specs.Option.{option_map}
 use Rattle.gh_base.specs.declared.frame.Frame.{Frame}
@@ -13,11 +14,13 @@ use Rattle.gh_model.specs.Program.{exit_frame, is_exit, last_number}
 abbrev pub told : Option (Bor Reply) → Option Reply
 told last = option_map (λ (reply : Bor Reply). reply.now) last
 
+-- the step is a call
 abbrev pub is_call : Step → Bool
 is_call (Make frame) = true
 is_call Idle = false
 is_call End = false
 
+-- the step is to wait for a ring
 abbrev pub is_idle : Step → Bool
 is_idle (Make frame) = false
 is_idle Idle = true
@@ -34,7 +37,8 @@ abbrev pub unless_exit : Frame → List Frame → List Frame
 unless_exit frame others = if is_exit frame then [] else others
 
 -- a program as its answers and the states after them
-module _ {P : Type 0} (answer : P → Option Reply → Step) (after : P → Option Reply → P) where
+module _ {P : Type 0} (answer : P → Option Reply → Step)
+    (after : P → Option Reply → P) where
   -- what a program does next where it was given this answer: an idle one is asked again, without a
   -- reply
   abbrev pub step_after : Step → P → Step
@@ -67,7 +71,8 @@ module _ {P : Type 0} (answer : P → Option Reply → Step) (after : P → Opti
   frames_on number standing [] = []
   frames_on number standing (reply ∷ replies) =
       standing.frame
-      ∷ unless_exit standing.frame (frames_on (number + 1) (asked (number + 1) standing.program (Some reply)) replies)
+      ∷ unless_exit standing.frame
+      (frames_on (number + 1) (asked (number + 1) standing.program (Some reply)) replies)
 
   -- the frames of all its calls
   abbrev pub frames_made : P → List Reply → List Frame

@@ -1,5 +1,6 @@
 -- What is read of a state at once.
-use Rattle.std.specs.Prelude.{◌&&◌, ◌-◌, ℕ, Bool, List, Option, Some, None, not, is_some, find, if◌then◌else◌}
+use Rattle.std.specs.Prelude.{◌&&◌, ◌-◌, ℕ, Bool, List, Option, Some}
+use Rattle.std.specs.Prelude.{None, not, is_some, find, if◌then◌else◌}
 use Rattle.gh_base.specs.declared.ids.Serial.{Serial}
 use Rattle.gh_base.specs.declared.kind.Kind.TheVariants as kind
 use Rattle.gh_model.specs.declared.rows.CapabilityRow.{CapabilityRow}
@@ -19,7 +20,9 @@ last_serial s = s.next_serial - 1
 -- the used, free and given units of a live partition
 abbrev pub partition_units : State → ℕ → Option (ℕ × ℕ × ℕ)
 partition_units s serial =
-    if is_kind s serial kind.Partition then Some (used_units s serial, free_units s serial, given_units s serial) else None
+    if is_kind s serial kind.Partition
+    then Some (used_units s serial, free_units s serial, given_units s serial)
+    else None
 
 -- the word that a CPU's look at a capability number finds now
 abbrev pub look_word : State → ℕ → ℕ → Word
@@ -30,6 +33,7 @@ abbrev pub plain_object : Option CapabilityRow → Option Serial
 plain_object None = None
 plain_object (Some row) = if row.valid && not row.master then Some row.serial else None
 
+-- the object that a slot grants, if it has a capability
 abbrev pub plain_cap : State → ℕ → ℕ → Option Serial
 plain_cap s cspace slot = plain_object (find (fills cspace slot) s.caps)
 

@@ -1,5 +1,6 @@
 -- What refers to an object. An object without references is doomed.
-use Rattle.std.specs.Prelude.{◌==◌, ◌&&◌, ◌||◌, ◌+◌, not, ℕ, Bool, true, false, List, Option, Some, None, count_by, find}
+use Rattle.std.specs.Prelude.{◌==◌, ◌&&◌, ◌||◌, ◌+◌, not, ℕ, Bool}
+use Rattle.std.specs.Prelude.{true, false, List, Option, Some, None, count_by, find}
 use Rattle.gh_model.specs.declared.rows.ObjectRow.{ObjectRow}
 use Rattle.gh_model.specs.declared.rows.PartitionRow.{PartitionRow}
 use Rattle.gh_model.specs.declared.rows.ExtentRow.{ExtentRow}
@@ -45,8 +46,10 @@ is_space_of serial (Some row) = row.space.0 == serial
 -- a link that uses it: the VM's address space, the extent or a queue
 abbrev pub uses_link : List CpuRow → ℕ → LinkRow → Bool
 uses_link cpus serial row =
-    is_space_of serial (find (is_cpu row.vm.0) cpus) || (row.extent.0 == serial) || (row.request.0 == serial) || (row.reply.0 == serial)
+    is_space_of serial (find (is_cpu row.vm.0) cpus) || (row.extent.0 == serial)
+    || (row.request.0 == serial) || (row.reply.0 == serial)
 
+-- the link refers to the object
 abbrev pub is_link_of : State → ℕ → LinkRow → Bool
 is_link_of s serial row = uses_link s.cpus serial row
 
@@ -55,6 +58,7 @@ abbrev pub is_share : ParcelKind → Bool
 is_share Lend = false
 is_share Share = true
 
+-- the parcel is a share of the extent
 abbrev pub is_share_of : ℕ → Parcel → Bool
 is_share_of serial parcel = is_share parcel.kind && (parcel.extent.0 == serial)
 
@@ -62,6 +66,7 @@ is_share_of serial parcel = is_share parcel.kind && (parcel.extent.0 == serial)
 abbrev pub is_boot_partition : ℕ → PartitionRow → Bool
 is_boot_partition serial row = (row.serial.0 == serial) && (row.parent.0 == 0)
 
+-- the row is that of the extent, which has no parent
 abbrev pub is_root_extent : ℕ → ExtentRow → Bool
 is_root_extent serial row = (row.serial.0 == serial) && (row.parent.0 == 0)
 

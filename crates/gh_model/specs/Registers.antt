@@ -1,21 +1,34 @@
--- The register table: for each hypercall its function number, its registers, the register that must be zero, the shape
--- that it asks of them, and the capabilities that it looks up. The numbers up to 8061 and their registers are those of
--- the Linux drivers; the others, and which error answers which cause, are this project's own.
-use Rattle.std.specs.Prelude.{◌==◌, ◌&&◌, ◌||◌, ◌+◌, ◌-◌, ◌/◌, ◌%◌, ◌^◌, ℕ, Bool, true, false, not, List, [], ◌∷◌, length, Option, Some, None, Result, Ok, Err, find, slice_index, nat_lt, if◌then◌else◌}
+-- The register table: for each hypercall its function number, its registers, the register that
+-- must be zero, the shape that it asks of them, and the capabilities that it looks up. The numbers
+-- up to 8061 and their registers are those of the Linux drivers; the others, and which error
+-- answers which cause, are this project's own.
+use Rattle.std.specs.Prelude.{◌==◌, ◌&&◌, ◌||◌, ◌+◌, ◌-◌, ◌/◌}
+use Rattle.std.specs.Prelude.{◌%◌, ◌^◌, ℕ, Bool, true, false, not, List, []}
+use Rattle.std.specs.Prelude.{◌∷◌, length, Option, Some, None, Result, Ok, Err}
+use Rattle.std.specs.Prelude.{find, slice_index, nat_lt, if◌then◌else◌}
 use Rattle.std.specs.List.{list_any}
 use Rattle.gh_base.specs.declared.call.Call.{Call}
-use Rattle.gh_base.specs.declared.call.Call.TheVariants.{Identify, Exit, BellSend, BellSetMask, BellReceive, BellReset, MsgqSend, MsgqRecv, MsgqFlush, Map, Unmap, Donate, Derive, AsLookup, Create, ConfigurePartition, ConfigureQueue, Activate, CapCopy, CapDelete, CapRevoke, CapsRevoke, RmAct, RmPoll}
+use Rattle.gh_base.specs.declared.call.Call.TheVariants.{Identify, Exit, BellSend, BellSetMask}
+use Rattle.gh_base.specs.declared.call.Call.TheVariants.{BellReceive, BellReset, MsgqSend}
+use Rattle.gh_base.specs.declared.call.Call.TheVariants.{MsgqRecv, MsgqFlush, Map, Unmap}
+use Rattle.gh_base.specs.declared.call.Call.TheVariants.{Donate, Derive, AsLookup, Create}
+use Rattle.gh_base.specs.declared.call.Call.TheVariants.{ConfigurePartition, ConfigureQueue}
+use Rattle.gh_base.specs.declared.call.Call.TheVariants.{Activate, CapCopy, CapDelete}
+use Rattle.gh_base.specs.declared.call.Call.TheVariants.{CapRevoke, CapsRevoke, RmAct, RmPoll}
 use Rattle.gh_base.specs.declared.cap_word.Need.{Need}
 use Rattle.gh_base.specs.declared.errno.Errno.{Errno}
-use Rattle.gh_base.specs.declared.errno.Errno.TheVariants.{Unimplemented, ArgInval, ArgSize, ArgAlign}
+use Rattle.gh_base.specs.declared.errno.Errno.TheVariants.{Unimplemented, ArgInval}
+use Rattle.gh_base.specs.declared.errno.Errno.TheVariants.{ArgSize, ArgAlign}
 use Rattle.gh_base.specs.declared.frame.Frame.{Frame}
 use Rattle.gh_base.specs.declared.ids.Rights.{Rights}
 use Rattle.gh_base.specs.declared.ids.TheConstants.Rights as right
 use Rattle.gh_base.specs.declared.kind.Kind.{Kind}
 use Rattle.gh_base.specs.declared.kind.Kind.TheVariants as kind
-use Rattle.gh_base.specs.declared.limits.TheConstants.{MESSAGE_BYTES, PAGE_BYTES, PARTITION_UNITS, QUEUE_DEPTH, VMS}
+use Rattle.gh_base.specs.declared.limits.TheConstants.{MESSAGE_BYTES, PAGE_BYTES}
+use Rattle.gh_base.specs.declared.limits.TheConstants.{PARTITION_UNITS, QUEUE_DEPTH, VMS}
 
--- a row of the table: the function's number, its register that must be zero where it has one, and its call
+-- a row of the table: the function's number, its register that must be zero where it has one, and
+-- its call
 pub record Function : Type 0 where
   pub number : ℕ
   pub zero : Option ℕ
@@ -35,11 +48,18 @@ functions =
     plain 0x8000 Identify
     ∷ taking 0x8012 2 (λ x. BellSend (slice_index x 1) (slice_index x 2))
     ∷ taking 0x8015 3 (λ x. BellSetMask (slice_index x 1) (slice_index x 2) (slice_index x 3))
-    ∷ taking 0x801b 4 (λ x. MsgqSend (slice_index x 1) (slice_index x 2) (slice_index x 3) (slice_index x 4))
+    ∷ taking 0x801b 4
+    (λ x. MsgqSend (slice_index x 1) (slice_index x 2) (slice_index x 3) (slice_index x 4))
     ∷ taking 0x801c 3 (λ x. MsgqRecv (slice_index x 1) (slice_index x 2) (slice_index x 3))
-    ∷ taking 0x802b 7 (λ x. Map (slice_index x 1) (slice_index x 2) (slice_index x 3) (slice_index x 4) (slice_index x 5) (slice_index x 6) (slice_index x 7))
-    ∷ taking 0x802c 6 (λ x. Unmap (slice_index x 1) (slice_index x 2) (slice_index x 3) (slice_index x 4) (slice_index x 5) (slice_index x 6))
-    ∷ taking 0x8061 5 (λ x. Donate (slice_index x 1) (slice_index x 2) (slice_index x 3) (slice_index x 4) (slice_index x 5))
+    ∷ taking 0x802b 7
+    (λ x. Map (slice_index x 1) (slice_index x 2) (slice_index x 3) (slice_index x 4)
+    (slice_index x 5) (slice_index x 6) (slice_index x 7))
+    ∷ taking 0x802c 6
+    (λ x. Unmap (slice_index x 1) (slice_index x 2) (slice_index x 3) (slice_index x 4)
+    (slice_index x 5) (slice_index x 6))
+    ∷ taking 0x8061 5
+    (λ x. Donate (slice_index x 1) (slice_index x 2) (slice_index x 3) (slice_index x 4)
+    (slice_index x 5))
     ∷ taking 0x8201 3 (λ x. Create (slice_index x 1) (slice_index x 2) (slice_index x 3))
     ∷ taking 0x8202 2 (λ x. ConfigurePartition (slice_index x 1) (slice_index x 2))
     ∷ taking 0x8203 3 (λ x. ConfigureQueue (slice_index x 1) (slice_index x 2) (slice_index x 3))
@@ -51,7 +71,9 @@ functions =
     ∷ taking 0x8220 2 (λ x. BellReceive (slice_index x 1) (slice_index x 2))
     ∷ taking 0x8221 1 (λ x. BellReset (slice_index x 1))
     ∷ taking 0x8222 1 (λ x. MsgqFlush (slice_index x 1))
-    ∷ taking 0x8230 5 (λ x. Derive (slice_index x 1) (slice_index x 2) (slice_index x 3) (slice_index x 4) (slice_index x 5))
+    ∷ taking 0x8230 5
+    (λ x. Derive (slice_index x 1) (slice_index x 2) (slice_index x 3) (slice_index x 4)
+    (slice_index x 5))
     ∷ taking 0x8231 2 (λ x. AsLookup (slice_index x 1) (slice_index x 2))
     ∷ plain 0x8240 Exit
     ∷ taking 0x8241 2 (λ x. RmAct (slice_index x 1) (slice_index x 2))
@@ -62,7 +84,8 @@ functions =
 abbrev pub built : List ℕ
 built = 0x8000 ∷ 0x8012 ∷ 0x8240 ∷ []
 
--- a fast 64-bit call to the vendor hypervisor: 0xC6000000 and the function, in the low 32 bits of x0
+-- a fast 64-bit call to the vendor hypervisor: 0xC6000000 and the function, in the low 32 bits of
+-- x0
 abbrev pub function_number : Frame → ℕ
 function_number frame = slice_index frame.x 0 % 2 ^ 32 - 0xc600_0000
 
@@ -79,24 +102,32 @@ is_unaligned n = not (n % PAGE_BYTES == 0)
 abbrev pub has_partial : ℕ → Bool
 has_partial flags = flags % 2 == 1
 
+-- the flags have a bit that isn't taken
 abbrev pub has_foreign_flags : ℕ → Bool
-has_foreign_flags flags = not ((flags == 0) || (flags == 1) || (flags == 0x8000_0000) || (flags == 0x8000_0001))
+has_foreign_flags flags =
+    not ((flags == 0) || (flags == 1) || (flags == 0x8000_0000) || (flags == 0x8000_0001))
 
 -- user access is bits 2..0 of the attributes, kernel access bits 6..4, the memory type bits 23..16
 abbrev pub user_access : ℕ → ℕ
 user_access attributes = attributes % 8
 
+-- bits 4 to 6 of the attributes: what the kernel may do
 abbrev pub kernel_access : ℕ → ℕ
 kernel_access attributes = attributes / 16 % 8
 
+-- the attributes have a bit that isn't taken
 abbrev pub has_foreign_attributes : ℕ → Bool
 has_foreign_attributes attributes =
-    not (attributes / 8 % 2 == 0) || not (attributes / 128 % 512 == 0) || not (attributes / 16777216 == 0)
+    not (attributes / 8 % 2 == 0) || not (attributes / 128 % 512 == 0)
+    || not (attributes / 16777216 == 0)
 
 -- alignment of base, and with PARTIAL of offset and size; then PARTIAL with size 0
 abbrev pub range_refusals : ℕ → ℕ → ℕ → ℕ → List (Bool × Errno)
-range_refusals flags base offset size =
-    (is_unaligned base || (has_partial flags && (is_unaligned offset || is_unaligned size)), ArgAlign)
+range_refusals flags base offset size = (
+  is_unaligned base
+      || (has_partial flags && (is_unaligned offset || is_unaligned size)),
+  ArgAlign,
+)
     ∷ (has_partial flags && (size == 0), ArgSize) ∷ []
 
 -- donate's options: the type is bits 7..0, bit 31 (NOSYNC) is taken
@@ -123,7 +154,8 @@ shape_refusals (Donate options «from» to offset size) bytes =
 shape_refusals (Derive child parent offset size access) bytes =
     (is_unaligned offset || is_unaligned size, ArgAlign) ∷ (size == 0, ArgSize)
     ∷ ((access == 0) || (access == 3) || nat_lt 7 access, ArgInval) ∷ []
-shape_refusals (Create partition cspace number) bytes = ((number == 0) || nat_lt 6 number, ArgInval) ∷ []
+shape_refusals (Create partition cspace number) bytes =
+    ((number == 0) || nat_lt 6 number, ArgInval) ∷ []
 shape_refusals (ConfigurePartition cap quota) bytes =
     ((quota == 0) || nat_lt PARTITION_UNITS quota, ArgInval) ∷ []
 shape_refusals (ConfigureQueue cap depth size) bytes =
@@ -131,7 +163,8 @@ shape_refusals (ConfigureQueue cap depth size) bytes =
     ∷ ((size == 0) || nat_lt MESSAGE_BYTES size, ArgInval) ∷ []
 shape_refusals (CapCopy cspace source mask) bytes = (nat_lt 0xffff mask, ArgInval) ∷ []
 shape_refusals (RmAct cap vm) bytes =
-    ((vm == 0) || nat_lt VMS vm, ArgInval) ∷ (nat_lt bytes 4 || nat_lt 14620 bytes, ArgSize) ∷ []
+    ((vm == 0) || nat_lt VMS vm, ArgInval) ∷ (nat_lt bytes 4 || nat_lt 14620 bytes, ArgSize)
+    ∷ []
 shape_refusals _ bytes = []
 
 -- a register that must be zero and isn't
@@ -139,23 +172,29 @@ abbrev pub breaks_zero : List ℕ → Option ℕ → Bool
 breaks_zero x None = false
 breaks_zero x (Some register) = not (slice_index x register == 0)
 
+-- the call, unless there is a refusal
 abbrev pub shaped : Call → Option Errno → Result Call Errno
 shaped call None = Ok call
 shaped call (Some errno) = Err errno
 
+-- the call of a frame whose function has this row, if it has one
 abbrev pub read_function : Frame → Option Function → Result Call Errno
 read_function frame None = Err Unimplemented
 read_function frame (Some row) =
     if breaks_zero frame.x row.zero then Err ArgInval
-    else shaped (row.call frame.x) (first_of (shape_refusals (row.call frame.x) (length frame.bytes)))
+    else shaped (row.call frame.x)
+    (first_of (shape_refusals (row.call frame.x) (length frame.bytes)))
 
--- the call of a frame: it is refused where it names no function, then for its zero register, then for its shape
+-- the call of a frame: it is refused where it names no function, then for its zero register, then
+-- for its shape
 abbrev pub shape_of : Frame → Result Call Errno
 shape_of frame = read_function frame (find (λ row. row.number == function_number frame) functions)
 
 -- the same, with the functions that are built
 abbrev pub call_of : Frame → Result Call Errno
-call_of frame = if list_any (λ number. number == function_number frame) built then shape_of frame else Err Unimplemented
+call_of frame =
+    if list_any (λ number. number == function_number frame) built then shape_of frame
+    else Err Unimplemented
 
 -- a capability of this kind with these rights
 abbrev pub of_kind : Kind → Rights → Need
@@ -195,7 +234,8 @@ needs_of (Derive child parent offset size access) =
     (child, of_kind kind.Extent right.DERIVE) ∷ (parent, of_kind kind.Extent right.DERIVE) ∷ []
 needs_of (AsLookup space address) = space_need space right.LOOKUP []
 needs_of (Create partition cspace number) =
-    (partition, of_kind kind.Partition right.CREATE) ∷ (cspace, of_kind kind.Cspace right.CREATE) ∷ []
+    (partition, of_kind kind.Partition right.CREATE) ∷ (cspace, of_kind kind.Cspace right.CREATE)
+    ∷ []
 needs_of (ConfigurePartition cap quota) = (cap, of_kind kind.Partition right.ACTIVATE) ∷ []
 needs_of (ConfigureQueue cap depth size) = (cap, of_kind kind.Queue right.ACTIVATE) ∷ []
 needs_of (Activate cap) = (cap, of_any_kind right.ACTIVATE) ∷ []

@@ -1,5 +1,6 @@
 -- Rows of the state: how one is found, and how one is changed.
-use Rattle.std.specs.Prelude.{◌==◌, ◌&&◌, ℕ, Bool, List, Option, Some, None, find, slice_set, slice_get}
+use Rattle.std.specs.Prelude.{◌==◌, ◌&&◌, ℕ, Bool, List, Option}
+use Rattle.std.specs.Prelude.{Some, None, find, slice_set, slice_get}
 use Rattle.std.specs.List.{position_or_len}
 use Rattle.gh_model.specs.declared.rows.ObjectRow.{ObjectRow}
 use Rattle.gh_model.specs.declared.rows.PartitionRow.{PartitionRow}
@@ -16,6 +17,7 @@ abbrev pub put_row : {R : Type 0} → (R → R) → List R → ℕ → Option R 
 put_row change rows at None = rows
 put_row change rows at (Some row) = slice_set rows at (change row)
 
+-- the rows with the first that passes the test changed
 abbrev pub change_row : {R : Type 0} → (R → Bool) → (R → R) → List R → List R
 change_row test change rows =
     put_row change rows (position_or_len test rows) (slice_get rows (position_or_len test rows))
@@ -24,24 +26,31 @@ change_row test change rows =
 abbrev pub is_object : ℕ → ObjectRow → Bool
 is_object serial row = row.serial.0 == serial
 
+-- the row is that of the partition with this serial
 abbrev pub is_partition : ℕ → PartitionRow → Bool
 is_partition serial row = row.serial.0 == serial
 
+-- the row is that of the extent with this serial
 abbrev pub is_extent : ℕ → ExtentRow → Bool
 is_extent serial row = row.serial.0 == serial
 
+-- the row is that of the doorbell with this serial
 abbrev pub is_bell : ℕ → BellRow → Bool
 is_bell serial row = row.serial.0 == serial
 
+-- the row is that of the queue with this serial
 abbrev pub is_queue : ℕ → QueueRow → Bool
 is_queue serial row = row.serial.0 == serial
 
+-- the row is that of the CPU with this number
 abbrev pub is_cpu : ℕ → CpuRow → Bool
 is_cpu number row = row.cpu.0 == number
 
+-- the row of the object with this serial
 abbrev pub object_row : State → ℕ → Option ObjectRow
 object_row s serial = find (is_object serial) s.objects
 
+-- the row of the CPU with this number
 abbrev pub cpu_row : State → ℕ → Option CpuRow
 cpu_row s number = find (is_cpu number) s.cpus
 

@@ -1,5 +1,6 @@
 -- A run: a legal history in which each CPU's calls are those of its program.
-use Rattle.std.specs.Prelude.{◌≡◌, ◌==◌, ℕ, Bool, List, [], ◌∷◌, map, filter, Option, Some, None, slice_get}
+use Rattle.std.specs.Prelude.{◌≡◌, ◌==◌, ℕ, Bool, List, [], ◌∷◌}
+use Rattle.std.specs.Prelude.{map, filter, Option, Some, None, slice_get}
 use Rattle.gh_base.specs.declared.frame.Frame.{Frame}
 use Rattle.gh_base.specs.declared.frame.Reply.{Reply}
 use Rattle.gh_base.specs.declared.mark.Mark.{Mark}
@@ -19,6 +20,7 @@ abbrev pub FollowPrograms : (ℕ → List Reply → List Frame) → (ℕ → Lis
 FollowPrograms frames calls =
     (cpu : ℕ) → map frame_of (calls cpu) ≡ frames cpu (map reply_of (calls cpu))
 
+-- the mark is of a call of this CPU
 abbrev pub is_mark_of : ℕ → Mark → Bool
 is_mark_of cpu mark = mark.cpu.0 == cpu
 

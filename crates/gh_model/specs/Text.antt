@@ -1,5 +1,7 @@
 -- The history text: the entries, the calls and the state, line by line.
-use Rattle.std.specs.Prelude.{◌==◌, ◌&&◌, ◌||◌, ◌+◌, ◌/◌, ◌%◌, not, ℕ, zero, suc, Bool, false, List, [], ◌∷◌, ◌++◌, length, Option, Some, None, codes, filter, if◌then◌else◌}
+use Rattle.std.specs.Prelude.{◌==◌, ◌&&◌, ◌||◌, ◌+◌, ◌/◌, ◌%◌, not}
+use Rattle.std.specs.Prelude.{ℕ, zero, suc, Bool, false, List, [], ◌∷◌, ◌++◌}
+use Rattle.std.specs.Prelude.{length, Option, Some, None, codes, filter, if◌then◌else◌}
 use Rattle.std.specs.List.{flat_map, enumerate_from}
 use Rattle.std.specs.Fmt.{decimal, digits, digit_glyph}
 use Rattle.gh_base.specs.Kind.{kind_number}
@@ -38,20 +40,26 @@ byte_text byte = digit_glyph false (byte / 16) ∷ digit_glyph false (byte % 16)
 -- what an entry says behind its number
 abbrev pub entry_words : Entry → List ℕ
 entry_words (Acted cpu number) = codes " act" ++ (spaced cpu.0 ++ spaced number)
-entry_words (Part cpu number space slot) = codes " part" ++ (spaced cpu.0 ++ (spaced number ++ (spaced space.0 ++ spaced slot)))
+entry_words (Part cpu number space slot) =
+    codes " part" ++ (spaced cpu.0 ++ (spaced number ++ (spaced space.0 ++ spaced slot)))
 entry_words (Retired serial seen) = codes " retire" ++ (spaced serial.0 ++ flat_map spaced seen)
 entry_words (Reclaimed serial seen) = codes " reclaim" ++ (spaced serial.0 ++ flat_map spaced seen)
 
+-- the line of an entry with its number
 abbrev pub entry_line : ℕ × Entry → List ℕ
 entry_line numbered = decimal numbered.0 ++ (entry_words numbered.1 ++ codes "\n")
 
+-- the words of a look
 abbrev pub look_words : Look → List ℕ
 look_words look = codes " look" ++ (spaced look.slot ++ spaced look.place)
 
+-- the words of what an unfinished reclaim found held
 abbrev pub held_words : Held → List ℕ
 held_words (Pins serial pins) = codes " pins" ++ (spaced serial.0 ++ spaced pins)
-held_words (Reading serial cpu counter) = codes " reading" ++ (spaced serial.0 ++ (spaced cpu.0 ++ spaced counter))
+held_words (Reading serial cpu counter) =
+    codes " reading" ++ (spaced serial.0 ++ (spaced cpu.0 ++ spaced counter))
 
+-- the words of an end
 abbrev pub end_words : End → List ℕ
 end_words ends.Frame = codes " frame"
 end_words ends.Refused = codes " refused"
@@ -64,32 +72,48 @@ end_words (ends.Entry number) = codes " entry" ++ spaced number
 abbrev pub bytes_words : List ℕ → List ℕ
 bytes_words bytes = if length bytes == 0 then [] else codes " : " ++ flat_map byte_text bytes
 
+-- the words of a reply: its registers and its bytes
 abbrev pub reply_words : Reply → List ℕ
 reply_words reply = codes " =" ++ (flat_map spaced_register reply.x ++ bytes_words reply.bytes)
 
+-- the front of a call's line: its CPU, its number and its section
 abbrev pub call_head : Mark → List ℕ
 call_head mark = codes "call" ++ (spaced mark.cpu.0 ++ (spaced mark.number ++ spaced mark.section))
 
+-- the line of a call
 abbrev pub call_line : Mark → List ℕ
-call_line mark = call_head mark ++ (flat_map look_words mark.looks ++ (end_words mark.end ++ (reply_words mark.reply ++ codes "\n")))
+call_line mark =
+    call_head mark
+    ++ (flat_map look_words mark.looks
+    ++ (end_words mark.end ++ (reply_words mark.reply ++ codes "\n")))
 
 -- the calls of one CPU
 abbrev pub cpu_lines : List Mark → CpuRow → List ℕ
 cpu_lines marks row = flat_map call_line (filter (is_mark_of row.cpu.0) marks)
 
+-- the object is a partition
 abbrev pub is_partition_row : ObjectRow → Bool
 is_partition_row row = kind_number row.kind == 1
 
+-- the object is an address space
 abbrev pub is_space_row : ObjectRow → Bool
 is_space_row row = kind_number row.kind == 3
 
 -- the units of a live partition
 abbrev pub units_line : State → ObjectRow → List ℕ
-units_line s row = codes "units" ++ (spaced row.serial.0 ++ (spaced (used_units s row.serial.0) ++ (spaced (free_units s row.serial.0) ++ (spaced (given_units s row.serial.0) ++ codes "\n"))))
+units_line s row =
+    codes "units"
+    ++ (spaced row.serial.0
+    ++ (spaced (used_units s row.serial.0)
+    ++ (spaced (free_units s row.serial.0) ++ (spaced (given_units s row.serial.0) ++ codes "\n"))))
 
 -- a run of pages of an address space
 abbrev pub run_line : ℕ → PageRun → List ℕ
-run_line space run = codes "access" ++ (spaced space ++ (spaced run.page ++ (spaced run.count ++ (spaced run.machine.0 ++ (spaced run.access.0 ++ codes "\n")))))
+run_line space run =
+    codes "access"
+    ++ (spaced space
+    ++ (spaced run.page
+    ++ (spaced run.count ++ (spaced run.machine.0 ++ (spaced run.access.0 ++ codes "\n")))))
 
 -- a run with no page yet
 abbrev pub no_run : PageRun
@@ -100,9 +124,11 @@ abbrev pub goes_on : PageRun → PageNo × Access → Bool
 goes_on run found =
     not (run.count == 0) && (found.0.0 == run.machine.0 + run.count) && (found.1.0 == run.access.0)
 
+-- a run with one page more
 abbrev pub longer : PageRun → PageRun
 longer run = record run { count = run.count + 1 }
 
+-- a run of one page, which leads there
 abbrev pub new_run : ℕ → PageNo × Access → PageRun
 new_run page found = record { page = page; count = 1; machine = found.0; access = found.1 }
 
@@ -115,6 +141,7 @@ open_run run page (Some found) = if goes_on run found then longer run else new_r
 abbrev pub ended_run : ℕ → PageRun → Bool → List ℕ
 ended_run space run goes = if goes || (run.count == 0) then [] else run_line space run
 
+-- the page leads where the run goes on
 abbrev pub goes_on_with : PageRun → Option (PageNo × Access) → Bool
 goes_on_with run None = false
 goes_on_with run (Some found) = goes_on run found
@@ -123,7 +150,8 @@ goes_on_with run (Some found) = goes_on run found
 abbrev pub runs_from : State → ℕ → PageRun → List ℕ → List ℕ
 runs_from s space run [] = ended_run space run false
 runs_from s space run (page ∷ pages) =
-    ended_run space run (goes_on_with run (access_at s space page)) ++ runs_from s space (open_run run page (access_at s space page)) pages
+    ended_run space run (goes_on_with run (access_at s space page))
+    ++ runs_from s space (open_run run page (access_at s space page)) pages
 
 -- so many pages from one on
 unfoldable pub pages_from : ℕ → ℕ → List ℕ
@@ -134,14 +162,24 @@ pages_from page (suc more) = page ∷ pages_from (page + 1) more
 abbrev pub space_lines : State → ObjectRow → List ℕ
 space_lines s row = runs_from s row.serial.0 no_run (pages_from 0 4096)
 
+-- the part of the entries, each with its number
 abbrev pub entries_part : List Entry → List ℕ
-entries_part entries = codes "history" ++ (spaced (length entries) ++ (codes "\n" ++ flat_map entry_line (enumerate_from 1 entries)))
+entries_part entries =
+    codes "history"
+    ++ (spaced (length entries) ++ (codes "\n" ++ flat_map entry_line (enumerate_from 1 entries)))
 
+-- the part of the calls, CPU by CPU in order
 abbrev pub calls_part : List Mark → State → List ℕ
-calls_part marks s = codes "calls" ++ (spaced (length marks) ++ (codes "\n" ++ flat_map (cpu_lines marks) (cpus_in_order s)))
+calls_part marks s =
+    codes "calls"
+    ++ (spaced (length marks) ++ (codes "\n" ++ flat_map (cpu_lines marks) (cpus_in_order s)))
 
+-- the part of the last state: the units of each partition, and the runs of each space
 abbrev pub state_part : State → List ℕ
-state_part s = codes "state\n" ++ (flat_map (units_line s) (filter is_partition_row s.objects) ++ (flat_map (space_lines s) (filter is_space_row s.objects) ++ codes "end\n"))
+state_part s =
+    codes "state\n"
+    ++ (flat_map (units_line s) (filter is_partition_row s.objects)
+    ++ (flat_map (space_lines s) (filter is_space_row s.objects) ++ codes "end\n"))
 
 -- the text of a history, its calls and the state after it
 abbrev pub history_text : List Entry → List Mark → State → List ℕ

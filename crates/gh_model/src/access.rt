@@ -1,8 +1,10 @@
 //! Which machine page stands at a page of an address space.
 
-ghost use Rattle.std.specs.Prelude.{◌≡◌, ◌<◌, ◌≤◌, ◌+◌, ◌^◌, Option, OnSome, length, find, slice_get, nat_le, nat_lt, ◌&&◌};
+ghost use Rattle.std.specs.Prelude.{◌≡◌, ◌<◌, ◌≤◌, ◌+◌, ◌^◌, Option};
+ghost use Rattle.std.specs.Prelude.{OnSome, length, find, slice_get, nat_le, nat_lt, ◌&&◌};
 ghost use Rattle.std.specs.Bool.{OnTrue};
-ghost use Rattle.gh_model.specs.Access.{access_at, covers, covered_access, row_access, is_holder, named_page};
+ghost use Rattle.gh_model.specs.Access.{access_at, covers, covered_access};
+ghost use Rattle.gh_model.specs.Access.{row_access, is_holder, named_page};
 
 use crate::lookup::extent_row;
 use crate::rows::{ExtentRow, MappingRow};

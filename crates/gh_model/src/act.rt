@@ -4,7 +4,8 @@ ghost use Rattle.std.specs.Prelude.{◌≡◌, ◌<◌, [], Option, IfOk, OnErr}
 ghost use Rattle.gh_base.specs.declared.limits.TheConstants.{HISTORY_ENTRIES};
 ghost use Rattle.gh_model.specs.Act.{Judges, counted};
 ghost use Rattle.gh_model.specs.Boot.{cpu_cspace};
-ghost use Rattle.gh_model.specs.Decide.{decision as decision_of, has_moved, same_row, same_rows, same_word, source_word, verdict};
+ghost use Rattle.gh_model.specs.Decide.{decision as decision_of, has_moved, same_row};
+ghost use Rattle.gh_model.specs.Decide.{same_rows, same_word, source_word, verdict};
 ghost use Rattle.gh_model.specs.Small.{IsKept};
 
 use crate::capability_calls::done;

@@ -1,7 +1,10 @@
 //! What the calls on doorbells come to.
 
 ghost use Rattle.std.specs.Prelude.{◌≡◌, ◌∷◌, [], Option, IfOk};
-ghost use Rattle.gh_model.specs.BellCalls.{sent, bell_send as bell_send_of, received, bell_receive as bell_receive_of, masked, bell_set_mask as bell_set_mask_of, bell_reset as bell_reset_of};
+ghost use Rattle.gh_model.specs.BellCalls.{sent, bell_send as bell_send_of, received};
+ghost use Rattle.gh_model.specs.BellCalls.{bell_receive as bell_receive_of, masked};
+ghost use Rattle.gh_model.specs.BellCalls.{bell_set_mask as bell_set_mask_of};
+ghost use Rattle.gh_model.specs.BellCalls.{bell_reset as bell_reset_of};
 
 use crate::capability_calls::{done, done_with, make_one};
 use crate::change::{Change, Decision};
@@ -91,7 +94,8 @@ pub(crate) fn bell_set_mask<R: StateReads>(
     enable: u64,
     ack: u64,
 ) -> Result<Decision, NoMemory>
-    ensures { IfOk result (λ decision. decision ≡ bell_set_mask_of (R.rows rows.now) bell enable ack) }
+    ensures { IfOk result
+        (λ decision. decision ≡ bell_set_mask_of (R.rows rows.now) bell enable ack) }
 {
     masked(alloc, enable, ack, rows.bell(bell))
 }

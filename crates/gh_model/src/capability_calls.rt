@@ -3,7 +3,11 @@
 ghost use Rattle.std.specs.Prelude.{◌≡◌, ◌∷◌, [], length, Option, IfOk};
 ghost use Rattle.gh_model.specs.Decisions.{make_one, done, done_with};
 ghost use Rattle.gh_model.specs.Boot.{cpu_cspace};
-ghost use Rattle.gh_model.specs.CapabilityCalls.{copy_of, copied_into, is_valid_of, copied, cap_copy as cap_copy_of, deleted, cap_delete as cap_delete_of, revoked, cap_revoke as cap_revoke_of, caps_revoke as caps_revoke_of};
+ghost use Rattle.gh_model.specs.CapabilityCalls.{copy_of, copied_into, is_valid_of};
+ghost use Rattle.gh_model.specs.CapabilityCalls.{copied, cap_copy as cap_copy_of};
+ghost use Rattle.gh_model.specs.CapabilityCalls.{deleted, cap_delete as cap_delete_of};
+ghost use Rattle.gh_model.specs.CapabilityCalls.{revoked, cap_revoke as cap_revoke_of};
+ghost use Rattle.gh_model.specs.CapabilityCalls.{caps_revoke as caps_revoke_of};
 
 use crate::change::{Change, Decision};
 use crate::rows::{CapabilityRow, CpuRow};
@@ -74,7 +78,8 @@ fn copied<R: StateReads>(
     mask: u64,
     source: Option<CapabilityRow>,
 ) -> Result<Decision, NoMemory>
-    ensures { IfOk result (λ decision. decision ≡ copied (R.rows rows.now) cspace object mask source) }
+    ensures { IfOk result
+        (λ decision. decision ≡ copied (R.rows rows.now) cspace object mask source) }
 {
     match source {
         Some(row) if row.valid && row.serial == object => {
@@ -105,7 +110,8 @@ pub(crate) fn cap_copy<R: StateReads>(
     source: u64,
     mask: u64,
 ) -> Result<Decision, NoMemory>
-    ensures { IfOk result (λ decision. decision ≡ cap_copy_of (R.rows rows.now) cpu.0 cspace object source mask) }
+    ensures { IfOk result
+        (λ decision. decision ≡ cap_copy_of (R.rows rows.now) cpu.0 cspace object source mask) }
 {
     let word = rows.word(cspace_of(rows, cpu), source);
     copied(alloc, rows, cspace, object, mask, word.row)

@@ -8,8 +8,8 @@ use std::alloc::AllocError;
 /// Why a file isn't read.
 #[derive(Clone, Copy, Debug, PartialEq, Eq)]
 pub enum FileErr {
-    /// The first bad line of a boot file or call file, or the first bad item of a schedule. Lines and
-    /// items count from 1.
+    /// The first bad line of a boot file or call file, or the first bad item of a schedule. Lines
+    /// and items count from 1.
     Bad(u32),
     NoMemory,
 }

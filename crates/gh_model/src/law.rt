@@ -13,8 +13,9 @@ ghost use Rattle.gh_model.specs.Run.{IsRun};
 use crate::boot::Boot;
 use crate::program::Program;
 
-/// Every run by whole calls of a boot file without a resource manager is a legal history, graced, and
-/// each CPU's calls are those of its program. The function does nothing; its clause is the law.
+/// Every run by whole calls of a boot file without a resource manager is a legal history, graced,
+/// and each CPU's calls are those of its program. The function does nothing; its clause is the
+/// law.
 pub fn run_is_legal<P: Program>(boot: &Boot)
     ensures { (program : ℕ → P) → has_manager boot.now ≡ false
         → IsRun boot.now (λ cpu. frames_made P.answer P.after (program cpu))
@@ -25,9 +26,10 @@ pub fn run_is_legal<P: Program>(boot: &Boot)
     let _lines = boot.lines();
 }
 
-/// What is said of the finished calls of a CPU stays as the history grows. The function does nothing;
-/// its clause is the law.
+/// What is said of the finished calls of a CPU stays as the history grows. The function does
+/// nothing; its clause is the law.
 pub fn calls_stay_legal()
     ensures { (boot : Rows) (history more : List Event) (cpu : ℕ) (calls : List Made)
-        → InTurn (CallIs boot history cpu) calls → InTurn (CallIs boot (history ++ more) cpu) calls }
+        → InTurn (CallIs boot history cpu) calls
+        → InTurn (CallIs boot (history ++ more) cpu) calls }
 {}

@@ -1,7 +1,8 @@
 //! Rows by what they are rows of.
 
 ghost use Rattle.std.specs.Prelude.{◌≡◌, find};
-ghost use Rattle.gh_model.specs.Rows.{is_object, is_partition, is_extent, is_bell, is_cpu, fills, tells_setting};
+ghost use Rattle.gh_model.specs.Rows.{is_object, is_partition, is_extent};
+ghost use Rattle.gh_model.specs.Rows.{is_bell, is_cpu, fills, tells_setting};
 
 use crate::rows::{BellRow, CapabilityRow, CpuRow, ExtentRow, ObjectRow, PartitionRow, SetAtRow};
 use gh_base::{CpuNo, Serial};

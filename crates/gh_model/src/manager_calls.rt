@@ -2,7 +2,9 @@
 
 ghost use Rattle.std.specs.Prelude.{◌≡◌, ◌≤◌, ◌∷◌, [], length, Option, IfOk};
 ghost use Rattle.gh_base.specs.RmLayout.{is_request_id};
-ghost use Rattle.gh_model.specs.ManagerCalls.{exit_changes, exit as exit_of, request_bit, exit_bit, has_exited, bits_of, rm_poll as rm_poll_of, error_reply, request_error, rm_act as rm_act_of};
+ghost use Rattle.gh_model.specs.ManagerCalls.{exit_changes, exit as exit_of, request_bit, exit_bit};
+ghost use Rattle.gh_model.specs.ManagerCalls.{has_exited, bits_of, rm_poll as rm_poll_of};
+ghost use Rattle.gh_model.specs.ManagerCalls.{error_reply, request_error, rm_act as rm_act_of};
 
 use crate::change::{Change, Decision};
 use crate::rows::CpuRow;

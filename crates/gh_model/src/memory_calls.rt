@@ -1,9 +1,16 @@
 //! What the calls on memory come to. Registers are in bytes, rows in pages of 4,096 bytes.
 
-ghost use Rattle.std.specs.Prelude.{◌≡◌, ◌+◌, ◌≤◌, ◌<◌, ◌∷◌, [], length, Option, IfOk, find};
+ghost use Rattle.std.specs.Prelude.{◌≡◌, ◌+◌, ◌≤◌, ◌<◌};
+ghost use Rattle.std.specs.Prelude.{◌∷◌, [], length, Option, IfOk, find};
 ghost use Rattle.gh_model.specs.Boot.{access_fits};
 ghost use Rattle.gh_model.specs.Decisions.{grant_at, done};
-ghost use Rattle.gh_model.specs.MemoryCalls.{named_space, named_extent, meant_offset, meant_count, mapped_row, mapped_at, mapped, map as map_of, unmapped_row, unmapped, unmap as unmap_of, derived_row, derived_at, derived, derive as derive_of, are_related, is_within_span, donated_at, donated_to, donated, donate as donate_of, looked_up, as_lookup as as_lookup_of};
+ghost use Rattle.gh_model.specs.MemoryCalls.{named_space, named_extent, meant_offset, meant_count};
+ghost use Rattle.gh_model.specs.MemoryCalls.{mapped_row, mapped_at, mapped, map as map_of};
+ghost use Rattle.gh_model.specs.MemoryCalls.{unmapped_row, unmapped, unmap as unmap_of};
+ghost use Rattle.gh_model.specs.MemoryCalls.{derived_row, derived_at, derived};
+ghost use Rattle.gh_model.specs.MemoryCalls.{derive as derive_of, are_related, is_within_span};
+ghost use Rattle.gh_model.specs.MemoryCalls.{donated_at, donated_to, donated, donate as donate_of};
+ghost use Rattle.gh_model.specs.MemoryCalls.{looked_up, as_lookup as as_lookup_of};
 ghost use Rattle.gh_model.specs.Registers.{has_partial, user_access};
 ghost use Rattle.gh_model.specs.Small.{IsSmall};
 
@@ -101,7 +108,9 @@ fn mapped_at<R: StateReads>(
     row: ExtentRow,
     new: Mapping,
 ) -> Result<Decision, NoMemory>
-    ensures { IfOk result (λ decision. decision ≡ mapped_at (R.rows rows.now) space extent row new.base new.offset new.count new.access) }
+    ensures { IfOk result
+        (λ decision. decision
+        ≡ mapped_at (R.rows rows.now) space extent row new.base new.offset new.count new.access) }
 {
     let errno = if new.base as u128 + new.count as u128 > SPACE_PAGES as u128 {
         Errno::AddrOvfl
@@ -139,7 +148,9 @@ pub(crate) fn map<R: StateReads>(
     offset: u64,
     size: u64,
 ) -> Result<Decision, NoMemory>
-    ensures { IfOk result (λ decision. decision ≡ map_of (R.rows rows.now) space extent base attributes flags offset size) }
+    ensures { IfOk result
+        (λ decision. decision
+        ≡ map_of (R.rows rows.now) space extent base attributes flags offset size) }
 {
     match rows.extent(extent) {
         None => Ok(Decision::Refuse {
@@ -178,7 +189,8 @@ pub(crate) fn unmap<R: StateReads>(
     offset: u64,
     size: u64,
 ) -> Result<Decision, NoMemory>
-    ensures { IfOk result (λ decision. decision ≡ unmap_of (R.rows rows.now) space extent base flags offset size) }
+    ensures { IfOk result
+        (λ decision. decision ≡ unmap_of (R.rows rows.now) space extent base flags offset size) }
 {
     match rows.extent(extent) {
         None => Ok(Decision::Refuse {
@@ -197,7 +209,11 @@ pub(crate) fn unmap<R: StateReads>(
 
 /// The changes of a derive.
 fn derive_changes(alloc: Global, child: Serial, row: ExtentRow) -> Result<Decision, NoMemory>
-    ensures { IfOk result (λ decision. decision ≡ Decision.Make (Change.SetStage child Stage.Ready ∷ Change.AddExtent row ∷ Change.MovePages row.first.0 row.count child ∷ []) done) }
+    ensures { IfOk result
+        (λ decision. decision
+        ≡ Decision.Make
+        (Change.SetStage child Stage.Ready ∷ Change.AddExtent row
+        ∷ Change.MovePages row.first.0 row.count child ∷ []) done) }
 {
     let mut changes = Sequence::new(alloc);
     changes.push(Change::SetStage {
@@ -225,7 +241,8 @@ fn derived_at<R: StateReads>(
     access: u64,
 ) -> Result<Decision, NoMemory>
     requires { IsSmall (R.rows rows.now) }
-    ensures { IfOk result (λ decision. decision ≡ derived_at (R.rows rows.now) child parent row offset count access) }
+    ensures { IfOk result
+        (λ decision. decision ≡ derived_at (R.rows rows.now) child parent row offset count access) }
 {
     let first = row.first.0 as u128 + offset as u128;
     if offset as u128 + count as u128 > row.count as u128 {
@@ -259,7 +276,8 @@ pub(crate) fn derive<R: StateReads>(
     access: u64,
 ) -> Result<Decision, NoMemory>
     requires { IsSmall (R.rows rows.now) }
-    ensures { IfOk result (λ decision. decision ≡ derive_of (R.rows rows.now) child parent offset size access) }
+    ensures { IfOk result
+        (λ decision. decision ≡ derive_of (R.rows rows.now) child parent offset size access) }
 {
     match rows.extent(parent) {
         None => Ok(Decision::Refuse {
@@ -310,7 +328,8 @@ fn donated_at<R: StateReads>(
 ) -> Result<Decision, NoMemory>
     requires small { IsSmall (R.rows rows.now) }
     requires first { first < 1000000000000000000000000 }
-    ensures { IfOk result (λ decision. decision ≡ donated_at (R.rows rows.now) relation giver receiver first count) }
+    ensures { IfOk result
+        (λ decision. decision ≡ donated_at (R.rows rows.now) relation giver receiver first count) }
 {
     let errno = if !are_related(relation, giver, receiver) {
         Errno::ArgInval
@@ -339,7 +358,8 @@ fn donated_to<R: StateReads>(
     receiver: Option<ExtentRow>,
 ) -> Result<Decision, NoMemory>
     requires { IsSmall (R.rows rows.now) }
-    ensures { IfOk result (λ decision. decision ≡ donated_to (R.rows rows.now) relation offset count giver receiver) }
+    ensures { IfOk result
+        (λ decision. decision ≡ donated_to (R.rows rows.now) relation offset count giver receiver) }
 {
     match receiver {
         None => Ok(Decision::Refuse {
@@ -362,7 +382,8 @@ pub(crate) fn donate<R: StateReads>(
     size: u64,
 ) -> Result<Decision, NoMemory>
     requires { IsSmall (R.rows rows.now) }
-    ensures { IfOk result (λ decision. decision ≡ donate_of (R.rows rows.now) options giver receiver offset size) }
+    ensures { IfOk result
+        (λ decision. decision ≡ donate_of (R.rows rows.now) options giver receiver offset size) }
 {
     match rows.extent(giver) {
         None => Ok(Decision::Refuse {

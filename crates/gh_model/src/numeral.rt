@@ -4,7 +4,8 @@ ghost use Rattle.std.specs.Prelude.{◌≡◌, ◌≤◌, ◌<◌, true, length}
 ghost use Rattle.std.specs.List.{list_all};
 ghost use Rattle.std.specs.Char.{digit_value};
 ghost use Rattle.std.specs.Str.Parse.{digits_value};
-ghost use Rattle.gh_model.specs.Numeral.{is_lower_digit, is_digit, is_numeral, has_leading_zero, number_of};
+ghost use Rattle.gh_model.specs.Numeral.{is_lower_digit, is_digit, is_numeral};
+ghost use Rattle.gh_model.specs.Numeral.{has_leading_zero, number_of};
 
 fn is_lower_digit(byte: u8) -> bool
     ensures { result ≡ is_lower_digit byte }

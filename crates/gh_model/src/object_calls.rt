@@ -3,7 +3,13 @@
 ghost use Rattle.std.specs.Prelude.{◌≡◌, ◌≤◌, ◌∷◌, [], Option, IfOk};
 ghost use Rattle.gh_base.specs.declared.limits.TheConstants.{MESSAGE_BYTES, QUEUE_DEPTH};
 ghost use Rattle.gh_model.specs.Boot.{queue_cost};
-ghost use Rattle.gh_model.specs.ObjectCalls.{is_full, lacks_room, new_object, master_rights, new_master, created_in, created, create as create_of, quota_given, configure_partition as configure_partition_of, room_cost, room_given, configure_queue as configure_queue_of, activated, activate as activate_of};
+ghost use Rattle.gh_model.specs.ObjectCalls.{is_full, lacks_room, new_object};
+ghost use Rattle.gh_model.specs.ObjectCalls.{master_rights, new_master, created_in};
+ghost use Rattle.gh_model.specs.ObjectCalls.{created, create as create_of, quota_given};
+ghost use Rattle.gh_model.specs.ObjectCalls.{configure_partition as configure_partition_of};
+ghost use Rattle.gh_model.specs.ObjectCalls.{room_cost, room_given};
+ghost use Rattle.gh_model.specs.ObjectCalls.{configure_queue as configure_queue_of};
+ghost use Rattle.gh_model.specs.ObjectCalls.{activated, activate as activate_of};
 
 use crate::boot::cost_of_queue;
 use crate::capability_calls::{done, done_with, make_one};
@@ -92,7 +98,8 @@ fn created_in<R: StateReads>(
     kind: Kind,
     slot: Option<u8>,
 ) -> Result<Decision, NoMemory>
-    ensures { IfOk result (λ decision. decision ≡ created_in (R.rows rows.now) partition cspace kind slot) }
+    ensures { IfOk result
+        (λ decision. decision ≡ created_in (R.rows rows.now) partition cspace kind slot) }
 {
     match slot {
         None => Ok(Decision::Refuse {
@@ -139,7 +146,8 @@ pub(crate) fn create<R: StateReads>(
     cspace: Serial,
     number: u64,
 ) -> Result<Decision, NoMemory>
-    ensures { IfOk result (λ decision. decision ≡ create_of (R.rows rows.now) partition cspace number) }
+    ensures { IfOk result
+        (λ decision. decision ≡ create_of (R.rows rows.now) partition cspace number) }
 {
     created(alloc, rows, partition, cspace, Kind::of_number(number))
 }
@@ -151,7 +159,8 @@ fn quota_given<R: StateReads>(
     quota: u16,
     row: Option<PartitionRow>,
 ) -> Result<Decision, NoMemory>
-    ensures { IfOk result (λ decision. decision ≡ quota_given (R.rows rows.now) partition quota row) }
+    ensures { IfOk result
+        (λ decision. decision ≡ quota_given (R.rows rows.now) partition quota row) }
 {
     match row {
         Some(row) if rows.free_units(row.parent) >= quota => {
@@ -174,7 +183,8 @@ pub(crate) fn configure_partition<R: StateReads>(
     partition: Serial,
     quota: u64,
 ) -> Result<Decision, NoMemory>
-    ensures { IfOk result (λ decision. decision ≡ configure_partition_of (R.rows rows.now) partition quota) }
+    ensures { IfOk result
+        (λ decision. decision ≡ configure_partition_of (R.rows rows.now) partition quota) }
 {
     if quota > PARTITION_UNITS as u64 {
         return Ok(Decision::Refuse {
@@ -210,7 +220,8 @@ fn room_given<R: StateReads>(
 ) -> Result<Decision, NoMemory>
     requires depth { depth ≤ QUEUE_DEPTH }
     requires size { size ≤ MESSAGE_BYTES }
-    ensures { IfOk result (λ decision. decision ≡ room_given (R.rows rows.now) queue depth size row) }
+    ensures { IfOk result
+        (λ decision. decision ≡ room_given (R.rows rows.now) queue depth size row) }
 {
     match row {
         Some(row) if rows.free_units(row.partition) >= room_cost(depth, size) => {
@@ -239,7 +250,8 @@ pub(crate) fn configure_queue<R: StateReads>(
     depth: u64,
     size: u64,
 ) -> Result<Decision, NoMemory>
-    ensures { IfOk result (λ decision. decision ≡ configure_queue_of (R.rows rows.now) queue depth size) }
+    ensures { IfOk result
+        (λ decision. decision ≡ configure_queue_of (R.rows rows.now) queue depth size) }
 {
     if depth > QUEUE_DEPTH || size > MESSAGE_BYTES as u64 {
         return Ok(Decision::Refuse {

@@ -1,7 +1,12 @@
 //! What the changes of objects and their units make of the rows.
 
 ghost use Rattle.std.specs.Prelude.{◌≡◌, ◌<◌, ◌++◌, map, position, OnOk, OnErr};
-ghost use Rattle.gh_model.specs.Changes.{add_object as add_object_of, extent_parent, give_quota as give_quota_of, given_back, with_cost, new_bells, new_partitions, new_queues, reclaim_object as reclaim_object_of, retire_object as retire_object_of, set_stage as set_stage_of};
+ghost use Rattle.gh_model.specs.Changes.{add_object as add_object_of, extent_parent};
+ghost use Rattle.gh_model.specs.Changes.{give_quota as give_quota_of, given_back};
+ghost use Rattle.gh_model.specs.Changes.{with_cost, new_bells, new_partitions};
+ghost use Rattle.gh_model.specs.Changes.{new_queues, reclaim_object as reclaim_object_of};
+ghost use Rattle.gh_model.specs.Changes.{retire_object as retire_object_of};
+ghost use Rattle.gh_model.specs.Changes.{set_stage as set_stage_of};
 ghost use Rattle.gh_model.specs.Rows.{change_row, is_object, is_partition};
 
 use crate::lookup::extent_row;
@@ -19,7 +24,8 @@ use std::alloc::Global;
 
 /// A partition's units, which begin without a quota.
 fn add_units(partitions: &mut Sequence<PartitionRow>, row: ObjectRow) -> Result<(), NoMemory>
-    ensures ok { OnOk result (partitions.new ≡ partitions.old ++ new_partitions row.kind row.serial row.partition) }
+    ensures ok { OnOk result
+        (partitions.new ≡ partitions.old ++ new_partitions row.kind row.serial row.partition) }
     ensures err { OnErr result (partitions.new ≡ partitions.old) }
 {
     match row.kind {

@@ -1,9 +1,11 @@
 //! The entries of the history that are no acts, made on the rows.
 
-ghost use Rattle.std.specs.Prelude.{◌≡◌, ◌&&◌, ◌<◌, find, if◌then◌else◌, IfOk, OnOk, OnErr};
+ghost use Rattle.std.specs.Prelude.{◌≡◌, ◌&&◌, ◌<◌, find};
+ghost use Rattle.std.specs.Prelude.{if◌then◌else◌, IfOk, OnOk, OnErr};
 ghost use Rattle.gh_base.specs.declared.limits.TheConstants.{HISTORY_ENTRIES};
 ghost use Rattle.gh_model.specs.Changes.{revoke_capability as revoke_capability_of};
-ghost use Rattle.gh_model.specs.History.{is_retired, is_unretired, may_part, numbered, parted, reclaimed, retired, took};
+ghost use Rattle.gh_model.specs.History.{is_retired, is_unretired, may_part};
+ghost use Rattle.gh_model.specs.History.{numbered, parted, reclaimed, retired, took};
 ghost use Rattle.gh_model.specs.References.{is_doomed};
 ghost use Rattle.gh_model.specs.Rows.{fills, object_row as object_row_of};
 
@@ -29,7 +31,8 @@ fn may_part(row: Option<CapabilityRow>) -> bool
 /// A slot is revoked and taken by the next entry.
 fn make_part(state: &mut State, space: Serial, slot: u8) -> Result<(), NoMemory>
     requires { state.old.entries < HISTORY_ENTRIES }
-    ensures ok { OnOk result (state.new ≡ numbered (took (revoke_capability_of space slot state.old) space slot)) }
+    ensures ok { OnOk result
+        (state.new ≡ numbered (took (revoke_capability_of space slot state.old) space slot)) }
     ensures err { OnErr result (state.new ≡ state.old) }
 {
     state.taken.push(TakenSlot {
@@ -49,7 +52,8 @@ fn make_part(state: &mut State, space: Serial, slot: u8) -> Result<(), NoMemory>
 pub(crate) fn part(state: &mut State, space: Serial, slot: u8) -> Result<bool, NoMemory>
     requires { state.old.entries < HISTORY_ENTRIES }
     ensures may { IfOk result (λ made. made ≡ may_part (find (fills space.0 slot) state.old.caps)) }
-    ensures made { IfOk result (λ made. state.new ≡ (if made then parted state.old space slot else state.old)) }
+    ensures made { IfOk result
+        (λ made. state.new ≡ (if made then parted state.old space slot else state.old)) }
     ensures no_memory { OnErr result (state.new ≡ state.old) }
 {
     if !may_part(capability_row(state.caps.as_slice(), space, slot as u64)) {
@@ -80,7 +84,8 @@ fn is_unretired(row: Option<ObjectRow>) -> bool
 /// An object's row gets the counters of its retirement.
 pub(crate) fn retire(state: &mut State, serial: Serial, seen: [u64; 9]) -> bool
     requires { state.old.entries < HISTORY_ENTRIES }
-    ensures may { result ≡ (is_doomed state.old serial.0 && is_unretired (object_row_of state.old serial.0)) }
+    ensures may { result
+        ≡ (is_doomed state.old serial.0 && is_unretired (object_row_of state.old serial.0)) }
     ensures made { state.new ≡ (if result then retired state.old serial seen else state.old) }
 {
     let may = doomed(state, serial) && is_unretired(object_row(state.objects.as_slice(), serial));
@@ -94,7 +99,8 @@ pub(crate) fn retire(state: &mut State, serial: Serial, seen: [u64; 9]) -> bool
 /// A retired object goes with all its rows.
 pub(crate) fn reclaim(alloc: Global, state: &mut State, serial: Serial) -> bool
     requires { state.old.entries < HISTORY_ENTRIES }
-    ensures may { result ≡ (is_doomed state.old serial.0 && is_retired (object_row_of state.old serial.0)) }
+    ensures may { result
+        ≡ (is_doomed state.old serial.0 && is_retired (object_row_of state.old serial.0)) }
     ensures made { state.new ≡ (if result then reclaimed state.old serial else state.old) }
 {
     let may = doomed(state, serial) && is_retired(object_row(state.objects.as_slice(), serial));

@@ -1,12 +1,14 @@
 //! The slow machine: its state is the definition's, and each of its calls is a definition.
 
-ghost use Rattle.std.specs.Prelude.{◌≡◌, ◌&&◌, ◌<◌, find, replicate, if◌then◌else◌, IfOk, OnErr};
+ghost use Rattle.std.specs.Prelude.{◌≡◌, ◌&&◌, ◌<◌, find};
+ghost use Rattle.std.specs.Prelude.{replicate, if◌then◌else◌, IfOk, OnErr};
 ghost use Rattle.gh_base.specs.declared.limits.TheConstants.{HISTORY_ENTRIES};
 ghost use Rattle.gh_model.specs.Act.{Judges, grants_of};
 ghost use Rattle.gh_model.specs.Decide.{act as act_of, judge as judge_of};
 ghost use Rattle.gh_model.specs.Access.{access_at};
 ghost use Rattle.gh_model.specs.Boot.{boot_state};
-ghost use Rattle.gh_model.specs.History.{is_retired, is_unretired, may_part, parted, reclaimed, retired};
+ghost use Rattle.gh_model.specs.History.{is_retired, is_unretired, may_part};
+ghost use Rattle.gh_model.specs.History.{parted, reclaimed, retired};
 ghost use Rattle.gh_model.specs.References.{is_doomed};
 ghost use Rattle.gh_model.specs.Rows.{fills, object_row as object_row_of};
 ghost use Rattle.gh_model.specs.Small.{IsSmall};
@@ -61,8 +63,8 @@ impl Plain {
         Ok(Plain { state })
     }
 
-    /// The act of a call with these grants: a refusal, or its effect and one entry of the history. The
-    /// frame is that of the call, and its bytes are what the call sends.
+    /// The act of a call with these grants: a refusal, or its effect and one entry of the history.
+    /// The frame is that of the call, and its bytes are what the call sends.
     pub fn act(
         &mut self,
         alloc: Global,
@@ -80,8 +82,8 @@ impl Plain {
         act(alloc, &mut self.state, false, cpu, call, bytes, grants)
     }
 
-    /// The act of a call whose looks found these words, which granted these objects. A copy is refused
-    /// where the source's word is another now.
+    /// The act of a call whose looks found these words, which granted these objects. A copy is
+    /// refused where the source's word is another now.
     pub fn judge(
         &mut self,
         alloc: Global,
@@ -102,23 +104,27 @@ impl Plain {
         act(alloc, &mut self.state, moved, cpu, call, bytes, grants)
     }
 
-    /// One slot of a revoke, as an entry of the history. False where the slot has no valid capability
-    /// without master mark; then nothing changes.
+    /// One slot of a revoke, as an entry of the history. False where the slot has no valid
+    /// capability without master mark; then nothing changes.
     pub fn part(&mut self, space: Serial, slot: u8) -> Result<bool, NoMemory>
         requires { self.old.entries < HISTORY_ENTRIES }
-        ensures may { IfOk result (λ made. made ≡ may_part (find (fills space.0 slot) self.old.caps)) }
-        ensures made { IfOk result (λ made. self.new ≡ (if made then parted self.old space slot else self.old)) }
+        ensures may { IfOk result
+            (λ made. made ≡ may_part (find (fills space.0 slot) self.old.caps)) }
+        ensures made { IfOk result
+            (λ made. self.new ≡ (if made then parted self.old space slot else self.old)) }
         ensures no_memory { OnErr result (self.new ≡ self.old) }
     {
         part(&mut self.state, space, slot)
     }
 
-    /// An object's retirement before any CPU opened a section, as an entry of the history. False where it
-    /// isn't doomed, or is retired; then nothing changes.
+    /// An object's retirement before any CPU opened a section, as an entry of the history. False
+    /// where it isn't doomed, or is retired; then nothing changes.
     pub fn retire(&mut self, serial: Serial) -> bool
         requires { self.old.entries < HISTORY_ENTRIES }
-        ensures may { result ≡ (is_doomed self.old serial.0 && is_unretired (object_row_of self.old serial.0)) }
-        ensures made { self.new ≡ (if result then retired self.old serial (replicate 9 0) else self.old) }
+        ensures may { result
+            ≡ (is_doomed self.old serial.0 && is_unretired (object_row_of self.old serial.0)) }
+        ensures made { self.new
+            ≡ (if result then retired self.old serial (replicate 9 0) else self.old) }
     {
         self.retire_seen(serial, [0; 9])
     }
@@ -126,18 +132,22 @@ impl Plain {
     /// The same with the CPUs' counters, which the object's row keeps.
     pub fn retire_seen(&mut self, serial: Serial, seen: [u64; 9]) -> bool
         requires { self.old.entries < HISTORY_ENTRIES }
-        ensures may { result ≡ (is_doomed self.old serial.0 && is_unretired (object_row_of self.old serial.0)) }
+        ensures may { result
+            ≡ (is_doomed self.old serial.0 && is_unretired (object_row_of self.old serial.0)) }
         ensures made { self.new ≡ (if result then retired self.old serial seen else self.old) }
     {
         retire(&mut self.state, serial, seen)
     }
 
-    /// An object goes with all its rows, as an entry of the history. False where it isn't doomed, or isn't
-    /// retired; then nothing changes. It takes no memory.
+    /// An object goes with all its rows, as an entry of the history. False where it isn't doomed,
+    /// or isn't retired; then nothing changes. It takes no memory.
     pub fn reclaim(&mut self, alloc: Global, serial: Serial) -> Result<bool, NoMemory>
         requires { self.old.entries < HISTORY_ENTRIES }
-        ensures may { IfOk result (λ made. made ≡ (is_doomed self.old serial.0 && is_retired (object_row_of self.old serial.0))) }
-        ensures made { IfOk result (λ made. self.new ≡ (if made then reclaimed self.old serial else self.old)) }
+        ensures may { IfOk result
+            (λ made. made
+            ≡ (is_doomed self.old serial.0 && is_retired (object_row_of self.old serial.0))) }
+        ensures made { IfOk result
+            (λ made. self.new ≡ (if made then reclaimed self.old serial else self.old)) }
         ensures no_memory { OnErr result (self.new ≡ self.old) }
     {
         Ok(reclaim(alloc, &mut self.state, serial))

@@ -1,6 +1,7 @@
 //! What a CPU runs.
 
-ghost use Rattle.std.specs.Prelude.{◌≡◌, Bool, true, false, Option, is_some, not, IfOk, OnOk, OnErr};
+ghost use Rattle.std.specs.Prelude.{◌≡◌, Bool, true, false, Option};
+ghost use Rattle.std.specs.Prelude.{is_some, not, IfOk, OnOk, OnErr};
 ghost use Rattle.gh_base.specs.declared.frame.Reply.{Reply};
 ghost use Rattle.gh_model.specs.declared.program.Step.{Step};
 ghost use Rattle.gh_model.specs.Programs.{told, is_call, is_idle};
@@ -23,7 +24,8 @@ pub enum Step {
 #[derive(Debug, Drop)]
 pub struct Line {
     pub frame: Frame,
-    /// How often it is made at the most, 1 or more: again while its reply says that a queue is empty or full.
+    /// How often it is made at the most, 1 or more: again while its reply says that a queue is
+    /// empty or full.
     pub times: u32,
 }
 

@@ -1,7 +1,11 @@
 //! What the calls on message queues come to.
 
 ghost use Rattle.std.specs.Prelude.{◌≡◌, ◌≤◌, ◌∷◌, [], length, min, Option, IfOk};
-ghost use Rattle.gh_model.specs.QueueCalls.{one_if, rings_if, sent, msgq_send as msgq_send_of, message_reply, received, msgq_recv as msgq_recv_of, flushed, msgq_flush as msgq_flush_of};
+ghost use Rattle.gh_model.specs.QueueCalls.{one_if, rings_if, message_sent};
+ghost use Rattle.gh_model.specs.QueueCalls.{msgq_send as msgq_send_of};
+ghost use Rattle.gh_model.specs.QueueCalls.{message_reply, message_received};
+ghost use Rattle.gh_model.specs.QueueCalls.{msgq_recv as msgq_recv_of};
+ghost use Rattle.gh_model.specs.QueueCalls.{flushed, msgq_flush as msgq_flush_of};
 
 use crate::capability_calls::{done_with, make_one};
 use crate::change::{Change, Decision};
@@ -22,7 +26,8 @@ fn send_changes(
     message: &[u8],
     rings: bool,
 ) -> Result<Sequence<Change>, NoMemory>
-    ensures { IfOk result (λ changes. changes ≡ Change.PutMessage queue message.now ∷ rings_if rings) }
+    ensures { IfOk result
+        (λ changes. changes ≡ Change.PutMessage queue message.now ∷ rings_if rings) }
 {
     let message = Sequence::from_slice(alloc, message)?;
     let mut changes = Sequence::new(alloc);
@@ -33,14 +38,15 @@ fn send_changes(
     Ok(changes)
 }
 
-fn sent<R: StateReads>(
+fn message_sent<R: StateReads>(
     alloc: Global,
     rows: &R,
     queue: Serial,
     message: &[u8],
     fill: Option<QueueFill>,
 ) -> Result<Decision, NoMemory>
-    ensures { IfOk result (λ decision. decision ≡ sent (R.rows rows.now) queue message.now fill) }
+    ensures { IfOk result
+        (λ decision. decision ≡ message_sent (R.rows rows.now) queue message.now fill) }
 {
     match fill {
         Some(fill) if message.len() > fill.size as usize => Ok(Decision::Refuse {
@@ -63,9 +69,10 @@ pub(crate) fn msgq_send<R: StateReads>(
     queue: Serial,
     message: &[u8],
 ) -> Result<Decision, NoMemory>
-    ensures { IfOk result (λ decision. decision ≡ msgq_send_of (R.rows rows.now) queue message.now) }
+    ensures { IfOk result
+        (λ decision. decision ≡ msgq_send_of (R.rows rows.now) queue message.now) }
 {
-    sent(alloc, rows, queue, message, rows.queue(queue))
+    message_sent(alloc, rows, queue, message, rows.queue(queue))
 }
 
 /// The reply of a message: its length, whether messages are left, and its bytes.
@@ -87,14 +94,14 @@ fn reply_room(room: u64) -> u64
     room.min(MESSAGE_BYTES as u64)
 }
 
-fn received(
+fn message_received(
     alloc: Global,
     queue: Serial,
     room: u64,
     fill: Option<QueueFill>,
     first: Option<Sequence<u8>>,
 ) -> Result<Decision, NoMemory>
-    ensures { IfOk result (λ decision. decision ≡ received queue room fill first) }
+    ensures { IfOk result (λ decision. decision ≡ message_received queue room fill first) }
 {
     let Some(fill) = fill else {
         return Ok(Decision::Refuse {
@@ -124,7 +131,7 @@ pub(crate) fn msgq_recv<R: StateReads>(
     ensures { IfOk result (λ decision. decision ≡ msgq_recv_of (R.rows rows.now) queue room) }
 {
     let first = rows.first_message(alloc, queue)?;
-    received(alloc, queue, room, rows.queue(queue), first)
+    message_received(alloc, queue, room, rows.queue(queue), first)
 }
 
 fn flushed(alloc: Global, queue: Serial, fill: Option<QueueFill>) -> Result<Decision, NoMemory>

@@ -4,7 +4,8 @@ ghost use Rattle.std.specs.Prelude.{◌≡◌, Some};
 ghost use Rattle.gh_base.specs.declared.kind.Kind.TheVariants as kind;
 ghost use Rattle.gh_model.specs.Access.{access_at};
 ghost use Rattle.gh_model.specs.Boot.{is_kind, is_of_kind};
-ghost use Rattle.gh_model.specs.Reads.{last_serial, partition_units, look_word, plain_object, plain_cap, is_doomed_object, retired_counters};
+ghost use Rattle.gh_model.specs.Reads.{last_serial, partition_units, look_word, plain_object};
+ghost use Rattle.gh_model.specs.Reads.{plain_cap, is_doomed_object, retired_counters};
 ghost use Rattle.gh_model.specs.Word.{look_reply};
 
 use crate::act::cspace_of;
@@ -83,8 +84,8 @@ impl Plain {
         self.word(cspace_of(self.state(), cpu), slot)
     }
 
-    /// What a CPU's look at a capability number answers now, and the number of the entry that last set
-    /// the slot, 0 where none did.
+    /// What a CPU's look at a capability number answers now, and the number of the entry that last
+    /// set the slot, 0 where none did.
     pub fn look(&self, cpu: CpuNo, slot: u64, need: &Need) -> (Result<Serial, Errno>, u32)
         ensures reply { result.0 ≡ look_reply (look_word self.now cpu.0 slot) need.now }
         ensures set_at { result.1 ≡ (look_word self.now cpu.0 slot).set_at }

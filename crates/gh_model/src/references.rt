@@ -1,7 +1,11 @@
 //! What refers to an object.
 
 ghost use Rattle.std.specs.Prelude.{◌≡◌, count_by};
-ghost use Rattle.gh_model.specs.References.{is_doomed, is_capability_of, is_mapping_of, is_child_of, is_inhabitant_of, is_slot_of, is_attached_to, is_link_of, uses_link, is_share as is_share_kind, is_share_of, is_boot_partition, is_root_extent};
+ghost use Rattle.gh_model.specs.References.{is_doomed, is_capability_of, is_mapping_of};
+ghost use Rattle.gh_model.specs.References.{is_child_of, is_inhabitant_of, is_slot_of};
+ghost use Rattle.gh_model.specs.References.{is_attached_to, is_link_of, uses_link};
+ghost use Rattle.gh_model.specs.References.{is_share as is_share_kind, is_share_of};
+ghost use Rattle.gh_model.specs.References.{is_boot_partition, is_root_extent};
 
 use crate::lookup::cpu_row;
 use crate::rows::{

@@ -26,7 +26,9 @@ fn keep_rows<T: Drop, F: FnMut(&T) -> bool + Drop>(alloc: Global, rows: &mut Seq
 
 /// Whether a row is one of the map call with the same extent, base, offset and count.
 fn is_mapping(row: &MappingRow, other: &MappingRow) -> bool
-    ensures { result ≡ is_mapping other.now.space.0 other.now.extent.0 other.now.base other.now.offset other.now.count row.now }
+    ensures { result
+        ≡ is_mapping other.now.space.0 other.now.extent.0 other.now.base other.now.offset
+        other.now.count row.now }
 {
     row.handle == 0
         && row.space == other.space
@@ -114,7 +116,8 @@ pub(crate) fn drop_queue(alloc: Global, queues: &mut Sequence<QueueRow>, object:
 
 /// A row of the map call goes.
 pub(crate) fn unmap_row(alloc: Global, mappings: &mut Sequence<MappingRow>, row: MappingRow)
-    ensures { mappings.new ≡ without (is_mapping row.space.0 row.extent.0 row.base row.offset row.count) mappings.old }
+    ensures { mappings.new
+        ≡ without (is_mapping row.space.0 row.extent.0 row.base row.offset row.count) mappings.old }
 {
     keep_rows(alloc, mappings, |other| !is_mapping(other, &row));
 }

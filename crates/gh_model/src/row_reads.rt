@@ -1,9 +1,11 @@
 //! The rows themselves answer what a decision reads.
 
-ghost use Rattle.std.specs.Prelude.{◌≡◌, ◌+◌, ◌≤◌, find, length, option_copied, IfOk};
+ghost use Rattle.std.specs.Prelude.{◌≡◌, ◌+◌, ◌≤◌};
+ghost use Rattle.std.specs.Prelude.{find, length, option_copied, IfOk};
 ghost use Rattle.std.specs.List.{list_all, list_any};
 ghost use Rattle.gh_model.specs.Boot.{overlaps};
-ghost use Rattle.gh_model.specs.CapabilityCalls.{is_before, is_empty_slot, is_left, is_taken_of, least_free, names, rises, rises_from};
+ghost use Rattle.gh_model.specs.CapabilityCalls.{is_before, is_empty_slot, is_left, is_taken_of};
+ghost use Rattle.gh_model.specs.CapabilityCalls.{least_free, names, rises, rises_from};
 ghost use Rattle.gh_model.specs.ManagerCalls.{has_messages, is_link_for};
 ghost use Rattle.gh_model.specs.Memory.{holds_all};
 ghost use Rattle.gh_model.specs.QueueCalls.{row_fill, row_first};

@@ -6,8 +6,8 @@ use crate::rows::{
 };
 use gh_base::{Sequence, Serial};
 
-/// All that the hypervisor and the resource manager record. Rows are in the order in which they were
-/// made.
+/// All that the hypervisor and the resource manager record. Rows are in the order in which they
+/// were made.
 #[derive(Drop)]
 pub struct State {
     pub objects: Sequence<ObjectRow>,

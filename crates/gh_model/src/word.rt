@@ -6,7 +6,8 @@ ghost use Rattle.gh_model.specs.Word.{look_reply, grant_reply, kind_fits, bits_o
 use crate::rows::CapabilityRow;
 use gh_base::{CapWord, Errno, Kind, Need, ObjIndex, Serial};
 
-/// A slot's capability, if it has one, and the number of the entry that set the slot; 0 where none did.
+/// A slot's capability, if it has one, and the number of the entry that set the slot; 0 where none
+/// did.
 #[derive(Clone, Copy, Debug, Default)]
 pub struct Word {
     pub row: Option<CapabilityRow>,

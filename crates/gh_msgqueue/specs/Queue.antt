@@ -1,5 +1,6 @@
 -- What callers see of a message queue.
-use Rattle.std.specs.Prelude.{◌≤◌, ◌<◌, ℕ, Bool, List, [], ◌∷◌, ◌++◌, length, All, Option, Some, None, nat_lt, if◌then◌else◌}
+use Rattle.std.specs.Prelude.{◌≤◌, ◌<◌, ℕ, Bool, List, [], ◌∷◌, ◌++◌}
+use Rattle.std.specs.Prelude.{length, All, Option, Some, None, nat_lt, if◌then◌else◌}
 use Rattle.gh_base.specs.declared.limits.TheConstants.{QUEUE_DEPTH, MESSAGE_BYTES}
 use Rattle.gh_base.specs.declared.errno.Errno.{Errno}
 use Rattle.gh_base.specs.declared.errno.Errno.TheVariants.{ArgSize, QueueEmpty, QueueFull}

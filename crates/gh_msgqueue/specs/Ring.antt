@@ -1,6 +1,7 @@
 -- How the messages of a queue lie: a ring of as many slots as the queue is deep, of which the first
 -- hold the messages, first to last, and the others wait for one.
-use Rattle.std.specs.Prelude.{◌≡◌, ◌≤◌, ℕ, List, ◌++◌, length, map, take, drop, All}
+use Rattle.std.specs.Prelude.{◌≡◌, ◌≤◌, ℕ, List}
+use Rattle.std.specs.Prelude.{◌++◌, length, map, take, drop, All}
 use Rattle.circular_buffer.specs.Buffer.{Buffer}
 use Rattle.gh_msgqueue.specs.Slot.{Content}
 use Rattle.gh_msgqueue.specs.Queue.{MessageQueue, IsConfigurable}

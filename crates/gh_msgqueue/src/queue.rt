@@ -1,6 +1,8 @@
 //! A message queue over a ring of slots.
 
-ghost use Rattle.std.specs.Prelude.{◌≡◌, ◌≤◌, ◌<◌, ◌++◌, [], ◌∷◌, length, slice_get, slice_set, replicate, option_copied, IfOk, OnOk, OnErr};
+ghost use Rattle.std.specs.Prelude.{◌≡◌, ◌≤◌, ◌<◌, ◌++◌, []};
+ghost use Rattle.std.specs.Prelude.{◌∷◌, length, slice_get, slice_set};
+ghost use Rattle.std.specs.Prelude.{replicate, option_copied, IfOk, OnOk, OnErr};
 ghost use Rattle.std.specs.Result.{result_err};
 ghost use Rattle.circular_buffer.specs.Buffer.{buffer};
 ghost use Rattle.gh_msgqueue.specs.Ring.{rotated};
@@ -66,10 +68,12 @@ fn rotate(ring: &mut HeapCircularBuffer<Slot>)
 }
 
 impl Queue {
-    ghost use Rattle.gh_msgqueue.specs.Queue.{empty_queue, with_last, with_first, has_room, has_messages, send_refusal, receive_refusal, IsConfigurable, IsWithinLimits};
+    ghost use Rattle.gh_msgqueue.specs.Queue.{empty_queue, with_last, with_first, has_room};
+    ghost use Rattle.gh_msgqueue.specs.Queue.{has_messages, send_refusal, receive_refusal};
+    ghost use Rattle.gh_msgqueue.specs.Queue.{IsConfigurable, IsWithinLimits};
 
-    /// An empty queue for `depth` messages of at most `size` bytes each. It takes all the memory that
-    /// the queue ever has: `depth` times `size` bytes, and a few words for each message.
+    /// An empty queue for `depth` messages of at most `size` bytes each. It takes all the memory
+    /// that the queue ever has: `depth` times `size` bytes, and a few words for each message.
     pub fn configure(alloc: Global, depth: u16, size: u16) -> Result<Queue, NoMemory>
         requires { IsConfigurable depth size }
         ensures { IfOk result (λ q. q ≡ empty_queue depth size) }
@@ -104,8 +108,8 @@ impl Queue {
 
     /// Takes the first message, and says whether messages are left. It copies the bytes once.
     ///
-    /// `QueueEmpty` where there is none, else `ArgSize` where it has more bytes than `room`, and then
-    /// it stays.
+    /// `QueueEmpty` where there is none, else `ArgSize` where it has more bytes than `room`, and
+    /// then it stays.
     pub fn receive(&mut self, room: u64) -> Result<(ArrayVec<u8, MESSAGE_BYTES>, bool), Errno>
         ensures refusal { result_err result ≡ receive_refusal self.old room }
         ensures received { IfOk result (λ r. self.old ≡ with_first r.0.items self.new) }

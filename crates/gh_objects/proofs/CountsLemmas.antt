@@ -1,5 +1,8 @@
 -- The lists of serials follow the counts.
-use Rattle.std.proofs.Common.{◌≡◌, ℕ, zero, suc, ◌+◌, ◌<◌, List, [], ◌∷◌, ◌++◌, Option, None, Some, length, set, take, drop, filter_map, replicate, refl, sym, ap, ◌∙◌, arith, subst, length-append, length-take, length-drop}
+use Rattle.std.proofs.Common.{◌≡◌, ℕ, zero, suc, ◌+◌, ◌<◌, List, []}
+use Rattle.std.proofs.Common.{◌∷◌, ◌++◌, Option, None, Some, length, set, take}
+use Rattle.std.proofs.Common.{drop, filter_map, replicate, refl, sym, ap, ◌∙◌}
+use Rattle.std.proofs.Common.{arith, subst, length-append, length-take, length-drop}
 use Rattle.std.specs.Prelude.{IfSome, Contains}
 use Rattle.std.specs.List.{cons_option}
 use Rattle.std.specs.Option.{option_to_list}
@@ -13,7 +16,8 @@ use Rattle.gh_objects.specs.Rising.{with_option, place_in, Relists}
 use Rattle.gh_objects.specs.Serials.{rising}
 use Rattle.gh_objects.specs.Table.{AreListed}
 use Rattle.gh_objects.proofs.ListLemmas.{set-pieces, length-filter_map-le}
-use Rattle.gh_objects.proofs.RisingLemmas.{insert-place_in, rising-middle, length-with_serial, length-rising}
+use Rattle.gh_objects.proofs.RisingLemmas.{insert-place_in, rising-middle}
+use Rattle.gh_objects.proofs.RisingLemmas.{length-with_serial, length-rising}
 
 -- a serial from the middle, if there is one, can be put in last
 rising-cons_option : (front : List Serial) (serial : Option Serial) (back : List Serial) → rising (front ++ cons_option serial back) ≡ with_option serial (rising (front ++ back))

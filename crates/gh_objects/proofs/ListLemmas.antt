@@ -1,5 +1,9 @@
 -- Facts about any list that the others rest on.
-use Rattle.std.proofs.Common.{◌≡◌, ℕ, zero, suc, ◌+◌, ◌<◌, ◌≤◌, Bool, not, List, [], ◌∷◌, ◌++◌, Option, None, Some, length, get_or, set, take, drop, count_by, filter_map, refl, sym, ap, ◌∙◌, arith, inl, inr, cond, true, false, ltb, is_some, replicate, zero-add, subst}
+use Rattle.std.proofs.Common.{◌≡◌, ℕ, zero, suc, ◌+◌, ◌<◌, ◌≤◌}
+use Rattle.std.proofs.Common.{Bool, not, List, [], ◌∷◌, ◌++◌, Option, None}
+use Rattle.std.proofs.Common.{Some, length, get_or, set, take, drop, count_by, filter_map}
+use Rattle.std.proofs.Common.{refl, sym, ap, ◌∙◌, arith, inl, inr, cond, true}
+use Rattle.std.proofs.Common.{false, ltb, is_some, replicate, zero-add, subst}
 use Rattle.std.specs.Prelude.{is_none, position, IsSomeAnd}
 use Rattle.std.specs.List.{position_or_len, cons_option, remove}
 use Rattle.std.specs.List.Sorted.{IsNonDecreasingBy}
@@ -7,9 +11,11 @@ use Rattle.std.specs.Option.{option_map}
 use Rattle.std.proofs.lemmas.Bool.{cases_Bool, cases_lt, lt-ltb, le-ltb, false≢true}
 use Rattle.std.proofs.lemmas.List.Sums.{sum_by-cons, sum_by-set, sum_by-take-le, count_by_more_yes}
 use Rattle.std.proofs.lemmas.List.Edits.{get_or-remove_below, get_or-remove_above, length-remove}
-use Rattle.std.proofs.lemmas.List.{get_or-replicate, get_or_past, length-replicate, take-append-drop, take-set, drop-set}
+use Rattle.std.proofs.lemmas.List.{get_or-replicate, get_or_past, length-replicate}
+use Rattle.std.proofs.lemmas.List.{take-append-drop, take-set, drop-set}
 
--- a list that is written at one place is what stands before, what was written and what stands behind
+-- a list that is written at one place is what stands before, what was written and what stands
+-- behind
 pub set-pieces : {X : Type 0} (xs : List X) (i : ℕ) (y : X) → i < length xs → set xs i y ≡ take i xs ++ y ∷ drop (i + 1) xs
 set-pieces xs i y within = sym (take-append-drop i (set xs i y)) ∙ rw (take-set, drop-set xs i y within) refl
 

@@ -1,23 +1,32 @@
--- Names that are put into a rising list, taken out of it and looked for, and how they follow the headers.
-use Rattle.std.proofs.Common.{◌≡◌, ◌≢◌, ℕ, zero, suc, ◌+◌, ◌/◌, ◌%◌, ◌<◌, ◌≤◌, Bool, true, false, List, [], ◌∷◌, Option, None, Some, is_some, length, get_or, set, replicate, cond, eqb, ltb, refl, sym, ap, ◌∙◌, arith, inl, inr, eqb-true, eq-eqb, ne_eqb}
+-- Names that are put into a rising list, taken out of it and looked for, and how they follow the
+-- headers.
+use Rattle.std.proofs.Common.{◌≡◌, ◌≢◌, ℕ, zero, suc, ◌+◌, ◌/◌, ◌%◌}
+use Rattle.std.proofs.Common.{◌<◌, ◌≤◌, Bool, true, false, List, [], ◌∷◌, Option}
+use Rattle.std.proofs.Common.{None, Some, is_some, length, get_or, set, replicate, cond, eqb, ltb}
+use Rattle.std.proofs.Common.{refl, sym, ap, ◌∙◌, arith, inl, inr, eqb-true, eq-eqb, ne_eqb}
 use Rattle.std.specs.Prelude.{IfSome, IsSomeAnd, is_none, slice_get}
 use Rattle.std.specs.List.{insert, remove, Contains, prefix_len, position_or_len}
 use Rattle.std.specs.List.Sorted.{IsNonDecreasingBy, IsPartitionPoint}
 use Rattle.std.specs.Option.{option_to_list}
-use Rattle.std.proofs.lemmas.Bool.{false_from_ne_true, cases_eq, cases_lt, lt-ltb, ltb-true, ltb-false}
+use Rattle.std.proofs.lemmas.Bool.{false_from_ne_true, cases_eq}
+use Rattle.std.proofs.lemmas.Bool.{cases_lt, lt-ltb, ltb-true, ltb-false}
 use Rattle.std.proofs.lemmas.List.{get_or_default, get_or-set_same, get_or-set_other}
 use Rattle.std.proofs.lemmas.List.Folds.{sum_by-replicate}
 use Rattle.std.proofs.lemmas.List.Elements.{Contains-get_or}
 use Rattle.std.proofs.lemmas.List.Sorted.{IsNonDecreasingBy-insert}
-use Rattle.std.proofs.lemmas.List.Sums.{prefix_len-le-length, prefix_len_is, prefix_len_passes, prefix_len_stops, sum_by-insert, sum_by-remove, count_by-le-length, passes_at_first}
+use Rattle.std.proofs.lemmas.List.Sums.{prefix_len-le-length, prefix_len_is}
+use Rattle.std.proofs.lemmas.List.Sums.{prefix_len_passes, prefix_len_stops, sum_by-insert}
+use Rattle.std.proofs.lemmas.List.Sums.{sum_by-remove, count_by-le-length, passes_at_first}
 use Rattle.std.proofs.lemmas.Nat.{div-mul-add, mod-mul-add}
 use Rattle.std.proofs.lemmas.Option.{none-some}
 use Rattle.gh_base.specs.declared.limits.TheConstants.{OBJECT_INDICES}
 use Rattle.gh_objects.specs.declared.header.Header.{Header}
 use Rattle.gh_objects.specs.declared.names.TheConstants.{INDEX_VALUES}
 use Rattle.gh_objects.specs.Headers.{header_at, has_serial}
-use Rattle.gh_objects.specs.Names.{itself, times, once_if, name_of, name_at, is_name, is_live, index_in, AreNamed, Renames}
-use Rattle.gh_objects.proofs.ListLemmas.{position-count, nones-somes, count_by-set, count_by-passes, is_some-within, replicate-at}
+use Rattle.gh_objects.specs.Names.{itself, times, once_if, name_of, name_at}
+use Rattle.gh_objects.specs.Names.{is_name, is_live, index_in, AreNamed, Renames}
+use Rattle.gh_objects.proofs.ListLemmas.{position-count, nones-somes, count_by-set}
+use Rattle.gh_objects.proofs.ListLemmas.{count_by-passes, is_some-within, replicate-at}
 
 -- how many names are less
 abbrev pub place_in : ℕ → List ℕ → ℕ

@@ -1,5 +1,8 @@
 -- The partition places follow the live partitions.
-use Rattle.std.proofs.Common.{◌≡◌, ◌≢◌, ℕ, ◌<◌, Bool, true, false, List, Option, None, Some, is_some, length, get_or, set, count_by, replicate, cond, ltb, refl, sym, ap, ◌∙◌, inl, inr, arith, eqb-true, eq-eqb, ne_eqb}
+use Rattle.std.proofs.Common.{◌≡◌, ◌≢◌, ℕ, ◌<◌, Bool, true, false}
+use Rattle.std.proofs.Common.{List, Option, None, Some, is_some, length, get_or}
+use Rattle.std.proofs.Common.{set, count_by, replicate, cond, ltb, refl, sym, ap}
+use Rattle.std.proofs.Common.{◌∙◌, inl, inr, arith, eqb-true, eq-eqb, ne_eqb}
 use Rattle.std.specs.Prelude.{position, if◌then◌else◌}
 use Rattle.std.proofs.lemmas.Bool.{cases_eq, ltb-true}
 use Rattle.std.proofs.lemmas.List.{get_or-set_same, get_or-set_other, length-set, length-replicate}
@@ -111,7 +114,10 @@ module _ (headers : List (Option Header)) (partitions : List (Option ObjIndex)) 
         }
 
 -- no partition has a place where no object lives
-pub HavePlaces-none : (headers : List (Option Header)) (partitions : List (Option ObjIndex)) → headers ≡ replicate OBJECT_INDICES None → partitions ≡ replicate PARTITIONS None → HavePlaces headers partitions
+pub HavePlaces-none : (headers : List (Option Header)) (partitions : List (Option ObjIndex))
+    → headers ≡ replicate OBJECT_INDICES None
+    → partitions ≡ replicate PARTITIONS None
+    → HavePlaces headers partitions
 HavePlaces-none headers partitions none free = record {
   indices = ap length none ∙ length-replicate {A = Option Header} OBJECT_INDICES None;
   places = ap length free ∙ length-replicate {A = Option ObjIndex} PARTITIONS None;

@@ -1,10 +1,14 @@
 -- The bits follow the headers.
-use Rattle.std.proofs.Common.{◌≡◌, ◌≢◌, ℕ, ◌+◌, ◌-◌, ◌*◌, ◌/◌, ◌%◌, ◌<◌, ◌^◌, true, List, Option, None, is_some, length, get_or, set, drop, count_by, replicate, eqb, refl, sym, ap, ◌∙◌, inl, inr, arith, eqb-true, length-take, length-drop}
+use Rattle.std.proofs.Common.{◌≡◌, ◌≢◌, ℕ, ◌+◌, ◌-◌, ◌*◌, ◌/◌}
+use Rattle.std.proofs.Common.{◌%◌, ◌<◌, ◌^◌, true, List, Option, None, is_some}
+use Rattle.std.proofs.Common.{length, get_or, set, drop, count_by, replicate, eqb, refl, sym, ap}
+use Rattle.std.proofs.Common.{◌∙◌, inl, inr, arith, eqb-true, length-take, length-drop}
 use Rattle.std.specs.Prelude.{is_none}
 use Rattle.std.specs.Int.{bit_at}
 use Rattle.std.specs.List.{position_or_len}
 use Rattle.std.proofs.lemmas.Bool.{cases_eq}
-use Rattle.std.proofs.lemmas.List.{get_or-set_same, get_or-set_other, get_or-take, get_or-drop, length-set, length-replicate}
+use Rattle.std.proofs.lemmas.List.{get_or-set_same, get_or-set_other, get_or-take}
+use Rattle.std.proofs.lemmas.List.{get_or-drop, length-set, length-replicate}
 use Rattle.std.proofs.lemmas.List.Sums.{position_or_len_is, passes_at_first}
 use Rattle.std.proofs.lemmas.Nat.Bits.{bit_at-zero, bit_at_ones}
 use Rattle.gh_base.specs.declared.limits.TheConstants.{OBJECT_INDICES, PARTITIONS, PARTITION_PLACES}

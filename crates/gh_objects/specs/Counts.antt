@@ -1,6 +1,8 @@
--- What is counted of the live objects as callers see it: by index, their references and whether they
--- are retired.
-use Rattle.std.specs.Prelude.{◌==◌, ◌&&◌, ◌+◌, ◌-◌, ℕ, Bool, false, not, true, List, Option, Some, None, filter_map, replicate, slice_index_or, slice_set, if◌then◌else◌}
+-- What is counted of the live objects as callers see it: by index, their references and whether
+-- they are retired.
+use Rattle.std.specs.Prelude.{◌==◌, ◌&&◌, ◌+◌, ◌-◌, ℕ, Bool, false}
+use Rattle.std.specs.Prelude.{not, true, List, Option, Some, None, filter_map}
+use Rattle.std.specs.Prelude.{replicate, slice_index_or, slice_set, if◌then◌else◌}
 use Rattle.std.specs.Option.{option_map, option_map_or}
 use Rattle.gh_base.specs.declared.ids.Serial.{Serial}
 use Rattle.gh_base.specs.declared.limits.TheConstants.{OBJECT_INDICES}

@@ -1,11 +1,15 @@
 -- The headers of the live objects as callers see them: by index, with the partition places that the
 -- live partitions have.
-use Rattle.std.specs.Prelude.{◌≡◌, ◌==◌, ℕ, ◌+◌, ◌*◌, ◌/◌, ◌<◌, Bool, true, false, List, Option, Some, None, is_some, is_none, take, drop, count_by, nat_lt, slice_index_or, slice_set, replicate, if◌then◌else◌}
+use Rattle.std.specs.Prelude.{◌≡◌, ◌==◌, ℕ, ◌+◌, ◌*◌, ◌/◌}
+use Rattle.std.specs.Prelude.{◌<◌, Bool, true, false, List, Option, Some, None}
+use Rattle.std.specs.Prelude.{is_some, is_none, take, drop, count_by, nat_lt}
+use Rattle.std.specs.Prelude.{slice_index_or, slice_set, replicate, if◌then◌else◌}
 use Rattle.std.specs.List.{position_or_len}
 use Rattle.std.specs.Option.{option_map, option_map_or}
 use Rattle.gh_base.specs.declared.ids.ObjIndex.{ObjIndex}
 use Rattle.gh_base.specs.declared.kind.Kind.{Kind}
-use Rattle.gh_base.specs.declared.kind.Kind.TheVariants.{Partition, Cspace, Space, Extent, Bell, Queue}
+use Rattle.gh_base.specs.declared.kind.Kind.TheVariants.{Partition, Cspace, Space}
+use Rattle.gh_base.specs.declared.kind.Kind.TheVariants.{Extent, Bell, Queue}
 use Rattle.gh_base.specs.declared.kind.Stage.{Stage}
 use Rattle.gh_base.specs.declared.limits.TheConstants.{OBJECT_INDICES, PARTITIONS, PARTITION_PLACES}
 use Rattle.gh_objects.specs.declared.header.Header.{Header}
@@ -18,7 +22,10 @@ pub record HeaderTable : Type 0 where
 
 -- no object lives
 abbrev pub no_headers : HeaderTable
-no_headers = record { headers = replicate OBJECT_INDICES None; partitions = replicate PARTITIONS None }
+no_headers = record {
+  headers = replicate OBJECT_INDICES None;
+  partitions = replicate PARTITIONS None;
+}
 
 -- the header at an index
 abbrev pub header_at : List (Option Header) → ℕ → Option Header
@@ -51,10 +58,12 @@ headers_in headers place = take PARTITION_PLACES (drop (PARTITION_PLACES * place
 
 -- the least free index of a partition place
 abbrev pub free_index : List (Option Header) → ℕ → ℕ
-free_index headers place = PARTITION_PLACES * place + position_or_len is_none (headers_in headers place)
+free_index headers place =
+    PARTITION_PLACES * place + position_or_len is_none (headers_in headers place)
 
 -- a boot partition may have this index: the first of a partition place that no live partition has
-pub record IsBootPlace (partitions : List (Option ObjIndex)) (kind : Kind) (index : ℕ) : Type 0 where
+pub record IsBootPlace (partitions : List (Option ObjIndex)) (kind : Kind)
+    (index : ℕ) : Type 0 where
   pub partition : kind ≡ Partition
   pub first : index ≡ PARTITION_PLACES * (index / PARTITION_PLACES)
   pub place : index / PARTITION_PLACES < PARTITIONS
@@ -67,24 +76,31 @@ HasIndexIf true s kind partition =
     count_by is_some (headers_in s.headers (place_of s.partitions partition)) < PARTITION_PLACES
 HasIndexIf false s kind partition = IsBootPlace s.partitions kind partition
 
+-- there is an index for a new object of the kind, whether the partition lives or not
 abbrev pub HasIndex : HeaderTable → Kind → ℕ → Type 0
-HasIndex s kind partition = HasIndexIf (is_partition (header_at s.headers partition)) s kind partition
+HasIndex s kind partition =
+    HasIndexIf (is_partition (header_at s.headers partition)) s kind partition
 
 -- the index of a new object in this partition
 abbrev pub new_index : HeaderTable → ℕ → ℕ
 new_index s partition =
-    if is_partition (header_at s.headers partition) then free_index s.headers (place_of s.partitions partition) else partition
+    if is_partition (header_at s.headers partition)
+    then free_index s.headers (place_of s.partitions partition)
+    else partition
 
 -- the partition place of a new partition: the least that no live partition has, and a boot
 -- partition's own
 abbrev pub new_place : HeaderTable → ℕ → ℕ
 new_place s partition =
-    if is_partition (header_at s.headers partition) then position_or_len is_none s.partitions else partition / PARTITION_PLACES
+    if is_partition (header_at s.headers partition) then position_or_len is_none s.partitions
+    else partition / PARTITION_PLACES
 
 -- the partition places once an object of this kind has this index: a partition has that place
-abbrev pub with_partition : List (Option ObjIndex) → Kind → ℕ → ℕ → List (Option ObjIndex)
+abbrev pub with_partition :
+    List (Option ObjIndex) → Kind → ℕ → ℕ → List (Option ObjIndex)
 with_partition partitions kind place index =
-    if is_partition_kind kind then slice_set partitions place (Some (record { 0 = index })) else partitions
+    if is_partition_kind kind then slice_set partitions place (Some (record { 0 = index }))
+    else partitions
 
 -- the headers with a new one at this index, where a partition has this place
 abbrev pub with_header : HeaderTable → Header → ℕ → ℕ → HeaderTable
@@ -95,12 +111,15 @@ with_header s header place index = record {
 
 -- the headers with a new one
 abbrev pub header_inserted : HeaderTable → Header → HeaderTable
-header_inserted s header = with_header s header (new_place s header.partition.0) (new_index s header.partition.0)
+header_inserted s header =
+    with_header s header (new_place s header.partition.0) (new_index s header.partition.0)
 
 -- the partition places once no object has this index
 abbrev pub without_partition : HeaderTable → ℕ → List (Option ObjIndex)
 without_partition s index =
-    if is_partition (header_at s.headers index) then slice_set s.partitions (place_of s.partitions index) None else s.partitions
+    if is_partition (header_at s.headers index)
+    then slice_set s.partitions (place_of s.partitions index) None
+    else s.partitions
 
 -- the headers without that of an index
 abbrev pub header_removed : HeaderTable → ℕ → HeaderTable
@@ -116,7 +135,9 @@ in_stage stage header = record header { stage = stage }
 -- the headers with that of an index in another stage
 abbrev pub header_staged : Stage → HeaderTable → ℕ → HeaderTable
 header_staged stage s index =
-    record s { headers = slice_set s.headers index (option_map (in_stage stage) (header_at s.headers index)) }
+    record s {
+      headers = slice_set s.headers index (option_map (in_stage stage) (header_at s.headers index));
+    }
 
 -- the header is that of the object with this serial
 abbrev pub has_serial : ℕ → Option Header → Bool

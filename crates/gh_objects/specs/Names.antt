@@ -1,6 +1,8 @@
 -- How the serials of the live objects are found: a rising list of names, each a serial above the
 -- index of its object. No public clause cites this module.
-use Rattle.std.specs.Prelude.{◌≡◌, ◌==◌, ℕ, ◌+◌, ◌*◌, ◌/◌, ◌%◌, ◌≤◌, Bool, false, List, Option, Some, None, length, is_some, count_by, nat_eq, if◌then◌else◌}
+use Rattle.std.specs.Prelude.{◌≡◌, ◌==◌, ℕ, ◌+◌, ◌*◌, ◌/◌}
+use Rattle.std.specs.Prelude.{◌%◌, ◌≤◌, Bool, false, List, Option, Some, None}
+use Rattle.std.specs.Prelude.{length, is_some, count_by, nat_eq, if◌then◌else◌}
 use Rattle.std.specs.List.Sorted.{IsNonDecreasingBy}
 use Rattle.std.specs.Option.{option_map, option_map_or, option_to_list}
 use Rattle.gh_base.specs.declared.limits.TheConstants.{OBJECT_INDICES}
@@ -23,7 +25,8 @@ name_at index header = option_map (λ h. name_of h.serial.0 index) header
 -- the index in a name, if there is one and it has this serial
 abbrev pub index_in : ℕ → Option ℕ → Option ℕ
 index_in serial None = None
-index_in serial (Some name) = if name / INDEX_VALUES == serial then Some (name % INDEX_VALUES) else None
+index_in serial (Some name) =
+    if name / INDEX_VALUES == serial then Some (name % INDEX_VALUES) else None
 
 -- the header at the index in a name has the serial in it
 abbrev pub is_live : List (Option Header) → ℕ → Bool
@@ -43,8 +46,12 @@ is_name name other = option_map_or (nat_eq other) name false
 
 -- the one list has the old name where the other has the new one, and both have all else as often
 pub record Renames (old new : Option ℕ) (before after : List ℕ) : Type 0 where
-  pub each : (other : ℕ) → times after other + once_if (is_name old other) ≡ times before other + once_if (is_name new other)
-  pub len : length after + length (option_to_list old) ≡ length before + length (option_to_list new)
+  pub each :
+      (other : ℕ)
+      → times after other + once_if (is_name old other)
+      ≡ times before other + once_if (is_name new other)
+  pub len :
+      length after + length (option_to_list old) ≡ length before + length (option_to_list new)
 
 -- the names of live objects stand in the list once each, and no others do
 pub record AreNamed (headers : List (Option Header)) (names : List ℕ) : Type 0 where

@@ -1,7 +1,8 @@
 -- How headers and counts lie: a bit for each index that is taken, a name for each
 -- live object, and two lists of serials. No public
 -- clause cites this module.
-use Rattle.std.specs.Prelude.{◌≡◌, ◌==◌, ℕ, ◌/◌, ◌%◌, ◌<◌, List, Option, length, is_none, slice_index}
+use Rattle.std.specs.Prelude.{◌≡◌, ◌==◌, ℕ, ◌/◌, ◌%◌, ◌<◌}
+use Rattle.std.specs.Prelude.{List, Option, length, is_none, slice_index}
 use Rattle.std.specs.Int.{bit_at}
 use Rattle.gh_base.specs.declared.ids.Serial.{Serial}
 use Rattle.gh_base.specs.declared.limits.TheConstants.{OBJECT_INDICES, PARTITIONS, PARTITION_PLACES}
@@ -13,7 +14,8 @@ use Rattle.gh_objects.specs.Names.{AreNamed}
 
 -- the bit of an index in the words of the partition places
 abbrev pub bit_of : List ℕ → ℕ → ℕ
-bit_of taken index = bit_at (slice_index taken (index / PARTITION_PLACES)) (index % PARTITION_PLACES)
+bit_of taken index =
+    bit_at (slice_index taken (index / PARTITION_PLACES)) (index % PARTITION_PLACES)
 
 -- an index has no header exactly where its bit is 0
 pub record IsMarked (headers : List (Option Header)) (taken : List ℕ) : Type 0 where
@@ -28,7 +30,8 @@ pub record IsKept (headers : List (Option Header)) (taken names : List ℕ) : Ty
   pub named : AreNamed headers names
 
 -- the lists have the serials of the doomed and of the retired objects
-pub record AreListed (counts : List (Option Count)) (doomed_list retired_list : List Serial) : Type 0 where
+pub record AreListed (counts : List (Option Count))
+    (doomed_list retired_list : List Serial) : Type 0 where
   pub indices : length counts ≡ OBJECT_INDICES
   pub doomed_listed : doomed_list ≡ doomed counts
   pub retired_listed : retired_list ≡ retired counts

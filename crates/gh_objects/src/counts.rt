@@ -1,6 +1,7 @@
 //! The count of each index, and the serials of the doomed and of the retired objects.
 
-ghost use Rattle.std.specs.Prelude.{◌≡◌, ◌+◌, ◌<◌, IfOk, IfSome, Contains, None, length, replicate, slice_set};
+ghost use Rattle.std.specs.Prelude.{◌≡◌, ◌+◌, ◌<◌, IfOk, IfSome};
+ghost use Rattle.std.specs.Prelude.{Contains, None, length, replicate, slice_set};
 ghost use Rattle.std.specs.Option.{option_to_list};
 ghost use Rattle.std.specs.List.Sorted.{IsNonDecreasingBy};
 ghost use Rattle.gh_objects.specs.Counts.{count_at, doomed, no_counts, retired};
@@ -93,7 +94,8 @@ fn nothing_counted(alloc: Global, count: usize) -> Result<Vec<Option<Count>>, No
     Ok(counts)
 }
 
-/// Puts one serial in the place of another, where there are such. A list that is to stay isn't touched.
+/// Puts one serial in the place of another, where there are such. A list that is to stay isn't
+/// touched.
 fn relist(list: &mut Rising, old: Option<Serial>, new: Option<Serial>)
     requires listed { IfSome old (Contains list.old) }
     requires room { length list.old < OBJECT_INDICES + length (option_to_list old) }

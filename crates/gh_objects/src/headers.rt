@@ -1,8 +1,12 @@
 //! The headers of the live objects, and the partition places that the live partitions have.
 
-ghost use Rattle.std.specs.Prelude.{◌≡◌, ◌/◌, ◌<◌, ℕ, false, true, None, is_some, is_none, IfOk, IfSome, IsSome, count_by};
+ghost use Rattle.std.specs.Prelude.{◌≡◌, ◌/◌, ◌<◌, ℕ, false, true, None};
+ghost use Rattle.std.specs.Prelude.{is_some, is_none, IfOk, IfSome, IsSome, count_by};
 ghost use Rattle.std.specs.List.{position_or_len};
-ghost use Rattle.gh_objects.specs.Headers.{no_headers, header_at, headers_in, is_partition, place_of, free_index, IsBootPlace, HasIndex, new_index, with_header, header_inserted, header_removed, header_staged, has_partition_place, has_serial};
+ghost use Rattle.gh_objects.specs.Headers.{no_headers, header_at, headers_in, is_partition};
+ghost use Rattle.gh_objects.specs.Headers.{place_of, free_index, IsBootPlace, HasIndex, new_index};
+ghost use Rattle.gh_objects.specs.Headers.{with_header, header_inserted, header_removed};
+ghost use Rattle.gh_objects.specs.Headers.{header_staged, has_partition_place, has_serial};
 ghost use Rattle.gh_objects.specs.Partitions.{HavePlaces, place_if};
 
 use crate::header::Header;
@@ -81,9 +85,9 @@ impl Headers {
         Some(ObjIndex(index as u16))
     }
 
-    /// Puts the header of a new object to its index, and answers that: the least that is free in its
-    /// partition. A boot partition lives in itself and has its own index. A partition that is made
-    /// in another gets the least partition place that no live partition has.
+    /// Puts the header of a new object to its index, and answers that: the least that is free in
+    /// its partition. A boot partition lives in itself and has its own index. A partition that is
+    /// made in another gets the least partition place that no live partition has.
     pub fn insert(&mut self, header: Header) -> ObjIndex
         requires index { HasIndex self.old header.kind header.partition.0 }
         requires place { header.kind ≡ Kind.Partition
@@ -108,8 +112,8 @@ impl Headers {
         self.table.set(object.0 as usize, Some(header));
     }
 
-    /// Takes away the header of a live object. Its index is free again, and the partition place of a
-    /// partition.
+    /// Takes away the header of a live object. Its index is free again, and the partition place of
+    /// a partition.
     pub fn remove(&mut self, object: ObjIndex)
         requires { IsSome (header_at self.old.headers object.0) }
         ensures { self.new ≡ header_removed self.old object.0 }

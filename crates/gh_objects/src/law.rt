@@ -7,7 +7,8 @@ ghost use Rattle.gh_base.specs.declared.kind.Stage.{Stage};
 ghost use Rattle.gh_objects.specs.declared.count.Count.{Count};
 ghost use Rattle.gh_objects.specs.declared.header.Header.{Header};
 ghost use Rattle.gh_objects.specs.Counts.{count_at};
-ghost use Rattle.gh_objects.specs.Headers.{HeaderTable, header_at, header_staged, in_stage, new_index};
+ghost use Rattle.gh_objects.specs.Headers.{HeaderTable, header_at};
+ghost use Rattle.gh_objects.specs.Headers.{header_staged, in_stage, new_index};
 ghost use Rattle.gh_objects.specs.Objects.{Objects, changed, inserted, removed};
 
 /// A new object leaves the header and the count of every index but its own.
@@ -35,7 +36,8 @@ pub fn change_changes_one_count()
     ensures here { (change : Count → Count) (s : Objects) (index : ℕ) →
         count_at (changed change s index).counts index
         ≡ option_map change (count_at s.counts index) }
-    ensures others { (change : Count → Count) (s : Objects) (index other : ℕ) → other ≢ index →
+    ensures others { (change : Count → Count) (s : Objects) (index other : ℕ) →
+        other ≢ index →
         count_at (changed change s index).counts other ≡ count_at s.counts other }
     ensures headers { (change : Count → Count) (s : Objects) (index : ℕ) →
         (changed change s index).table ≡ s.table }
@@ -45,7 +47,8 @@ pub fn change_changes_one_count()
 pub fn remove_clears_one_index()
     ensures header { (s : Objects) (index : ℕ) →
         header_at (removed s index).table.headers index ≡ None }
-    ensures count { (s : Objects) (index : ℕ) → count_at (removed s index).counts index ≡ None }
+    ensures count { (s : Objects) (index : ℕ) →
+        count_at (removed s index).counts index ≡ None }
     ensures other_headers { (s : Objects) (index other : ℕ) → other ≢ index →
         header_at (removed s index).table.headers other ≡ header_at s.table.headers other }
     ensures other_counts { (s : Objects) (index other : ℕ) → other ≢ index →

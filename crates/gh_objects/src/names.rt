@@ -1,10 +1,12 @@
 //! The names of the live objects, rising: each is a serial above the index of its object.
 
-ghost use Rattle.std.specs.Prelude.{◌≡◌, ◌+◌, ◌<◌, ◌≤◌, ℕ, [], IfOk, IfSome, IsSomeAnd, Contains, length, nat_eq, nat_lt, slice_get};
+ghost use Rattle.std.specs.Prelude.{◌≡◌, ◌+◌, ◌<◌, ◌≤◌, ℕ, [], IfOk, IfSome};
+ghost use Rattle.std.specs.Prelude.{IsSomeAnd, Contains, length, nat_eq, nat_lt, slice_get};
 ghost use Rattle.std.specs.List.Sorted.{IsNonDecreasingBy};
 ghost use Rattle.std.specs.List.{prefix_len};
 ghost use Rattle.std.specs.Option.{option_to_list};
-ghost use Rattle.gh_objects.specs.Names.{itself, name_of, name_at, index_in, times, once_if, Renames};
+ghost use Rattle.gh_objects.specs.Names.{itself, name_of, name_at};
+ghost use Rattle.gh_objects.specs.Names.{index_in, times, once_if, Renames};
 
 use crate::header::Header;
 use gh_base::{NoMemory, OBJECT_INDICES, Serial};

@@ -1,9 +1,12 @@
 //! The live objects: their headers and their counts.
 
-ghost use Rattle.std.specs.Prelude.{◌≡◌, ◌≢◌, ◌<◌, ℕ, false, true, None, Some, IfOk, IfSome, IsSome, IsSomeAnd, count_by, slice_set};
+ghost use Rattle.std.specs.Prelude.{◌≡◌, ◌≢◌, ◌<◌, ℕ, false, true, None};
+ghost use Rattle.std.specs.Prelude.{Some, IfOk, IfSome, IsSome, IsSomeAnd, count_by, slice_set};
 ghost use Rattle.std.specs.List.Sorted.{IsNonDecreasingBy};
-ghost use Rattle.gh_objects.specs.Counts.{count_at, new_count, with_reference, without_reference, as_retired, is_doomed, doomed, retired};
-ghost use Rattle.gh_objects.specs.Headers.{header_at, is_partition, place_of, HasIndex, new_index, header_staged, has_partition_place, has_serial};
+ghost use Rattle.gh_objects.specs.Counts.{count_at, new_count, with_reference, without_reference};
+ghost use Rattle.gh_objects.specs.Counts.{as_retired, is_doomed, doomed, retired};
+ghost use Rattle.gh_objects.specs.Headers.{header_at, is_partition, place_of, HasIndex, new_index};
+ghost use Rattle.gh_objects.specs.Headers.{header_staged, has_partition_place, has_serial};
 ghost use Rattle.gh_objects.specs.Objects.{ArePaired, no_objects, inserted, removed, changed};
 ghost use Rattle.gh_objects.specs.Partitions.{HavePlaces, place_if};
 ghost use Rattle.gh_objects.specs.Serials.{number};
@@ -108,7 +111,8 @@ impl Objects {
         ensures found { IfSome result
             (λ index. has_serial serial.0 (header_at self.now.table.headers index.0) ≡ true) }
         ensures none { result ≡ None
-            → (index : ℕ) → has_serial serial.0 (header_at self.now.table.headers index) ≡ false }
+            → (index : ℕ)
+            → has_serial serial.0 (header_at self.now.table.headers index) ≡ false }
     {
         self.headers.index_of(serial)
     }

@@ -1,6 +1,7 @@
 //! The partition places: for each the index of the live partition that has it.
 
-ghost use Rattle.std.specs.Prelude.{◌≡◌, ◌<◌, is_none, is_some, length, nat_lt, count_by, position, slice_index_or};
+ghost use Rattle.std.specs.Prelude.{◌≡◌, ◌<◌, is_none, is_some, length};
+ghost use Rattle.std.specs.Prelude.{nat_lt, count_by, position, slice_index_or};
 ghost use Rattle.std.specs.List.{position_or_len};
 ghost use Rattle.gh_objects.specs.Headers.{is_had_by, is_partition_kind};
 

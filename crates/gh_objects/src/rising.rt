@@ -1,6 +1,7 @@
 //! A rising list of serials, with room for one of each index.
 
-ghost use Rattle.std.specs.Prelude.{◌≡◌, ◌+◌, ◌<◌, ◌≤◌, List, [], length, IfOk, Contains};
+ghost use Rattle.std.specs.Prelude.{◌≡◌, ◌+◌, ◌<◌, ◌≤◌};
+ghost use Rattle.std.specs.Prelude.{List, [], length, IfOk, Contains};
 ghost use Rattle.std.specs.List.Sorted.{IsNonDecreasingBy};
 ghost use Rattle.gh_base.specs.declared.ids.Serial.{Serial as Number};
 ghost use Rattle.gh_objects.specs.Rising.{place_in};
@@ -57,7 +58,8 @@ impl Rising {
     /// Takes a serial out, so that the list is as if it had not been put in.
     pub fn remove(&mut self, serial: Serial)
         requires { Contains self.old serial }
-        ensures rest { (rest : List Number) → self.old ≡ with_serial serial rest → self.new ≡ rest }
+        ensures rest { (rest : List Number) → self.old ≡ with_serial serial rest
+            → self.new ≡ rest }
         ensures len { length self.new + 1 ≡ length self.old }
     {
         let at = place_of(self.serials.as_slice(), serial);

@@ -1,6 +1,7 @@
 //! The header of each index, which indices are free, and which index a serial has.
 
-ghost use Rattle.std.specs.Prelude.{◌≡◌, ◌<◌, ℕ, false, true, None, IfOk, IfSome, is_some, count_by, replicate, slice_set};
+ghost use Rattle.std.specs.Prelude.{◌≡◌, ◌<◌, ℕ, false, true, None, IfOk};
+ghost use Rattle.std.specs.Prelude.{IfSome, is_some, count_by, replicate, slice_set};
 ghost use Rattle.gh_objects.specs.Headers.{header_at, headers_in, free_index, has_serial};
 
 use crate::header::Header;

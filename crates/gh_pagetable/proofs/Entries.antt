@@ -1,8 +1,10 @@
 -- What an entry says of its range, and what its table has.
-use Rattle.std.proofs.Common.{◌≡◌, ℕ, ◌+◌, ◌*◌, ◌<◌, Bool, true, false, List, length, if◌then◌else◌, refl, sym, ap, ◌∙◌}
+use Rattle.std.proofs.Common.{◌≡◌, ℕ, ◌+◌, ◌*◌, ◌<◌, Bool, true, false}
+use Rattle.std.proofs.Common.{List, length, if◌then◌else◌, refl, sym, ap, ◌∙◌}
 use Rattle.std.specs.List.{flat_map, sum_by}
 use Rattle.std.proofs.lemmas.List.Folds.{fold-map}
-use Rattle.gh_pagetable.specs.Entry.{IsCanonical, IsTable, descriptor_of, run, shown, tables_below, targets_of}
+use Rattle.gh_pagetable.specs.Entry.{IsCanonical, IsTable, descriptor_of}
+use Rattle.gh_pagetable.specs.Entry.{run, shown, tables_below, targets_of}
 use Rattle.gh_pagetable.specs.Map.{Target, at, is_uniform}
 use Rattle.gh_pagetable.specs.declared.descriptor.Descriptor.{Descriptor}
 use Rattle.gh_pagetable.specs.declared.descriptor.Descriptor.TheVariants.{Uniform, Table}

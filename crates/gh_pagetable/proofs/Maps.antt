@@ -1,8 +1,10 @@
 -- Maps that are empty, and maps after a run is set.
-use Rattle.std.proofs.Common.{◌≡◌, ℕ, zero, suc, ◌+◌, ◌≤◌, List, length, None, refl, ◌∙◌}
+use Rattle.std.proofs.Common.{◌≡◌, ℕ, zero, suc, ◌+◌, ◌≤◌}
+use Rattle.std.proofs.Common.{List, length, None, refl, ◌∙◌}
 use Rattle.gh_pagetable.specs.Entry.{overwritten, run}
 use Rattle.gh_pagetable.specs.Map.{Target, IsEmpty, SetsRun, at}
-use Rattle.gh_pagetable.proofs.Overwriting.{at-overwritten_inside, at-overwritten_outside, length-overwritten}
+use Rattle.gh_pagetable.proofs.Overwriting.{at-overwritten_inside}
+use Rattle.gh_pagetable.proofs.Overwriting.{at-overwritten_outside, length-overwritten}
 use Rattle.gh_pagetable.proofs.Runs.{at-run, length-run}
 
 at-run_none : (n v : ℕ) → at (run None n) v ≡ None

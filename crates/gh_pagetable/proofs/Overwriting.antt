@@ -1,5 +1,6 @@
 -- What writing over a part of a list leaves.
-use Rattle.std.proofs.Common.{◌≡◌, ℕ, ◌+◌, ◌<◌, ◌≤◌, List, [], ◌++◌, length, take, drop, sym, arith, rules}
+use Rattle.std.proofs.Common.{◌≡◌, ℕ, ◌+◌, ◌<◌, ◌≤◌, List}
+use Rattle.std.proofs.Common.{[], ◌++◌, length, take, drop, sym, arith, rules}
 use Rattle.std.proofs.lemmas.List.{places, same_lists, append_assoc, take-append-le, drop-append-le}
 use Rattle.gh_pagetable.specs.Entry.{overwritten}
 use Rattle.gh_pagetable.specs.Map.{Target, IsOutside, at}

@@ -1,5 +1,7 @@
 -- Targets further on, and runs of them.
-use Rattle.std.proofs.Common.{◌≡◌, ℕ, zero, suc, ◌+◌, ◌<◌, ◌≤◌, List, ◌∷◌, ◌++◌, length, None, Some, refl, sym, ap, ◌∙◌, arith, zero-add, suc-add, one-add}
+use Rattle.std.proofs.Common.{◌≡◌, ℕ, zero, suc, ◌+◌, ◌<◌, ◌≤◌}
+use Rattle.std.proofs.Common.{List, ◌∷◌, ◌++◌, length, None, Some, refl}
+use Rattle.std.proofs.Common.{sym, ap, ◌∙◌, arith, zero-add, suc-add, one-add}
 use Rattle.std.proofs.lemmas.Grind.{common_steps}
 use Rattle.gh_pagetable.specs.Entry.{AreNumbered, overwritten, run}
 use Rattle.gh_pagetable.specs.Map.{Target, at, further}

@@ -1,5 +1,8 @@
 -- One more step of a loop over the entries of a table.
-use Rattle.std.proofs.Common.{◌≡◌, ℕ, suc, ◌+◌, ◌-◌, ◌*◌, ◌/◌, ◌%◌, ◌<◌, ◌≤◌, false, List, [], ◌∷◌, length, take, drop, get_or, slice_set, if◌then◌else◌, sym, ap, ◌∙◌, arith, mul-suc}
+use Rattle.std.proofs.Common.{◌≡◌, ℕ, suc, ◌+◌, ◌-◌, ◌*◌, ◌/◌}
+use Rattle.std.proofs.Common.{◌%◌, ◌<◌, ◌≤◌, false, List, [], ◌∷◌}
+use Rattle.std.proofs.Common.{length, take, drop, get_or, slice_set}
+use Rattle.std.proofs.Common.{if◌then◌else◌, sym, ap, ◌∙◌, arith, mul-suc}
 use Rattle.std.specs.List.{flat_map}
 use Rattle.std.proofs.lemmas.List.{drop_more, take_more_set}
 use Rattle.std.proofs.lemmas.List.Elements.{All-push}
@@ -10,7 +13,8 @@ use Rattle.gh_pagetable.specs.declared.descriptor.Descriptor.TheVariants.{Unifor
 use Rattle.gh_pagetable.proofs.Overwriting.{length-overwritten, overwritten-overwritten}
 use Rattle.gh_pagetable.proofs.Runs.{length-run, run-append}
 use Rattle.gh_pagetable.proofs.Tables.{cover_head, length-table, overwritten-entry, table-set}
-use Rattle.gh_pagetable.proofs.Uniform.{descriptor_of-append, descriptor_of-first, leads_on_not, leads_on_past}
+use Rattle.gh_pagetable.proofs.Uniform.{descriptor_of-append, descriptor_of-first}
+use Rattle.gh_pagetable.proofs.Uniform.{leads_on_not, leads_on_past}
 
 module _ {E : Type 0} (targets : E → List Target) (n : ℕ) where
   -- one more entry is written, and covers n pages

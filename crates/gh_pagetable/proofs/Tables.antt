@@ -1,5 +1,7 @@
 -- The targets of a table: those of its entries, one after another.
-use Rattle.std.proofs.Common.{◌≡◌, ℕ, zero, suc, ◌+◌, ◌*◌, ◌/◌, ◌%◌, ◌<◌, ◌≤◌, List, [], ◌∷◌, length, get_or, slice_set, sym, ap, ◌∙◌, arith, length-append, mul-zero, mul_comm}
+use Rattle.std.proofs.Common.{◌≡◌, ℕ, zero, suc, ◌+◌, ◌*◌, ◌/◌, ◌%◌}
+use Rattle.std.proofs.Common.{◌<◌, ◌≤◌, List, [], ◌∷◌, length, get_or, slice_set}
+use Rattle.std.proofs.Common.{sym, ap, ◌∙◌, arith, length-append, mul-zero, mul_comm}
 use Rattle.std.specs.List.{flat_map}
 use Rattle.std.proofs.lemmas.List.{places, get_or-append-add, length-set}
 use Rattle.std.proofs.lemmas.List.Elements.{All-head, All-tail, All-set}

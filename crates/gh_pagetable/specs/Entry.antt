@@ -1,6 +1,8 @@
 -- How a page table lies: an entry says that its range of pages is uniform, or that its table has
 -- 16 entries which say more.
-use Rattle.std.specs.Prelude.{◌≡◌, ℕ, ◌+◌, ◌*◌, ◌≤◌, ◌==◌, ◌&&◌, ⊤, Bool, true, false, zero, suc, List, [], ◌∷◌, ◌++◌, length, take, drop, Some, None, All, sum_by, if◌then◌else◌}
+use Rattle.std.specs.Prelude.{◌≡◌, ℕ, ◌+◌, ◌*◌, ◌≤◌, ◌==◌, ◌&&◌}
+use Rattle.std.specs.Prelude.{⊤, Bool, true, false, zero, suc, List, [], ◌∷◌, ◌++◌}
+use Rattle.std.specs.Prelude.{length, take, drop, Some, None, All, sum_by, if◌then◌else◌}
 use Rattle.std.specs.List.{flat_map}
 use Rattle.gh_pagetable.specs.Map.{Target, at, further, is_uniform, ranges}
 use Rattle.gh_pagetable.specs.declared.descriptor.TheConstants.{NUMBERED_PAGES}

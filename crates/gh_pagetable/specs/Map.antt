@@ -1,6 +1,9 @@
 -- What callers see of a page table: where each page of the address space leads, and how many tables
 -- that takes.
-use Rattle.std.specs.Prelude.{◌≡◌, ℕ, ◌+◌, ◌/◌, ◌<◌, ◌≤◌, ◌==◌, ◌&&◌, ◌||◌, ◌⊎◌, not, Bool, true, false, zero, suc, List, [], ◌∷◌, length, take, drop, Option, Some, None, is_none, slice_index_or, count_by}
+use Rattle.std.specs.Prelude.{◌≡◌, ℕ, ◌+◌, ◌/◌, ◌<◌, ◌≤◌}
+use Rattle.std.specs.Prelude.{◌==◌, ◌&&◌, ◌||◌, ◌⊎◌, not, Bool, true}
+use Rattle.std.specs.Prelude.{false, zero, suc, List, [], ◌∷◌, length, take, drop}
+use Rattle.std.specs.Prelude.{Option, Some, None, is_none, slice_index_or, count_by}
 use Rattle.std.specs.List.{list_all}
 use Rattle.gh_base.specs.declared.ids.PageNo.{PageNo}
 use Rattle.gh_base.specs.declared.limits.TheConstants.{SPACE_PAGES}

@@ -1,7 +1,8 @@
 //! The entries of tables, and those of the lowest tables.
 
 ghost use Rattle.std.specs.Prelude.{◌≡◌, ℕ, ◌+◌, ◌<◌, ◌≤◌, List, IfOk, None};
-ghost use Rattle.gh_pagetable.specs.Entry.{AreNumbered, BlockIsNumbered, descriptor_of, overwritten, run};
+ghost use Rattle.gh_pagetable.specs.Entry.{AreNumbered, BlockIsNumbered};
+ghost use Rattle.gh_pagetable.specs.Entry.{descriptor_of, overwritten, run};
 ghost use Rattle.gh_pagetable.specs.Map.{Target, at, second_pages, top_pages};
 
 use crate::descriptor::{Descriptor, Target};

@@ -6,8 +6,8 @@ ghost use Rattle.gh_pagetable.specs.Map.{at};
 
 use crate::page_table::PageTable;
 
-/// A law, with nothing to run. Two page tables that answer the same at every page are equal, however
-/// they were made.
+/// A law, with nothing to run. Two page tables that answer the same at every page are equal,
+/// however they were made.
 pub fn tables_are_their_answers(first: &PageTable, second: &PageTable)
     ensures { ((v : ℕ) → v < SPACE_PAGES → at first.now v ≡ at second.now v)
         → first.now ≡ second.now }

@@ -1,10 +1,12 @@
 //! Tables: the 16 entries that cover a range of pages, one after another. Pages are counted from
 //! the range's first.
 
-ghost use Rattle.std.specs.Prelude.{◌≡◌, ℕ, ◌+◌, ◌*◌, ◌<◌, ◌≤◌, length, sum_by, IfOk, None};
+ghost use Rattle.std.specs.Prelude.{◌≡◌, ℕ, ◌+◌, ◌*◌, ◌<◌};
+ghost use Rattle.std.specs.Prelude.{◌≤◌, length, sum_by, IfOk, None};
 ghost use Rattle.std.specs.Bool.{OnTrue};
 ghost use Rattle.std.specs.List.{flat_map};
-ghost use Rattle.gh_pagetable.specs.Entry.{AreNumbered, BlockIsNumbered, IsExact, IsTable, descriptor_of, leads_on, overwritten, run, targets_of};
+ghost use Rattle.gh_pagetable.specs.Entry.{AreNumbered, BlockIsNumbered, IsExact, IsTable};
+ghost use Rattle.gh_pagetable.specs.Entry.{descriptor_of, leads_on, overwritten, run, targets_of};
 ghost use Rattle.gh_pagetable.specs.Map.{at};
 
 use crate::descriptor::{Descriptor, Target, further};
@@ -76,7 +78,8 @@ pub fn update<E: Entry>(
     requires machine { AreNumbered target count }
     ensures exact { IsExact E.targets E.PAGES result entries.new }
     ensures targets { let old = targets_of E.targets E.PAGES descriptor entries.old in
-        targets_of E.targets E.PAGES result entries.new ≡ overwritten old first (run target count) }
+        targets_of E.targets E.PAGES result entries.new
+        ≡ overwritten old first (run target count) }
 {
     split(descriptor, entries);
     set(entries, first, count, target);

@@ -1,12 +1,15 @@
 -- When a grace period has passed, and which CPUs it waits for.
-use Rattle.std.proofs.Common.{◌≡◌, ◌↔◌, ◌<◌, ◌≤◌, ℕ, suc, List, [], ◌∷◌, length, Option, Some, None, IsTrue, is_some, is_none, position, slice_get, get_or, arith, rules}
+use Rattle.std.proofs.Common.{◌≡◌, ◌↔◌, ◌<◌, ◌≤◌, ℕ, suc, List}
+use Rattle.std.proofs.Common.{[], ◌∷◌, length, Option, Some, None, IsTrue, is_some}
+use Rattle.std.proofs.Common.{is_none, position, slice_get, get_or, arith, rules}
 use Rattle.std.specs.List.{position_or_len}
 use Rattle.std.proofs.lemmas.Grind.{common_steps}
 use Rattle.std.proofs.lemmas.List.Quantifiers.{position-Some}
 use Rattle.std.proofs.lemmas.List.Sums.{prefix_len-le-length}
 use Rattle.std.proofs.lemmas.Option.{slice_get-get_or}
 use Rattle.gh_base.specs.Counters.{is_odd, HaveLeft}
-use Rattle.gh_rcu.specs.Grace.{awaited, still_awaited, started, all_noted, has_passed, IsStillReading}
+use Rattle.gh_rcu.specs.Grace.{awaited, still_awaited, started}
+use Rattle.gh_rcu.specs.Grace.{all_noted, has_passed, IsStillReading}
 
 -- a CPU isn't waited for exactly where its counter wasn't odd or is greater now
 one_has_left : (before after : ℕ) →

@@ -1,5 +1,8 @@
--- What callers see of a grace period: for each CPU the counter that is still waited for, if there is one.
-use Rattle.std.specs.Prelude.{◌≡◌, ◌≤◌, ℕ, Bool, IsTrue, List, map, Option, Some, None, is_none, nat_lt, slice_set, slice_get, slice_index, slice_index_or, if◌then◌else◌}
+-- What callers see of a grace period: for each CPU the counter that is still waited for, if there
+-- is one.
+use Rattle.std.specs.Prelude.{◌≡◌, ◌≤◌, ℕ, Bool, IsTrue, List, map}
+use Rattle.std.specs.Prelude.{Option, Some, None, is_none, nat_lt, slice_set, slice_get}
+use Rattle.std.specs.Prelude.{slice_index, slice_index_or, if◌then◌else◌}
 use Rattle.std.specs.List.{list_all, zip}
 use Rattle.gh_base.specs.Counters.{is_odd}
 
@@ -29,7 +32,8 @@ all_noted waiting now = map (λ cpu. still_awaited cpu.0 cpu.1) (zip waiting now
 abbrev pub has_passed : List (Option ℕ) → Bool
 has_passed waiting = list_all is_none waiting
 
--- a CPU is still in the section that it was in: this counter was its odd one, and none greater is there
+-- a CPU is still in the section that it was in: this counter was its odd one, and none greater is
+-- there
 pub record IsStillReading (seen now : List ℕ) (cpu counter : ℕ) : Type 0 where
   pub before : slice_get seen cpu ≡ Some counter
   pub odd : IsTrue (is_odd counter)

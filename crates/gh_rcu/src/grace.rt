@@ -1,14 +1,15 @@
 //! A grace period over the counters of all CPUs.
 
-ghost use Rattle.std.specs.Prelude.{◌≡◌, ◌↔◌, ◌<◌, IsTrue, IfSome, Some, None, position, is_some, slice_get};
+ghost use Rattle.std.specs.Prelude.{◌≡◌, ◌↔◌, ◌<◌, IsTrue, IfSome};
+ghost use Rattle.std.specs.Prelude.{Some, None, position, is_some, slice_get};
 ghost use Rattle.std.specs.Option.{option_map};
 ghost use Rattle.gh_rcu.specs.Grace.{awaited as awaited_lem, still_awaited as still_awaited_lem};
 
 use gh_base::{CPUS, Counters, CpuNo, is_reading};
 use std::marker::Model;
 
-/// What is left to wait for: of each CPU that was in a read section at the start the counter that it
-/// had there, until a greater one is noted.
+/// What is left to wait for: of each CPU that was in a read section at the start the counter that
+/// it had there, until a greater one is noted.
 #[derive(Clone, Copy, Debug, PartialEq, Eq)]
 pub struct Grace {
     waiting: [Option<u64>; CPUS],
@@ -62,8 +63,8 @@ impl Grace {
         Grace { waiting }
     }
 
-    /// Takes note of a CPU's counter, and waits no more for the CPU if it is greater than the one kept.
-    /// A number above 8 is no CPU's and changes nothing.
+    /// Takes note of a CPU's counter, and waits no more for the CPU if it is greater than the one
+    /// kept. A number above 8 is no CPU's and changes nothing.
     pub fn note(&mut self, cpu: CpuNo, counter: u64)
         ensures { self.new ≡ noted self.old cpu.0 counter }
     {

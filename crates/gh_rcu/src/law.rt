@@ -6,9 +6,9 @@ ghost use Rattle.gh_rcu.specs.Grace.{started, all_noted, has_passed, IsStillRead
 
 use gh_base::Counters;
 
-/// A law, with nothing to run. Take a grace period that starts with the counters `seen`, and takes note
-/// of the counters `now`. It has passed exactly where each CPU whose counter was odd has a greater one
-/// now, and a CPU that it still waits for has not left the section that it was in.
+/// A law, with nothing to run. Take a grace period that starts with the counters `seen`, and takes
+/// note of the counters `now`. It has passed exactly where each CPU whose counter was odd has a
+/// greater one now, and a CPU that it still waits for has not left the section that it was in.
 #[tactic(auto, using(crate::proofs::GraceLemmas::passed_when_all_left))]
 pub fn grace_law(seen: Counters, now: Counters)
     ensures passed { IsTrue (has_passed (all_noted (started seen) now)) ↔ HaveLeft seen now }

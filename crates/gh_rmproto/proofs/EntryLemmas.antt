@@ -1,5 +1,7 @@
 -- Reading entries of a payload one after another.
-use Rattle.std.proofs.Common.{◌≡◌, ℕ, suc, ◌-◌, ◌+◌, ◌*◌, ◌<◌, ◌≤◌, ◌∷◌, ◌++◌, length, List, [], drop, refl, arith, subst, sym, ◌∙◌, ap, append_assoc, append-nil, length-drop}
+use Rattle.std.proofs.Common.{◌≡◌, ℕ, suc, ◌-◌, ◌+◌, ◌*◌, ◌<◌, ◌≤◌}
+use Rattle.std.proofs.Common.{◌∷◌, ◌++◌, length, List, [], drop, refl, arith, subst}
+use Rattle.std.proofs.Common.{sym, ◌∙◌, ap, append_assoc, append-nil, length-drop}
 use Rattle.gh_base.specs.RmLayout.{entries}
 
 -- so many of the entries are read, and the others are left

@@ -1,17 +1,24 @@
 -- A request reads as it was written.
-use Rattle.std.proofs.Common.{◌≡◌, ℕ, ◌+◌, ◌*◌, ◌<◌, ◌^◌, ◌∷◌, ◌++◌, length, List, [], All, drop, None, Ok, refl, arith, sym, ◌∙◌, ap, append_assoc, length-append}
+use Rattle.std.proofs.Common.{◌≡◌, ℕ, ◌+◌, ◌*◌, ◌<◌, ◌^◌}
+use Rattle.std.proofs.Common.{◌∷◌, ◌++◌, length, List, [], All, drop, None, Ok}
+use Rattle.std.proofs.Common.{refl, arith, sym, ◌∙◌, ap, append_assoc, length-append}
 use Rattle.std.specs.Int.{w16, w32, w64, to_le_bytes}
 use Rattle.std.specs.List.{flat_map}
 use Rattle.std.proofs.Math.Seq.{drop-append_seam}
 use Rattle.std.proofs.lemmas.Grind.{common_steps}
 use Rattle.std.proofs.lemmas.List.{drop-drop}
 use Rattle.std.proofs.lemmas.List.Elements.{All-head, All-tail}
-use Rattle.std.proofs.lemmas.Nat.{from_le_bytes-to_le_bytes_2, from_le_bytes-to_le_bytes_4, from_le_bytes-to_le_bytes_8}
+use Rattle.std.proofs.lemmas.Nat.{from_le_bytes-to_le_bytes_2, from_le_bytes-to_le_bytes_4}
+use Rattle.std.proofs.lemmas.Nat.{from_le_bytes-to_le_bytes_8}
 use Rattle.gh_base.specs.Bytes.{u8_at, u16_at, u32_at, u64_at}
 use Rattle.gh_base.specs.declared.rm.MemRequest.{MemRequest}
 use Rattle.gh_base.specs.declared.rm.Request.{Request}
-use Rattle.gh_base.specs.declared.rm.Request.TheVariants.{Lend, Share, Donate, Accept, Release, Reclaim}
-use Rattle.gh_base.specs.RmLayout.{MemoryFits, RequestFits, access_entry, access_entry_bytes, entries, memory_asked, memory_bytes, memory_entry, memory_entry_bytes, memory_part_bytes, memory_refusal, request_bytes, request_id, request_of}
+use Rattle.gh_base.specs.declared.rm.Request.TheVariants.{Lend, Share, Donate}
+use Rattle.gh_base.specs.declared.rm.Request.TheVariants.{Accept, Release, Reclaim}
+use Rattle.gh_base.specs.RmLayout.{MemoryFits, RequestFits, access_entry}
+use Rattle.gh_base.specs.RmLayout.{access_entry_bytes, entries, memory_asked, memory_bytes}
+use Rattle.gh_base.specs.RmLayout.{memory_entry, memory_entry_bytes, memory_part_bytes}
+use Rattle.gh_base.specs.RmLayout.{memory_refusal, request_bytes, request_id, request_of}
 
 -- ---- numbers
 

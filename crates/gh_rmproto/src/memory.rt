@@ -1,7 +1,11 @@
 //! The payload of a request for memory.
 
-ghost use Rattle.std.specs.Prelude.{◌≡◌, ◌≤◌, ◌+◌, ◌*◌, length, is_some, IfOk, IfSome};
-ghost use Rattle.gh_base.specs.RmLayout.{access_count, access_entry, access_width, appends, entries, is_memory_layout, memory_asked, memory_count, memory_entry, memory_refusal, memory_request_length, memory_width, unless_refused};
+ghost use Rattle.std.specs.Prelude.{◌≡◌, ◌≤◌, ◌+◌, ◌*◌};
+ghost use Rattle.std.specs.Prelude.{length, is_some, IfOk, IfSome};
+ghost use Rattle.gh_base.specs.RmLayout.{access_count, access_entry, access_width, appends};
+ghost use Rattle.gh_base.specs.RmLayout.{entries, is_memory_layout, memory_asked};
+ghost use Rattle.gh_base.specs.RmLayout.{memory_count, memory_entry, memory_refusal};
+ghost use Rattle.gh_base.specs.RmLayout.{memory_request_length, memory_width, unless_refused};
 
 use gh_base::{MemRequest, NoMemory, RmError, Sequence, u16_at, u32_at, u64_at};
 use std::alloc::Global;

@@ -1,7 +1,8 @@
 //! Requests to the resource manager.
 
 ghost use Rattle.std.specs.Prelude.{◌≡◌, IfOk};
-ghost use Rattle.gh_base.specs.RmLayout.{accept_request, handle_of, handle_width, is_request_id, request_of, unless_refused, width_refusal};
+ghost use Rattle.gh_base.specs.RmLayout.{accept_request, handle_of, handle_width, is_request_id};
+ghost use Rattle.gh_base.specs.RmLayout.{request_of, unless_refused, width_refusal};
 
 use crate::memory::read_memory;
 use gh_base::{

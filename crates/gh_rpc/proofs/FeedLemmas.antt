@@ -3,7 +3,8 @@ use Rattle.std.proofs.Common.{◌≡◌, ℕ, ◌≤◌, List, Option, None, Som
 use Rattle.std.proofs.lemmas.Grind.{common_steps}
 use Rattle.gh_base.specs.declared.fragment.FragmentKind.TheVariants.{Request}
 use Rattle.gh_base.specs.RpcMessage.{Continues, IsFragment, header_of, payload_of}
-use Rattle.gh_base.specs.RpcAssembly.{Progress, accepted, begun, continuation_fault, continued, fault_of, fed, fragment_fault, kind_fault, progress_of}
+use Rattle.gh_base.specs.RpcAssembly.{Progress, accepted, begun, continuation_fault, continued}
+use Rattle.gh_base.specs.RpcAssembly.{fault_of, fed, fragment_fault, kind_fault, progress_of}
 
 -- bytes that are a fragment have no fault as such
 no_fragment_fault : (bytes : List ℕ) → IsFragment bytes → fragment_fault bytes ≡ None

@@ -1,5 +1,7 @@
 -- Making the fragments of a message one after another.
-use Rattle.std.proofs.Common.{◌≡◌, ℕ, suc, ◌-◌, ◌+◌, ◌<◌, ◌≤◌, ◌∷◌, ◌++◌, List, [], drop, refl, arith, subst, sym, ◌∙◌, ap, append_assoc, append-nil}
+use Rattle.std.proofs.Common.{◌≡◌, ℕ, suc, ◌-◌, ◌+◌, ◌<◌, ◌≤◌}
+use Rattle.std.proofs.Common.{◌∷◌, ◌++◌, List, [], drop, refl, arith, subst}
+use Rattle.std.proofs.Common.{sym, ◌∙◌, ap, append_assoc, append-nil}
 use Rattle.gh_base.specs.declared.fragment.Message.{Message}
 use Rattle.gh_base.specs.declared.fragment.FragmentKind.TheVariants.{Continuation, Request}
 use Rattle.gh_base.specs.RpcMessage.{continuations, filled, fragments_of, further_fragments}

@@ -1,11 +1,14 @@
 -- A header reads as it was written, and what stands behind it is the payload.
-use Rattle.std.proofs.Common.{◌≡◌, ℕ, ◌+◌, ◌*◌, ◌/◌, ◌%◌, ◌<◌, ◌≤◌, ◌^◌, ◌++◌, List, length, refl, arith, ap}
+use Rattle.std.proofs.Common.{◌≡◌, ℕ, ◌+◌, ◌*◌, ◌/◌, ◌%◌, ◌<◌}
+use Rattle.std.proofs.Common.{◌≤◌, ◌^◌, ◌++◌, List, length, refl, arith, ap}
 use Rattle.std.proofs.lemmas.Nat.{from_le_bytes-to_le_bytes_2, from_le_bytes-to_le_bytes_4}
 use Rattle.gh_base.specs.Bytes.{u16_at, u32_at}
 use Rattle.gh_base.specs.declared.fragment.FragmentKind.{FragmentKind}
-use Rattle.gh_base.specs.declared.fragment.FragmentKind.TheVariants.{Continuation, Request, Reply, Notification}
+use Rattle.gh_base.specs.declared.fragment.FragmentKind.TheVariants.{Continuation, Request}
+use Rattle.gh_base.specs.declared.fragment.FragmentKind.TheVariants.{Reply, Notification}
 use Rattle.gh_base.specs.declared.fragment.Header.{Header}
-use Rattle.gh_base.specs.RpcMessage.{IsFragment, fragment_kind_number, fragment_kind_numbered, header_bytes, header_of, payload_of}
+use Rattle.gh_base.specs.RpcMessage.{IsFragment, fragment_kind_number, fragment_kind_numbered}
+use Rattle.gh_base.specs.RpcMessage.{header_bytes, header_of, payload_of}
 
 -- the numbers of a header are within their fields
 pub record HeaderFits (h : Header) : Type 0 where

@@ -1,12 +1,16 @@
 -- The fragments that are made of a message are that message.
-use Rattle.std.proofs.Common.{◌≡◌, ℕ, zero, suc, ◌-◌, ◌*◌, ◌/◌, ◌≤◌, ◌++◌, List, All, length, take, drop, refl, arith, sym, ◌∙◌, ap, length-take}
+use Rattle.std.proofs.Common.{◌≡◌, ℕ, zero, suc, ◌-◌, ◌*◌, ◌/◌}
+use Rattle.std.proofs.Common.{◌≤◌, ◌++◌, List, All, length, take, drop}
+use Rattle.std.proofs.Common.{refl, arith, sym, ◌∙◌, ap, length-take}
 use Rattle.std.specs.List.{flat_map}
 use Rattle.std.proofs.lemmas.List.{drop_all, take-append-drop, length-drop}
 use Rattle.std.proofs.lemmas.List.Elements.{All-nil, All-cons}
 use Rattle.gh_base.specs.declared.fragment.FragmentKind.{FragmentKind}
 use Rattle.gh_base.specs.declared.fragment.FragmentKind.TheVariants.{Continuation, Request}
 use Rattle.gh_base.specs.declared.fragment.Message.{Message}
-use Rattle.gh_base.specs.RpcMessage.{Continues, IsFragment, IsMessage, IsWithinFields, continuations, filled, fragments_of, further_fragments, header_in, header_of, payload_of}
+use Rattle.gh_base.specs.RpcMessage.{Continues, IsFragment, IsMessage, IsWithinFields}
+use Rattle.gh_base.specs.RpcMessage.{continuations, filled, fragments_of}
+use Rattle.gh_base.specs.RpcMessage.{further_fragments, header_in, header_of, payload_of}
 use Rattle.gh_rpc.proofs.HeaderLemmas.{HeaderFits, header_read, is_fragment, payload_read}
 
 -- a payload that has room needs 62 further fragments at most

@@ -1,18 +1,26 @@
 -- The open message is what the last fragments of the stream begin.
-use Rattle.std.proofs.Common.{◌≡◌, ◌↔◌, ℕ, zero, suc, ◌+◌, ◌-◌, ◌<◌, ◌++◌, ◌∷◌, List, [], All, Option, None, Some, Result, Ok, Err, length, replicate, refl, arith, sym, ◌∙◌, ap, subst, append_assoc, append-nil, zero-add, length-append}
+use Rattle.std.proofs.Common.{◌≡◌, ◌↔◌, ℕ, zero, suc, ◌+◌, ◌-◌, ◌<◌}
+use Rattle.std.proofs.Common.{◌++◌, ◌∷◌, List, [], All, Option, None, Some, Result}
+use Rattle.std.proofs.Common.{Ok, Err, length, replicate, refl, arith, sym, ◌∙◌, ap}
+use Rattle.std.proofs.Common.{subst, append_assoc, append-nil, zero-add, length-append}
 use Rattle.std.specs.List.{flat_map}
 use Rattle.std.specs.Option.{option_or}
 use Rattle.std.proofs.lemmas.Grind.{common_steps, flat_map-append}
 use Rattle.std.proofs.lemmas.List.Elements.{All-nil, All-head, All-tail, All-push}
 use Rattle.gh_base.specs.declared.fragment.FragmentKind.{FragmentKind}
-use Rattle.gh_base.specs.declared.fragment.FragmentKind.TheVariants.{Continuation, Request, Reply, Notification}
+use Rattle.gh_base.specs.declared.fragment.FragmentKind.TheVariants.{Continuation, Request}
+use Rattle.gh_base.specs.declared.fragment.FragmentKind.TheVariants.{Reply, Notification}
 use Rattle.gh_base.specs.declared.fragment.Message.{Message}
 use Rattle.gh_base.specs.declared.fragment.RpcFault.{RpcFault}
 use Rattle.gh_base.specs.RpcMessage.{Continues, IsBegun, IsFragment, header_of, payload_of}
-use Rattle.gh_base.specs.RpcAssembly.{Progress, accepted, answers, begun, continuation_fault, continued, fault_of, fed, fragment_fault, header_fault, judged, kind_fault, opened_behind, progress_of, progress_of_kind}
+use Rattle.gh_base.specs.RpcAssembly.{Progress, accepted, answers, begun}
+use Rattle.gh_base.specs.RpcAssembly.{continuation_fault, continued, fault_of, fed}
+use Rattle.gh_base.specs.RpcAssembly.{fragment_fault, header_fault, judged, kind_fault}
+use Rattle.gh_base.specs.RpcAssembly.{opened_behind, progress_of, progress_of_kind}
 use Rattle.gh_rpc.specs.Stream.{EndsUnfinished, EndsWith}
 use Rattle.gh_rpc.proofs.FeedLemmas.{continuation_fed, is_fragment_without_fault, request_fed}
-use Rattle.gh_rpc.proofs.StreamLemmas.{accepted_part, accepted_whole, answers-append, grown, message_given, opened_behind-append, same_message}
+use Rattle.gh_rpc.proofs.StreamLemmas.{accepted_part, accepted_whole, answers-append, grown}
+use Rattle.gh_rpc.proofs.StreamLemmas.{message_given, opened_behind-append, same_message}
 
 -- the last fragments of a stream begin the message so far
 record EndsBegun (p : Progress) (stream : List (List ℕ)) : Type 0 where

@@ -1,12 +1,15 @@
 -- What streams of fragments give.
-use Rattle.std.proofs.Common.{◌≡◌, ℕ, suc, ◌-◌, ◌++◌, ◌∷◌, List, [], All, Option, None, Some, Result, Ok, length, replicate, refl, arith, sym, ◌∙◌, ap, append_assoc, append-nil}
+use Rattle.std.proofs.Common.{◌≡◌, ℕ, suc, ◌-◌, ◌++◌, ◌∷◌, List}
+use Rattle.std.proofs.Common.{[], All, Option, None, Some, Result, Ok, length, replicate}
+use Rattle.std.proofs.Common.{refl, arith, sym, ◌∙◌, ap, append_assoc, append-nil}
 use Rattle.std.specs.List.{flat_map}
 use Rattle.std.proofs.lemmas.Grind.{common_steps}
 use Rattle.std.proofs.lemmas.List.Elements.{All-head, All-tail}
 use Rattle.gh_base.specs.declared.fragment.Message.{Message}
 use Rattle.gh_base.specs.declared.fragment.RpcFault.{RpcFault}
 use Rattle.gh_base.specs.RpcMessage.{Begins, Continues, IsMessage, header_of, payload_of}
-use Rattle.gh_base.specs.RpcAssembly.{Progress, accepted, answers, begun, continued, fed, opened_behind}
+use Rattle.gh_base.specs.RpcAssembly.{Progress, accepted, answers, begun}
+use Rattle.gh_base.specs.RpcAssembly.{continued, fed, opened_behind}
 use Rattle.gh_rpc.specs.Stream.{answers_giving}
 use Rattle.gh_rpc.proofs.FeedLemmas.{continuation_fed, request_fed}
 

@@ -1,8 +1,10 @@
 -- How the open message lies in an assembler: its numbers beside a buffer of its payload.
-use Rattle.std.specs.Prelude.{◌≤◌, ◌<◌, ◌+◌, ◌*◌, ℕ, List, length, Option, None, Some}
+use Rattle.std.specs.Prelude.{◌≤◌, ◌<◌, ◌+◌, ◌*◌}
+use Rattle.std.specs.Prelude.{ℕ, List, length, Option, None, Some}
 use Rattle.std.specs.Option.{ForSome}
 use Rattle.gh_base.specs.RpcAssembly.{Progress}
-use Rattle.gh_base.specs.declared.fragment.TheConstants.{FRAGMENT_PAYLOAD_BYTES, MESSAGE_PAYLOAD_BYTES}
+use Rattle.gh_base.specs.declared.fragment.TheConstants.{FRAGMENT_PAYLOAD_BYTES}
+use Rattle.gh_base.specs.declared.fragment.TheConstants.{MESSAGE_PAYLOAD_BYTES}
 use Rattle.gh_rpc.specs.declared.assembler.Numbers.{Numbers}
 
 -- the message so far with these numbers and this payload

@@ -1,5 +1,6 @@
 -- What a stream of fragments gives, by the messages in it.
-use Rattle.std.specs.Prelude.{◌≡◌, ◌<◌, ◌-◌, ℕ, List, [], ◌∷◌, ◌++◌, replicate, Option, None, Some, Result, Ok}
+use Rattle.std.specs.Prelude.{◌≡◌, ◌<◌, ◌-◌, ℕ, List, [], ◌∷◌}
+use Rattle.std.specs.Prelude.{◌++◌, replicate, Option, None, Some, Result, Ok}
 use Rattle.gh_base.specs.RpcMessage.{IsBegun, IsMessage}
 use Rattle.gh_base.specs.RpcAssembly.{Progress}
 use Rattle.gh_base.specs.declared.fragment.Message.{Message}

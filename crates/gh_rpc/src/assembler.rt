@@ -1,10 +1,14 @@
 //! The assembler of one sender's fragments.
 
-ghost use Rattle.std.specs.Prelude.{◌≡◌, ◌≤◌, ◌<◌, ◌+◌, ◌++◌, ◌↔◌, List, ℕ, None, Some, Ok, length, IfOk, IfSome, OnErr, IsSome, IsNone};
+ghost use Rattle.std.specs.Prelude.{◌≡◌, ◌≤◌, ◌<◌, ◌+◌};
+ghost use Rattle.std.specs.Prelude.{◌++◌, ◌↔◌, List, ℕ, None, Some, Ok};
+ghost use Rattle.std.specs.Prelude.{length, IfOk, IfSome, OnErr, IsSome, IsNone};
 ghost use Rattle.std.specs.Result.{result_err};
 ghost use Rattle.gh_base.specs.RpcMessage.{header_of, payload_of};
-ghost use Rattle.gh_base.specs.RpcAssembly.{begun, continuation_fault, continued, fault_of, fed, fragment_fault, header_fault, progress_of_kind};
-ghost use Rattle.gh_rpc.specs.Assembler.{progress_in, progress_with, HasRoom, IsLaidOut, IsUnfinished};
+ghost use Rattle.gh_base.specs.RpcAssembly.{begun, continuation_fault, continued, fault_of, fed};
+ghost use Rattle.gh_base.specs.RpcAssembly.{fragment_fault, header_fault, progress_of_kind};
+ghost use Rattle.gh_rpc.specs.Assembler.{progress_in, progress_with};
+ghost use Rattle.gh_rpc.specs.Assembler.{HasRoom, IsLaidOut, IsUnfinished};
 
 use crate::header::read_header;
 use arrayvec::ArrayVec;

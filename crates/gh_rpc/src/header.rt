@@ -1,7 +1,8 @@
 //! The header of a fragment.
 
 ghost use Rattle.std.specs.Prelude.{◌≡◌, ◌<◌, ◌≤◌, length};
-ghost use Rattle.gh_base.specs.RpcMessage.{fragment_kind_number, fragment_kind_numbered, header_bytes, header_of};
+ghost use Rattle.gh_base.specs.RpcMessage.{fragment_kind_number, fragment_kind_numbered};
+ghost use Rattle.gh_base.specs.RpcMessage.{header_bytes, header_of};
 
 use gh_base::{FRAGMENT_HEADER_BYTES, FRAGMENT_VERSION, FragmentKind, Header, u16_at, u32_at};
 

@@ -1,7 +1,8 @@
 //! The laws that join messages and streams of fragments. Each is the contract of a function that
 //! does nothing.
 
-ghost use Rattle.std.specs.Prelude.{◌≡◌, ◌∷◌, ◌++◌, ◌↔◌, [], List, ℕ, Option, None, Some, Ok, Err, length};
+ghost use Rattle.std.specs.Prelude.{◌≡◌, ◌∷◌, ◌++◌, ◌↔◌, []};
+ghost use Rattle.std.specs.Prelude.{List, ℕ, Option, None, Some, Ok, Err, length};
 ghost use Rattle.gh_base.specs.RpcAssembly.{Progress, answers, fed, opened_behind};
 ghost use Rattle.gh_base.specs.RpcMessage.{IsMessage, IsWithinFields, fragments_of};
 ghost use Rattle.gh_base.specs.declared.fragment.Message.{Message};

@@ -1,7 +1,8 @@
 //! The fragments of a message.
 
 ghost use Rattle.std.specs.Prelude.{◌≡◌, ◌≤◌, ◌++◌, map, take, drop, length, IfOk};
-ghost use Rattle.gh_base.specs.RpcMessage.{IsMessage, IsWithinFields, filled, fragments_of, further_fragments};
+ghost use Rattle.gh_base.specs.RpcMessage.{IsMessage, IsWithinFields, filled};
+ghost use Rattle.gh_base.specs.RpcMessage.{fragments_of, further_fragments};
 
 use crate::header::header_bytes;
 use arrayvec::ArrayVec;

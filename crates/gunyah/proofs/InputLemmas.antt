@@ -1,5 +1,6 @@
 -- What reading texts may find: no file that is too large, since sizes are looked at before.
-use Rattle.std.proofs.Common.{◌+◌, ◌-◌, ℕ, Bool, true, false, List, [], ◌∷◌, ◌++◌, length, nat_lt, Option, None, Some, Result, Ok, Err, subst}
+use Rattle.std.proofs.Common.{◌+◌, ◌-◌, ℕ, Bool, true, false, List, [], ◌∷◌}
+use Rattle.std.proofs.Common.{◌++◌, length, nat_lt, Option, None, Some, Result, Ok, Err, subst}
 use Rattle.gh_base.specs.declared.ids.CpuNo.{CpuNo}
 use Rattle.gh_callfile.specs.CallFile.{Reading, Good, BadAt, reading, calls_of_lines}
 use Rattle.gh_callfile.specs.Schedule.{bad_item, cpus_of, makes_manager}
@@ -8,7 +9,10 @@ use Rattle.gh_model.specs.declared.boot_line.BootLine.{BootLine}
 use Rattle.gh_model.specs.declared.program.Line.{Line}
 use Rattle.std.specs.List.{position}
 use Rattle.std.specs.Prelude.{⊤}
-use Rattle.gunyah.specs.Input.{and_then, refused_at, boot_result, boot_input, without_items, schedule_result, schedule_input, vm_lines, calls_result, call_file, calls_on, input_with, input_of, ReadsAs}
+use Rattle.gh_bootfile.specs.BootFile.{and_then}
+use Rattle.gunyah.specs.Input.{refused_at, boot_result, boot_input, without_items}
+use Rattle.gunyah.specs.Input.{schedule_result, schedule_input, vm_lines, calls_result}
+use Rattle.gunyah.specs.Input.{call_file, calls_on, input_with, input_of, ReadsAs}
 use Rattle.gunyah.specs.Outcome.{OfForm, ReadsTexts}
 use Rattle.gunyah.specs.declared.input.StepInput.{StepInput}
 use Rattle.gunyah.specs.declared.read_err.BadFile.{BadFile}

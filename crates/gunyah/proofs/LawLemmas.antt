@@ -1,6 +1,8 @@
 -- The run of the files under any names is legal.
-use Rattle.std.proofs.Common.{◌≡◌, ℕ, true, List, [], ◌∷◌, Option, None, Some, Result, Ok, Err, IfOk, IfSome, map, subst, refl}
-use Rattle.std.specs.Prelude.{◌||◌, ◌+◌, ◌≤◌, suc, Bool, false, not, length, nat_lt, if◌then◌else◌}
+use Rattle.std.proofs.Common.{◌≡◌, ℕ, true, List, [], ◌∷◌, Option, None}
+use Rattle.std.proofs.Common.{Some, Result, Ok, Err, IfOk, IfSome, map, subst, refl}
+use Rattle.std.specs.Prelude.{◌||◌, ◌+◌, ◌≤◌, suc, Bool, false}
+use Rattle.std.specs.Prelude.{not, length, nat_lt, if◌then◌else◌}
 use Rattle.std.specs.List.{position, position_or_len, prefix_len}
 use Rattle.std.proofs.Common.{arith}
 use Rattle.std.proofs.lemmas.Bool.{leb-true}
@@ -11,10 +13,15 @@ use Rattle.gh_bootfile.proofs.FitsLaw.{boot_of_fits}
 use Rattle.gh_callfile.specs.Schedule.{makes_manager}
 use Rattle.gh_driver.proofs.FileRunLaw.{file_run_is_run}
 use Rattle.gh_model.specs.declared.boot_line.BootLine.{BootLine}
-use Rattle.gh_model.specs.declared.boot_line.BootLine.TheVariants.{Pages, Partition, Cspace, Addrspace, Doorbell, RootExtent, Extent, Msgqueue, Map, Cap, Vm, Rm, Link}
+use Rattle.gh_model.specs.declared.boot_line.BootLine.TheVariants.{Pages, Partition, Cspace}
+use Rattle.gh_model.specs.declared.boot_line.BootLine.TheVariants.{Addrspace, Doorbell}
+use Rattle.gh_model.specs.declared.boot_line.BootLine.TheVariants.{RootExtent, Extent, Msgqueue}
+use Rattle.gh_model.specs.declared.boot_line.BootLine.TheVariants.{Map, Cap, Vm, Rm, Link}
 use Rattle.gh_model.specs.declared.program.Line.{Line}
 use Rattle.gh_model.specs.Boot.{boot_fits, has_manager, is_manager_line}
-use Rattle.gunyah.specs.Input.{and_then, sizes_on, refused_at, boot_result, boot_input, schedule_input, vm_lines, calls_on, input_with, input_of}
+use Rattle.gh_bootfile.specs.BootFile.{and_then}
+use Rattle.gunyah.specs.Input.{sizes_on, refused_at, boot_result, boot_input}
+use Rattle.gunyah.specs.Input.{schedule_input, vm_lines, calls_on, input_with, input_of}
 use Rattle.gunyah.specs.Outcome.{texts_under}
 use Rattle.gunyah.specs.Step.{InputRuns, StepRuns}
 use Rattle.gunyah.specs.declared.read_err.BadFile.{BadFile}

@@ -1,14 +1,20 @@
 -- What was asked of files while they are loaded in turn.
-use Rattle.std.proofs.Common.{◌≡◌, ◌≤◌, ◌<◌, ◌+◌, ◌-◌, ◌∙◌, ℕ, true, false, inl, inr, Bool, List, [], ◌∷◌, ◌++◌, length, take, map, get_or, Bor, Option, None, Some, IfSome, Result, Ok, Err, refl, sym, ap, subst, arith, if◌then◌else◌, append_assoc, length-append}
-use Rattle.std.proofs.lemmas.List.{take_more, take-map, take-take, map-append, length-map, length-take-le}
+use Rattle.std.proofs.Common.{◌≡◌, ◌≤◌, ◌<◌, ◌+◌, ◌-◌, ◌∙◌}
+use Rattle.std.proofs.Common.{ℕ, true, false, inl, inr, Bool, List, [], ◌∷◌}
+use Rattle.std.proofs.Common.{◌++◌, length, take, map, get_or, Bor, Option, None}
+use Rattle.std.proofs.Common.{Some, IfSome, Result, Ok, Err, refl, sym, ap, subst, arith}
+use Rattle.std.proofs.Common.{if◌then◌else◌, append_assoc, length-append}
+use Rattle.std.proofs.lemmas.List.{take_more, take-map, take-take}
+use Rattle.std.proofs.lemmas.List.{map-append, length-map, length-take-le}
 use Rattle.std.proofs.lemmas.List.Elements.{All-take, All-same, All-push}
 use Rattle.std.specs.List.{All}
 use Rattle.gh_io.specs.Outside.{request}
 use Rattle.gh_io.specs.declared.files.Request.{Request}
 use Rattle.gunyah.proofs.OutcomeLemmas.{grew_by_first}
 use Rattle.gunyah.specs.Input.{is_small, sized, LoadsAs}
-use Rattle.gunyah.specs.Outcome.{requests, made, Asked, AsksFor, FindsLarge, ReadOf, SmallBefore, texts_under}
-use Rattle.gunyah.specs.Words.{texts_of}
+use Rattle.gunyah.specs.Outcome.{requests, made, Asked, AsksFor, FindsLarge}
+use Rattle.gunyah.specs.Outcome.{ReadOf, SmallBefore, texts_under}
+use Rattle.gh_callfile.specs.Grammar.{texts_of}
 use Rattle.gunyah.specs.declared.read_err.BadFile.{BadFile}
 use Rattle.gunyah.specs.declared.read_err.BadFile.TheVariants as bad
 use Rattle.gunyah.specs.declared.read_err.ReadErr.{ReadErr}

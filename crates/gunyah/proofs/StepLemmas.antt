@@ -1,5 +1,7 @@
 -- Files as they are loaded: no more than their limit and one byte more.
-use Rattle.std.proofs.Common.{◌≡◌, ◌+◌, ◌≤◌, ◌∙◌, nat_le, take, ℕ, Bool, true, false, List, length, Option, None, Some, IfSome, Result, Ok, Err, refl, sym, ap, arith, if◌then◌else◌}
+use Rattle.std.proofs.Common.{◌≡◌, ◌+◌, ◌≤◌, ◌∙◌, nat_le, take, ℕ}
+use Rattle.std.proofs.Common.{Bool, true, false, List, length, Option, None, Some, IfSome}
+use Rattle.std.proofs.Common.{Result, Ok, Err, refl, sym, ap, arith, if◌then◌else◌}
 use Rattle.std.proofs.lemmas.Bool.{leb-true}
 use Rattle.std.proofs.lemmas.Bool.Decides.{nat_tests}
 use Rattle.std.proofs.lemmas.List.{length-take, take_all}
@@ -18,7 +20,10 @@ front_small limit text = rw (length-take (limit + 1) text) (grind (arith, nat_te
 loaded_whole : (text : List ℕ) → is_small text ≡ true → take 8388609 text ≡ text
 loaded_whole text small = let within : length text ≤ 8388608 = leb-true _ _ small in take_all 8388609 text (omega arith)
 
-sized_by : (small : Bool) (number : ℕ) (text : List ℕ) → is_small text ≡ small → (if◌then◌else◌ {A = Result (List ℕ) BadFile} small (Ok (take 8388609 text)) (Err (bad.TooLarge number))) ≡ (if small then Ok text else Err (bad.TooLarge number))
+sized_by : (small : Bool) (number : ℕ) (text : List ℕ)
+    → is_small text ≡ small
+    → (if◌then◌else◌ {A = Result (List ℕ) BadFile} small (Ok (take 8388609 text))
+    (Err (bad.TooLarge number))) ≡ (if small then Ok text else Err (bad.TooLarge number))
 sized_by true number text is = ap Ok (loaded_whole text is)
 sized_by false number text is = refl
 

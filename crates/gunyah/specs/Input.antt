@@ -1,9 +1,11 @@
 -- What the files of a step read as: a boot file and the calls of its VMs, or the first fault.
-use Rattle.std.specs.Prelude.{◌≡◌, ◌+◌, ◌-◌, ⊤, ℕ, Bool, List, [], ◌∷◌, ◌++◌, length, count_by, nat_le, nat_lt, Option, Some, None, Result, Ok, Err, if◌then◌else◌}
+use Rattle.std.specs.Prelude.{◌≡◌, ◌+◌, ◌-◌, ⊤, ℕ, Bool, List, []}
+use Rattle.std.specs.Prelude.{◌∷◌, ◌++◌, length, count_by, nat_le, nat_lt}
+use Rattle.std.specs.Prelude.{Option, Some, None, Result, Ok, Err, if◌then◌else◌}
 use Rattle.std.specs.List.{position}
 use Rattle.gh_base.specs.declared.ids.CpuNo.{CpuNo}
 use Rattle.gh_base.specs.declared.limits.TheConstants.{BOOT_FILE_BYTES}
-use Rattle.gh_bootfile.specs.BootFile.{boot_of, told}
+use Rattle.gh_bootfile.specs.BootFile.{and_then, boot_of, told}
 use Rattle.gh_model.specs.Told.{told_number}
 use Rattle.gh_callfile.specs.CallFile.{Reading, Good, BadAt, reading, calls_of_lines}
 use Rattle.gh_callfile.specs.Schedule.{bad_item, cpus_of, makes_vm, makes_manager}
@@ -14,11 +16,6 @@ use Rattle.gunyah.specs.declared.read_err.BadFile.{BadFile}
 use Rattle.gunyah.specs.declared.read_err.BadFile.TheVariants as bad
 use Rattle.gunyah.specs.declared.read_err.ReadErr.{ReadErr}
 use Rattle.gunyah.specs.declared.read_err.ReadErr.TheVariants as stop
-
--- what follows a reading, unless it found a fault
-abbrev pub and_then : {A B : Type 0} → Result A BadFile → (A → Result B BadFile) → Result B BadFile
-and_then (Ok value) next = next value
-and_then (Err fault) next = Err fault
 
 -- sizes
 
@@ -33,7 +30,8 @@ sized number text = if is_small text then Ok text else Err (bad.TooLarge number)
 -- files behind those so far, if none is too large
 abbrev pub sizes_on : List (List ℕ) → List (List ℕ) → Result (List (List ℕ)) BadFile
 sizes_on files [] = Ok files
-sizes_on files (text ∷ texts) = and_then (sized (length files + 1) text) (λ file. sizes_on (files ++ file ∷ []) texts)
+sizes_on files (text ∷ texts) =
+    and_then (sized (length files + 1) text) (λ file. sizes_on (files ++ file ∷ []) texts)
 
 -- the boot file
 
@@ -42,13 +40,16 @@ abbrev pub refused_at : Option ℕ → List BootLine → Result (List BootLine) 
 refused_at None lines = Ok lines
 refused_at (Some at) lines = Err (bad.Boot (told_number (at + 2)))
 
+-- a boot file without a resource manager; the line that makes one is bad
 abbrev pub without_manager : List BootLine → Result (List BootLine) BadFile
 without_manager lines = refused_at (position makes_manager lines) lines
 
+-- what was read of a boot file: its lines, if none makes a resource manager, or its first bad line
 abbrev pub boot_result : Result (List BootLine) ℕ → Result (List BootLine) BadFile
 boot_result (Ok lines) = without_manager lines
 boot_result (Err line) = Err (bad.Boot line)
 
+-- the boot file of a text
 abbrev pub boot_input : List ℕ → Result (List BootLine) BadFile
 boot_input text = boot_result (told (boot_of text))
 
@@ -59,28 +60,35 @@ abbrev pub without_items : List CpuNo → Result (List CpuNo) BadFile
 without_items [] = Ok []
 without_items (cpu ∷ cpus) = Err (bad.Schedule 1)
 
+-- the schedule, whose first bad item comes before the first that there may not be
 abbrev pub schedule_result : Option ℕ → List CpuNo → Result (List CpuNo) BadFile
 schedule_result None cpus = without_items cpus
 schedule_result (Some item) cpus = Err (bad.Schedule item)
 
+-- the schedule of a text, for a boot file of these lines
 abbrev pub schedule_input : List BootLine → List ℕ → Result (List CpuNo) BadFile
 schedule_input lines text = schedule_result (bad_item lines text) (cpus_of text)
 
 -- call files
 
+-- how many VMs the boot file makes
 abbrev pub vm_lines : List BootLine → ℕ
 vm_lines lines = count_by makes_vm lines
 
+-- what was read of a call file with this number: its lines, or its first bad one
 abbrev pub calls_result : ℕ → Reading → Result (List Line) BadFile
 calls_result number (Good lines) = Ok lines
 calls_result number (BadAt line) = Err (bad.Calls number line)
 
--- a call file by its number among all files, with room for so many calls; a VM for which there is none has line 0
+-- a call file by its number among all files, with room for so many calls; a VM for which there is
+-- none has line 0
 abbrev pub call_file : Bool → ℕ → ℕ → List ℕ → Result (List Line) BadFile
-call_file has_vm number room text = if has_vm then calls_result number (reading text room) else Err (bad.Calls number 0)
+call_file has_vm number room text =
+    if has_vm then calls_result number (reading text room) else Err (bad.Calls number 0)
 
 -- call files behind those so far, of VMs in order; the boot file and the schedule are files 1 and 2
-abbrev pub calls_on : ℕ → ℕ → List (List Line) → List (List ℕ) → Result (List (List Line)) BadFile
+abbrev pub calls_on :
+    ℕ → ℕ → List (List Line) → List (List ℕ) → Result (List (List Line)) BadFile
 calls_on vms room files [] = Ok files
 calls_on vms room files (text ∷ texts) =
     and_then (call_file (nat_lt (length files) vms) (length files + 3) room text)
@@ -88,6 +96,7 @@ calls_on vms room files (text ∷ texts) =
 
 -- all files
 
+-- the input of these boot lines and these call files
 abbrev pub input_with : List BootLine → List (List Line) → Result StepInput BadFile
 input_with lines calls = Ok (record { boot = lines; calls = calls })
 
@@ -103,9 +112,10 @@ input_of (boot ∷ schedule ∷ calls) =
 abbrev pub step_input : List (List ℕ) → Result StepInput BadFile
 step_input texts = and_then (sizes_on [] texts) input_of
 
--- what a reader may answer: what the files read as, or their first fault. It may also stop for want of memory, and where a
--- load failed
-abbrev pub Reads : {X Y : Type 0} → (Y → X) → Type 0 → Result X BadFile → Result Y ReadErr → Type 0
+-- what a reader may answer: what the files read as, or their first fault. It may also stop for
+-- want of memory, and where a load failed
+abbrev pub Reads :
+    {X Y : Type 0} → (Y → X) → Type 0 → Result X BadFile → Result Y ReadErr → Type 0
 Reads shown Failing expected (Ok value) = expected ≡ Ok (shown value)
 Reads shown Failing expected (Err (stop.Bad fault)) = expected ≡ Err fault
 Reads shown Failing expected (Err stop.Failed) = Failing

@@ -1,5 +1,7 @@
 -- What a command does to its files and its sink.
-use Rattle.std.specs.Prelude.{◌≡◌, ◌<◌, ◌+◌, ◌-◌, ◌++◌, ◌⊎◌, ⊤, ℕ, Bool, true, List, [], ◌∷◌, length, take, map, Option, IfSome, IsOk, Result, Ok, Err}
+use Rattle.std.specs.Prelude.{◌≡◌, ◌<◌, ◌+◌, ◌-◌, ◌++◌}
+use Rattle.std.specs.Prelude.{◌⊎◌, ⊤, ℕ, Bool, true, List, [], ◌∷◌}
+use Rattle.std.specs.Prelude.{length, take, map, Option, IfSome, IsOk, Result, Ok, Err}
 use Rattle.std.specs.List.{All}
 use Rattle.std.specs.Option.{option_map, option_map_or}
 use Rattle.std.specs.Io.KnownBytes.{append_known}
@@ -15,11 +17,13 @@ use Rattle.gunyah.specs.declared.read_err.BadFile.TheVariants as bad
 use Rattle.gunyah.specs.declared.read_err.ReadErr.{ReadErr}
 use Rattle.gunyah.specs.declared.read_err.ReadErr.TheVariants as stop
 use Rattle.gunyah.specs.declared.status.Status.{Status}
-use Rattle.gunyah.specs.declared.status.Status.TheVariants.{Done, Usage, ReadFault, WriteFault, BadBoot, BadCalls, BadSchedule, NoMemory, BadHistory, TooLarge}
+use Rattle.gunyah.specs.declared.status.Status.TheVariants.{Done, Usage, ReadFault, WriteFault}
+use Rattle.gunyah.specs.declared.status.Status.TheVariants.{BadBoot, BadCalls, BadSchedule}
+use Rattle.gunyah.specs.declared.status.Status.TheVariants.{NoMemory, BadHistory, TooLarge}
 
 -- how many bytes a sink tells
-abbrev pub told : Option (List ℕ) → ℕ
-told known = option_map_or (λ bytes. length bytes) known 0
+abbrev pub count_told : Option (List ℕ) → ℕ
+count_told known = option_map_or (λ bytes. length bytes) known 0
 
 -- a byte more than a file may have: so much is asked for, so that a file that is too large shows
 abbrev pub most_asked : ℕ
@@ -35,10 +39,12 @@ made before now = length now - length before
 
 -- the bytes that were taken between are the first of these, where the sink tells them
 abbrev pub TookFirst : Option (List ℕ) → Option (List ℕ) → List ℕ → Type 0
-TookFirst before now bytes = now ≡ append_known before (take (told now - told before) bytes)
+TookFirst before now bytes =
+    now ≡ append_known before (take (count_told now - count_told before) bytes)
 
 -- the texts of the files of these names, where the files tell what they hold
-abbrev pub texts_under : Option (List ℕ → List ℕ) → List (List ℕ) → Option (List (List ℕ))
+abbrev pub texts_under :
+    Option (List ℕ → List ℕ) → List (List ℕ) → Option (List (List ℕ))
 texts_under contents names = option_map (λ file. map file names) contents
 
 -- the files hold a run, where they tell what they hold
@@ -49,8 +55,9 @@ HoldRun texts = IfSome texts (λ told. IsOk (step_input told))
 abbrev pub FirstFault : BadFile → Option (List (List ℕ)) → Type 0
 FirstFault fault texts = IfSome texts (λ told. step_input told ≡ Err fault)
 
--- the cause of a status in the files: they hold a run, or this is their first fault. For Usage see the
--- words, and for faults of the outside the counts. Want of memory has none. A bad history can't come yet
+-- the cause of a status in the files: they hold a run, or this is their first fault. For Usage see
+-- the words, and for faults of the outside the counts. Want of memory has none. A bad history
+-- can't come yet
 abbrev pub HasCause : Status → Option (List (List ℕ)) → Type 0
 HasCause Done texts = HoldRun texts
 HasCause Usage texts = ⊤
@@ -89,8 +96,9 @@ SinkFaults NoMemory before now = now ≡ before
 SinkFaults (BadHistory line) before now = now ≡ before
 SinkFaults (TooLarge file) before now = now ≡ before
 
--- of how many of all files was asked, by the status: of none at Usage, up to the one that is too large,
--- up to the one of a read fault, of some for want of memory, and of all at every other status
+-- of how many of all files was asked, by the status: of none at Usage, up to the one that is too
+-- large, up to the one of a read fault, of some for want of memory, and of all at every other
+-- status
 abbrev pub AskedOf : Status → ℕ → ℕ → Type 0
 AskedOf Done count all = count ≡ all
 AskedOf Usage count all = count ≡ 0
@@ -105,10 +113,12 @@ AskedOf (TooLarge file) count all = count ≡ file
 
 -- the files before the last of so many aren't too large, where they tell what they hold
 abbrev pub SmallBefore : ℕ → Option (List (List ℕ)) → Type 0
-SmallBefore count texts = IfSome texts (λ told. All (λ text. is_small text ≡ true) (take (count - 1) told))
+SmallBefore count texts =
+    IfSome texts (λ told. All (λ text. is_small text ≡ true) (take (count - 1) told))
 
 -- what was asked of the files of these names
-pub record Asked (Count : ℕ → ℕ → Type 0) (before now : List Request) (names : List (List ℕ)) (texts : Option (List (List ℕ))) : Type 0 where
+pub record Asked (Count : ℕ → ℕ → Type 0) (before now : List Request)
+    (names : List (List ℕ)) (texts : Option (List (List ℕ))) : Type 0 where
   -- the first of them, in order, each with its limit and one byte more
   pub first : now ≡ before ++ take (made before now) (requests names)
   -- so many
@@ -117,7 +127,8 @@ pub record Asked (Count : ℕ → ℕ → Type 0) (before now : List Request) (n
   pub small : SmallBefore (made before now) texts
 
 -- what the sink took, by the status: the whole output of the files, a front part of it, or nothing
-abbrev pub Wrote : Status → Option (List ℕ) → Option (List ℕ) → Option (List (List ℕ)) → Type 0
+abbrev pub Wrote :
+    Status → Option (List ℕ) → Option (List ℕ) → Option (List (List ℕ)) → Type 0
 Wrote Done before now texts = IfSome texts (λ told. now ≡ append_known before (step_text told))
 Wrote Usage before now texts = now ≡ before
 Wrote ReadFault before now texts = now ≡ before
@@ -147,14 +158,17 @@ abbrev pub Tells : Status → BadFile → Type 0
 Tells NoMemory fault = ⊤
 Tells status fault = status ≡ status_of_fault fault
 
-abbrev pub Answers : Status → Result StepInput BadFile → Type 0
-Answers status (Ok input) = Succeeds status
-Answers status (Err fault) = Tells status fault
+-- the status answers what was read: a run, or the fault that was found
+abbrev pub AnswersInput : Status → Result StepInput BadFile → Type 0
+AnswersInput status (Ok input) = Succeeds status
+AnswersInput status (Err fault) = Tells status fault
 
--- over files and a sink that never fail, files that hold a run give all the output, and others their first fault, unless
--- memory runs out
+-- over files and a sink that never fail, files that hold a run give all the output, and others
+-- their first fault, unless memory runs out
 abbrev pub Completes : Status → Bool → Bool → Option (List (List ℕ)) → Type 0
-Completes status files sink texts = files ≡ true → sink ≡ true → IfSome texts (λ told. Answers status (step_input told))
+Completes status files sink texts =
+    files ≡ true → sink ≡ true
+    → IfSome texts (λ told. AnswersInput status (step_input told))
 
 -- a reader of files
 
@@ -169,11 +183,13 @@ ReadOf (Ok value) count all = count ≡ all
 ReadOf (Err stopped) count all = AskedOf (status_of_stop stopped) count all
 
 -- a load made its request; where memory ran out it may not have
-abbrev pub AsksFor : {X : Type 0} → Result X ReadErr → List Request → List Request → List ℕ → Type 0
+abbrev pub AsksFor :
+    {X : Type 0} → Result X ReadErr → List Request → List Request → List ℕ → Type 0
 AsksFor (Ok value) before now name = now ≡ before ++ request name most_asked ∷ []
 AsksFor (Err stop.Failed) before now name = now ≡ before ++ request name most_asked ∷ []
 AsksFor (Err (stop.Bad fault)) before now name = now ≡ before ++ request name most_asked ∷ []
-AsksFor (Err stop.NoMemory) before now name = (now ≡ before) ⊎ (now ≡ before ++ request name most_asked ∷ [])
+AsksFor (Err stop.NoMemory) before now name =
+    (now ≡ before) ⊎ (now ≡ before ++ request name most_asked ∷ [])
 
 -- the one fault that a load finds in a file
 abbrev pub FindsLarge : {X : Type 0} → Result X ReadErr → ℕ → Type 0

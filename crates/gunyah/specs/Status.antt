@@ -10,7 +10,9 @@ use Rattle.gunyah.specs.declared.read_err.BadFile.TheVariants as bad
 use Rattle.gunyah.specs.declared.read_err.ReadErr.{ReadErr}
 use Rattle.gunyah.specs.declared.read_err.ReadErr.TheVariants as stop
 use Rattle.gunyah.specs.declared.status.Status.{Status}
-use Rattle.gunyah.specs.declared.status.Status.TheVariants.{Done, Usage, ReadFault, WriteFault, BadBoot, BadCalls, BadSchedule, NoMemory, BadHistory, TooLarge}
+use Rattle.gunyah.specs.declared.status.Status.TheVariants.{Done, Usage, ReadFault, WriteFault}
+use Rattle.gunyah.specs.declared.status.Status.TheVariants.{BadBoot, BadCalls, BadSchedule}
+use Rattle.gunyah.specs.declared.status.Status.TheVariants.{NoMemory, BadHistory, TooLarge}
 
 -- the number with which the program ends
 abbrev pub status_number : Status → ℕ
@@ -25,15 +27,21 @@ status_number NoMemory = 7
 status_number (BadHistory line) = 8
 status_number (TooLarge file) = 9
 
+-- the forms of the words
+abbrev pub usage : List ℕ
+usage =
+    codes "usage: gunyah step BOOT SCHEDULE CALLS.. | run BOOT CALLS.. "
+    ++ codes "| check BOOT HISTORY CALLS.. | gen SEED VMS CALLS [boot|VM]"
+
 -- what stands on standard error
 abbrev pub status_text : Status → List ℕ
 status_text Done = []
-status_text Usage =
-    codes "usage: gunyah step BOOT SCHEDULE CALLS.. | run BOOT CALLS.. | check BOOT HISTORY CALLS.. | gen SEED VMS CALLS [boot|VM]"
+status_text Usage = usage
 status_text ReadFault = codes "read fault"
 status_text WriteFault = codes "write fault"
 status_text (BadBoot line) = codes "boot line " ++ decimal line
-status_text (BadCalls file line) = codes "calls file " ++ (decimal file ++ (codes " line " ++ decimal line))
+status_text (BadCalls file line) =
+    codes "calls file " ++ (decimal file ++ (codes " line " ++ decimal line))
 status_text (BadSchedule item) = codes "schedule item " ++ decimal item
 status_text NoMemory = codes "no memory"
 status_text (BadHistory line) = codes "history line " ++ decimal line

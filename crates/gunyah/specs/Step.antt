@@ -13,9 +13,11 @@ use Rattle.gunyah.specs.declared.read_err.BadFile.{BadFile}
 abbrev pub text_of_run : Running Progress → List ℕ
 text_of_run run = history_text run.entries run.marks run.plain
 
+-- the run of what was read
 abbrev pub input_run : StepInput → Running Progress
 input_run input = file_run input.boot input.calls
 
+-- the text of the run of what was read
 abbrev pub text_of_input : StepInput → List ℕ
 text_of_input input = text_of_run (input_run input)
 
@@ -24,6 +26,7 @@ abbrev pub output_of : Result StepInput BadFile → Result (List ℕ) BadFile
 output_of (Ok input) = Ok (text_of_input input)
 output_of (Err fault) = Err fault
 
+-- the output of a step over files with these texts
 abbrev pub step_output : List (List ℕ) → Result (List ℕ) BadFile
 step_output texts = output_of (step_input texts)
 
@@ -36,10 +39,13 @@ text_or_nothing (Err fault) = []
 abbrev pub step_text : List (List ℕ) → List ℕ
 step_text texts = text_or_nothing (step_output texts)
 
--- the run of what was read is a run: a legal history, graced, and its calls are those of the VMs' programs
+-- the run of what was read is a run: a legal history, graced, and its calls are those of the VMs'
+-- programs
 abbrev pub InputRuns : StepInput → Type 0
 InputRuns input =
-    IsRun input.boot (file_frames input.calls) (input_run input).entries (input_run input).marks (input_run input).plain
+    IsRun input.boot (file_frames input.calls) (input_run input).entries (input_run input).marks
+    (input_run input).plain
 
+-- where the texts are an input, its run is a run
 abbrev pub StepRuns : List (List ℕ) → Type 0
 StepRuns texts = IfOk (step_input texts) InputRuns

@@ -1,11 +1,13 @@
 //! Reads the files of a step: a boot file, a schedule and call files.
 
-ghost use Rattle.std.specs.Prelude.{◌≡◌, ◌<◌, ◌≤◌, ◌+◌, ◌-◌, ◌^◌, ◌∷◌, [], length, IfSome};
+ghost use Rattle.std.specs.Prelude.{◌≡◌, ◌<◌, ◌≤◌, ◌+◌, ◌-◌};
+ghost use Rattle.std.specs.Prelude.{◌^◌, ◌∷◌, [], length, IfSome};
 ghost use Rattle.std.specs.List.{position};
 ghost use Rattle.gh_model.specs.Told.{told_number};
 ghost use Rattle.gh_callfile.specs.CallFile.{calls_of_lines};
 ghost use Rattle.gh_callfile.specs.Schedule.{makes_manager};
-ghost use Rattle.gunyah.specs.Input.{ReadsAs, boot_input, without_manager, schedule_input, without_items, vm_lines, call_file, calls_on, input_of};
+ghost use Rattle.gunyah.specs.Input.{ReadsAs, boot_input, without_manager, schedule_input};
+ghost use Rattle.gunyah.specs.Input.{without_items, vm_lines, call_file, calls_on, input_of};
 ghost use Rattle.gunyah.specs.Outcome.{ReadsTexts};
 
 use crate::read_err::{BadFile, ReadErr};
@@ -23,7 +25,8 @@ pub struct StepInput {
     pub calls: Sequence<Sequence<Line>>,
 }
 
-/// The number of a line behind the first and so many others. It stands still at the largest of 32 bits.
+/// The number of a line behind the first and so many others. It stands still at the largest of 32
+/// bits.
 fn line_number(lines: usize) -> u32
     requires { lines < 2 ^ 63 }
     ensures { result ≡ told_number (lines + 2) }

@@ -1,9 +1,10 @@
 //! Loads the files of a command.
 
-ghost use Rattle.std.specs.Prelude.{◌≡◌, ◌≤◌, [], length, map, false, IfOk, IfSome, IsErrOf};
+ghost use Rattle.std.specs.Prelude.{◌≡◌, ◌≤◌, [], length};
+ghost use Rattle.std.specs.Prelude.{map, false, IfOk, IfSome, IsErrOf};
 ghost use Rattle.gunyah.specs.Input.{sized, sizes_on, ReadsAs, LoadsAs};
 ghost use Rattle.gunyah.specs.Outcome.{Asked, AsksFor, FindsLarge, ReadFaults, ReadOf, texts_under};
-ghost use Rattle.gunyah.specs.Words.{texts_of};
+ghost use Rattle.gh_callfile.specs.Grammar.{texts_of};
 
 use crate::read_err::{BadFile, ReadErr};
 use gh_base::{BOOT_FILE_BYTES, Sequence};
@@ -21,8 +22,8 @@ fn sized_file(bytes: Vec<u8>, number: u32) -> Result<Sequence<u8>, ReadErr>
     Ok(Sequence::from_vec(bytes))
 }
 
-/// Loads a file by its number. It asks for the limit of a file and one byte more, so that one that is
-/// too large is told.
+/// Loads a file by its number. It asks for the limit of a file and one byte more, so that one that
+/// is too large is told.
 fn load_file<F: Files>(
     alloc: Global,
     files: &mut F,

@@ -4,8 +4,8 @@ use gh_base::NoMemory;
 use gh_io::LoadErr;
 use std::alloc::AllocError;
 
-/// The first fault of the files of a command. Files count from 1 in the order of the words, and lines
-/// and items from 1.
+/// The first fault of the files of a command. Files count from 1 in the order of the words, and
+/// lines and items from 1.
 #[derive(Clone, Copy, Debug, PartialEq, Eq)]
 pub enum BadFile {
     /// The file has more than 8,388,608 bytes.

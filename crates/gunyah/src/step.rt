@@ -1,10 +1,15 @@
 //! The command `step`.
 
-ghost use Rattle.std.specs.Prelude.{◌≡◌, ◌<◌, ◌≤◌, ◌↔◌, ◌∷◌, ◌+◌, [], length, false, string_bytes, vec_len, IfOk, IfSome, IsErrOf, ⊤};
+ghost use Rattle.std.specs.Prelude.{◌≡◌, ◌<◌, ◌≤◌, ◌↔◌};
+ghost use Rattle.std.specs.Prelude.{◌∷◌, ◌+◌, [], length, false};
+ghost use Rattle.std.specs.Prelude.{string_bytes, vec_len, IfOk, IfSome, IsErrOf, ⊤};
 ghost use Rattle.gunyah.specs.Input.{Reads, LoadsAs, sizes_on, input_of};
-ghost use Rattle.gunyah.specs.Outcome.{Asked, AskedOf, HasCause, FilesFaults, SinkFaults, ReadFaults, ReadOf, ReadsTexts, Wrote, Completes, texts_under};
+ghost use Rattle.gunyah.specs.Outcome.{Asked, AskedOf, HasCause, FilesFaults};
+ghost use Rattle.gunyah.specs.Outcome.{SinkFaults, ReadFaults, ReadOf};
+ghost use Rattle.gunyah.specs.Outcome.{ReadsTexts, Wrote, Completes, texts_under};
 ghost use Rattle.gunyah.specs.Step.{step_output, output_of, text_of_input, StepRuns};
-ghost use Rattle.gunyah.specs.Words.{step_files, texts_of};
+ghost use Rattle.gh_callfile.specs.Grammar.{texts_of};
+ghost use Rattle.gunyah.specs.Words.{step_files};
 
 use crate::command::StepArgs;
 use crate::input::{StepInput, read_input};
@@ -86,8 +91,8 @@ fn output<F: Files>(alloc: Global, args: &StepArgs, files: &mut F) -> Result<Str
     output_of(alloc, texts.as_slice())
 }
 
-/// Runs by the schedule and writes the history text. It takes up to eight call files; a greater number
-/// of them is none of the forms.
+/// Runs by the schedule and writes the history text. It takes up to eight call files; a greater
+/// number of them is none of the forms.
 pub fn step_command<F: Files, K: Sink>(
     alloc: Global,
     args: &StepArgs,

@@ -1,9 +1,10 @@
 //! The top call, which `main` makes.
 
 ghost use Rattle.std.specs.Prelude.{◌≡◌, ◌↔◌, IfSome, map, string_bytes, true, false};
-ghost use Rattle.gunyah.specs.Outcome.{Asked, AskedOf, HasCause, FilesFaults, SinkFaults, Wrote, Completes, texts_under};
+ghost use Rattle.gunyah.specs.Outcome.{Asked, AskedOf, HasCause, FilesFaults};
+ghost use Rattle.gunyah.specs.Outcome.{SinkFaults, Wrote, Completes, texts_under};
 ghost use Rattle.gunyah.specs.Step.{StepRuns};
-ghost use Rattle.gunyah.specs.Words.{is_step, named_files, words_of};
+ghost use Rattle.gunyah.specs.Words.{is_step, named_files, word_bytes};
 
 use crate::command::Command;
 use crate::law::law_of_step;
@@ -28,26 +29,26 @@ pub fn gunyah<R: Threads + Wait + Sync, F: Files, K: Sink, G: Gate + Sync>(
 ) -> Status
     // What was written.
     ensures wrote { Wrote result (K.taken out.old) (K.taken out.new)
-        (texts_under (F.contents files.old) (named_files (words_of words.now))) }
+        (texts_under (F.contents files.old) (named_files (word_bytes words.now))) }
 
     // Of whatever files: their run is legal.
     ensures legal { IfSome
-        (texts_under (F.contents files.old) (named_files (words_of words.now))) StepRuns }
+        (texts_under (F.contents files.old) (named_files (word_bytes words.now))) StepRuns }
 
     // Why it ended.
-    ensures usage { (result ≡ Status.Usage) ↔ (is_step (words_of words.now) ≡ false) }
+    ensures usage { (result ≡ Status.Usage) ↔ (is_step (word_bytes words.now) ≡ false) }
     ensures cause { HasCause result
-        (texts_under (F.contents files.old) (named_files (words_of words.now))) }
+        (texts_under (F.contents files.old) (named_files (word_bytes words.now))) }
     ensures files_faults { FilesFaults result (F.faults files.old) (F.faults files.new) }
     ensures sink_faults { SinkFaults result (K.faults out.old) (K.faults out.new) }
-    ensures complete { is_step (words_of words.now) ≡ true
+    ensures complete { is_step (word_bytes words.now) ≡ true
         → Completes result (F.is_sure files.old) (K.is_sure out.old)
-        (texts_under (F.contents files.old) (named_files (words_of words.now))) }
+        (texts_under (F.contents files.old) (named_files (word_bytes words.now))) }
 
     // What was asked of the files.
     ensures asked { Asked (AskedOf result) (F.asked files.old) (F.asked files.new)
-        (named_files (words_of words.now))
-        (texts_under (F.contents files.old) (named_files (words_of words.now))) }
+        (named_files (word_bytes words.now))
+        (texts_under (F.contents files.old) (named_files (word_bytes words.now))) }
 {
     law_of_step(files);
     match read_words(alloc, words) {

@@ -1,8 +1,9 @@
 //! The words of a command line.
 
-ghost use Rattle.std.specs.Prelude.{◌≡◌, ◌↔◌, ◌≤◌, ◌∷◌, length, string_bytes, true, false, IfOk, OnErr, IsErr};
+ghost use Rattle.std.specs.Prelude.{◌≡◌, ◌↔◌, ◌≤◌, ◌∷◌, length};
+ghost use Rattle.std.specs.Prelude.{string_bytes, true, false, IfOk, OnErr, IsErr};
 ghost use Rattle.std.specs.Bool.{OnTrue};
-ghost use Rattle.gunyah.specs.Words.{is_step, step_files, words_of, Spells};
+ghost use Rattle.gunyah.specs.Words.{is_step, step_files, word_bytes, Spells};
 
 use crate::command::{Command, StepArgs, Usage};
 use gh_base::NoMemory;
@@ -10,7 +11,7 @@ use std::alloc::Global;
 
 /// Words of a command, for it to keep.
 fn copies(alloc: Global, words: &[String]) -> Result<Vec<String>, NoMemory>
-    ensures { IfOk result (λ copies. words_of copies.items ≡ words_of words.now) }
+    ensures { IfOk result (λ copies. word_bytes copies.items ≡ word_bytes words.now) }
 {
     let mut copies = Vec::new(alloc);
     for word in words {
@@ -26,7 +27,7 @@ fn step_args(
     calls: &[String],
 ) -> Result<StepArgs, NoMemory>
     ensures { IfOk result (λ args. step_files args
-        ≡ string_bytes boot.now ∷ string_bytes schedule.now ∷ words_of calls.now) }
+        ≡ string_bytes boot.now ∷ string_bytes schedule.now ∷ word_bytes calls.now) }
 {
     Ok(StepArgs {
         boot: boot.clone()?,
@@ -37,7 +38,7 @@ fn step_args(
 
 /// Whether the words are those of `step`.
 fn is_step(words: &[String]) -> bool
-    ensures test { result ≡ is_step (words_of words.now) }
+    ensures test { result ≡ is_step (word_bytes words.now) }
     ensures count { OnTrue result (3 ≤ length words.now) }
 {
     match words.split_first() {
@@ -46,14 +47,14 @@ fn is_step(words: &[String]) -> bool
     }
 }
 
-/// The command that the words behind the program's name spell. By now it is `step`, with up to eight
-/// call files.
+/// The command that the words behind the program's name spell. By now it is `step`, with up to
+/// eight call files.
 pub fn read_words(alloc: Global, words: &[String]) -> Result<Result<Command, Usage>, NoMemory>
     ensures command { IfOk result (λ read.
-        IfOk read (Spells (words_of words.now))) }
+        IfOk read (Spells (word_bytes words.now))) }
     ensures usage { IfOk result (λ read.
-        IsErr read ↔ (is_step (words_of words.now) ≡ false)) }
-    ensures no_memory { OnErr result (is_step (words_of words.now) ≡ true) }
+        IsErr read ↔ (is_step (word_bytes words.now) ≡ false)) }
+    ensures no_memory { OnErr result (is_step (word_bytes words.now) ≡ true) }
 {
     if !is_step(words) {
         return Ok(Err(Usage));

@@ -1,7 +1,8 @@
 -- One bit is set or cleared, and the others stay.
 use Rattle.std.specs.Int.{w128}
 use Rattle.std.proofs.Common.{eqb, ap, sym, ◌∙◌}
-use Rattle.std.proofs.lemmas.Nat.Bits.{bit_at_set_same, bit_at_set_other, bit_at_clear_same, bit_at_clear_other}
+use Rattle.std.proofs.lemmas.Nat.Bits.{bit_at_set_same, bit_at_set_other}
+use Rattle.std.proofs.lemmas.Nat.Bits.{bit_at_clear_same, bit_at_clear_other}
 use Rattle.gh_base.proofs.places.with_place.Goals as goal
 
 pub returns-then-free-clause-here : goal.returns-then-free-clause-here

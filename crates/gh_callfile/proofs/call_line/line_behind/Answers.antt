@@ -2,7 +2,9 @@ use Rattle.std.proofs.Common.{◌≢◌, length, arith}
 use Rattle.std.proofs.lemmas.Bool.Decides.{nat_tests}
 use Rattle.gh_callfile.proofs.CallLineLemmas.{no_line_behind}
 use Rattle.gh_callfile.proofs.call_line.line_behind.Goals as goal
-use Rattle.gh_callfile.proofs.call_line.line_behind.Goals.{in_default-via-then-tail-lt2, in_default-via-else-tail-lt2+else-tail-lt3+then-tail-lt4, in_default-via-else-tail-lt2+else-tail-lt3+else-tail-lt4+else-tail-lt5}
+use Rattle.gh_callfile.proofs.call_line.line_behind.Goals.{in_default-via-then-tail-lt2}
+use Rattle.gh_callfile.proofs.call_line.line_behind.Goals.{in_default-via-else-tail-lt2+else-tail-lt3+then-tail-lt4}
+use Rattle.gh_callfile.proofs.call_line.line_behind.Goals.{in_default-via-else-tail-lt2+else-tail-lt3+else-tail-lt4+else-tail-lt5}
 
 pub returns-in_default : goal.returns-in_default
 returns-in_default c =

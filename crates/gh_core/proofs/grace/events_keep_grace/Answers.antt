@@ -5,4 +5,4 @@ pub returns-clause-grace : goal.returns-clause-grace
 returns-clause-grace c = λ conf event sound graced state valid may. event_graced conf event sound graced state valid may
 
 pub returns-clause-references : goal.returns-clause-references
-returns-clause-references c = λ conf event sound graced state valid words may. event_sound conf event sound graced state valid words may
+returns-clause-references c = λ conf event sound graced state valid words room may. event_sound conf event sound graced state valid words room may

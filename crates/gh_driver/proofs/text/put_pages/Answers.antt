@@ -6,7 +6,16 @@ use Rattle.gh_driver.proofs.text.put_pages.Goals as goal
 pub loop-page-preserved : goal.loop-page-preserved
 loop-page-preserved c = record {
   count = rw (c.after_page-run.ensures) (open_run-count c.loop-page.run c.loop-page.page c.access-found.result c.loop-page.invariant.count);
-  rest = page_step c.args.state.now c.args.space.0 c.loop-page.run c.loop-page.page 4096 c.access-found.result c.continues.result c.after_page-run.result _ _ _ c.loop-page-test.true c.access-found.ensures c.continues.ensures c.after_page-run.ensures c.in_ok-put_ended.ensures c.loop-page.invariant.rest;
+  rest =
+      page_step c.args.state.now c.args.space.0 c.loop-page.run c.loop-page.page 4096
+      c.access-found.result c.continues.result c.after_page-run.result _ _ _ c.loop-page-test.true
+      (record {
+        is_found = c.access-found.ensures;
+        is_going = c.continues.ensures;
+        is_next = c.after_page-run.ensures;
+        is_put = c.in_ok-put_ended.ensures;
+      })
+      c.loop-page.invariant.rest;
 }
 
 pub returns : goal.returns

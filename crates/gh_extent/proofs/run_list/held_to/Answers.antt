@@ -3,7 +3,8 @@ use Rattle.std.proofs.Common.{◌+◌, drop, get_or, arith, sym, ◌∙◌}
 use Rattle.std.proofs.lemmas.Bool.{not-true, not-false}
 use Rattle.std.proofs.lemmas.List.{drop_more}
 use Rattle.gh_model.specs.Memory.{is_serial}
-use Rattle.gh_extent.proofs.RunLemmas.{prefix_len-passes, prefix_len-stops, rising_first, rising_rest, spread-none}
+use Rattle.gh_extent.proofs.RunLemmas.{prefix_len-passes, prefix_len-stops}
+use Rattle.gh_extent.proofs.RunLemmas.{rising_first, rising_rest, spread-none}
 use Rattle.gh_extent.proofs.run_list.held_to.Goals as goal
 
 pub returns-then-ne : goal.returns-then-ne

@@ -2,7 +2,8 @@
 use Rattle.std.proofs.Common.{◌≡◌, ◌+◌, ◌*◌, arith, refl, sym, ◌∙◌, mul-zero}
 use Rattle.std.proofs.lemmas.Bool.{false≢true}
 use Rattle.gh_pagetable.specs.Entry.{AreNumbered}
-use Rattle.gh_pagetable.proofs.Runs.{AreNumbered-fewer, AreNumbered-from, further-further, further-zero}
+use Rattle.gh_pagetable.proofs.Runs.{AreNumbered-fewer, AreNumbered-from}
+use Rattle.gh_pagetable.proofs.Runs.{further-further, further-zero}
 use Rattle.gh_pagetable.proofs.Steps.{leads_on_more, leads_on_stops}
 use Rattle.gh_pagetable.proofs.table.leads_on.Goals as goal
 

@@ -2,7 +2,7 @@ use Rattle.std.proofs.Common.{◌≡◌, ◌++◌, [], length, map, take, drop, 
 use Rattle.std.specs.List.{All}
 use Rattle.gunyah.specs.Input.{sizes_on, is_small}
 use Rattle.gunyah.specs.Outcome.{requests}
-use Rattle.gunyah.specs.Words.{texts_of}
+use Rattle.gh_callfile.specs.Grammar.{texts_of}
 use Rattle.gunyah.proofs.load.load_files.Given as goal
 
 abbrev pub invariant-loop-name : goal.invariant-loop-name

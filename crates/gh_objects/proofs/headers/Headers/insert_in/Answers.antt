@@ -3,7 +3,8 @@ use Rattle.std.proofs.Common.{◌≡◌, ◌<◌, false, length, refl, sym, ◌�
 use Rattle.gh_objects.specs.Headers.{header_at, is_partition}
 use Rattle.gh_objects.proofs.PartitionsLemmas.{HavePlaces-same, HavePlaces-new}
 use Rattle.gh_objects.proofs.headers.Headers.insert_in.Goals as goal
-use Rattle.gh_objects.proofs.headers.Headers.insert_in.Goals.{then-is_partition_kind, else-is_partition_kind}
+use Rattle.gh_objects.proofs.headers.Headers.insert_in.Goals.{then-is_partition_kind}
+use Rattle.gh_objects.proofs.headers.Headers.insert_in.Goals.{else-is_partition_kind}
 
 pub invariant_of-self : goal.invariant_of-self
 invariant_of-self c =

@@ -2,7 +2,8 @@
 use Rattle.std.proofs.Common.{◌<◌, Bool, ℕ, None, length, refl, sym, ap, ◌∙◌}
 use Rattle.gh_objects.specs.Headers.{HeaderTable, header_at, is_partition, place_of}
 use Rattle.gh_objects.proofs.ListLemmas.{is_some-within}
-use Rattle.gh_objects.proofs.PartitionsLemmas.{HavePlaces-same, HavePlaces-gone, place_if-Some, place_if-None}
+use Rattle.gh_objects.proofs.PartitionsLemmas.{HavePlaces-same, HavePlaces-gone}
+use Rattle.gh_objects.proofs.PartitionsLemmas.{place_if-Some, place_if-None}
 use Rattle.gh_objects.proofs.headers.Headers.remove.Goals as goal
 use Rattle.gh_objects.proofs.headers.Headers.remove.Goals.{in-Some, in_default}
 

@@ -1,5 +1,6 @@
 -- The list rises without the name, which stood at its place.
-use Rattle.std.proofs.Common.{◌≡◌, ◌<◌, length, get_or, arith, ap, ◌∙◌, ◌+◌, eqb}
+use Rattle.std.proofs.Common.{◌≡◌, ◌<◌, length, get_or}
+use Rattle.std.proofs.Common.{arith, ap, ◌∙◌, ◌+◌, eqb}
 use Rattle.gh_objects.specs.Names.{itself, times, once_if}
 use Rattle.gh_objects.proofs.ListLemmas.{IsNonDecreasingBy-remove}
 use Rattle.gh_objects.proofs.NamesLemmas.{stands, times-remove}

@@ -1,6 +1,6 @@
 -- The span of a fitting extent line lies in the machine.
 use Rattle.gh_model.proofs.FittingLemmas.{extent_span}
-use Rattle.gh_model.proofs.line_changes.extent_line.Goals as goal
+use Rattle.gh_model.proofs.extent_lines.extent_line.Goals as goal
 
 pub new_child-requires-clause-span : goal.new_child-requires-clause-span
 new_child-requires-clause-span c =

@@ -1,6 +1,6 @@
 -- The VM of a fitting link is one of the eight.
 use Rattle.gh_model.proofs.FittingLemmas.{link_vm}
-use Rattle.gh_model.proofs.line_changes.cpu_line.Goals as goal
+use Rattle.gh_model.proofs.cpu_lines.cpu_line.Goals as goal
 
 pub new_link-requires : goal.new_link-requires
 new_link-requires c =

@@ -1,0 +1,133 @@
+-- Which slots an event leaves: all that it doesn't set, in capability spaces that live behind it.
+use Rattle.std.proofs.Common.{◌≡◌, ◌+◌, ◌∙◌, ◌⊎◌, inl, inr, ℕ, Bool, true, false, not, List, [], ◌∷◌, refl, subst, sym, ap, arith, IsTrue, Option, Some, None, find, is_some, if◌then◌else◌}
+use Rattle.std.specs.Prelude.{◌&&◌, ◌||◌, ◌==◌, count_by}
+use Rattle.std.specs.List.{list_all, list_any}
+use Rattle.std.proofs.lemmas.Bool.{and_from, eqb-true, or_parts}
+use Rattle.std.proofs.lemmas.Bool.Decides.{nat_tests}
+use Rattle.gh_model.specs.Act.{counted}
+use Rattle.gh_model.specs.Changes.{changed, without}
+use Rattle.gh_model.specs.History.{Event, after_entry, is_retired, is_unretired, may_act, may_part, numbered}
+use Rattle.gh_model.specs.QueueCalls.{one_if}
+use Rattle.gh_model.specs.References.{is_doomed}
+use Rattle.gh_model.specs.Rows.{fills, is_object, object_row}
+use Rattle.gh_model.specs.declared.change.Change.{Change}
+use Rattle.gh_model.specs.declared.change.Change.TheVariants as change
+use Rattle.gh_model.specs.declared.entry.Entry.{Entry}
+use Rattle.gh_model.specs.declared.entry.Entry.TheVariants.{Acted, Part, Retired, Reclaimed}
+use Rattle.gh_model.specs.declared.rows.ObjectRow.{ObjectRow}
+use Rattle.gh_model.specs.declared.state.State.{State}
+use Rattle.gh_invariant.specs.Effects.{is_place, leaves, sets, sets_slot, sets_some, slots_set}
+use Rattle.gh_invariant.specs.Events.{entry_changes, judged_by, made_by}
+use Rattle.gh_invariant.specs.Lives.{lives}
+use Rattle.gh_invariant.proofs.Counting.{all_by, count_cons, one_true}
+use Rattle.gh_invariant.proofs.EventWords.{entry_of_calls, judged_sets}
+use Rattle.gh_invariant.proofs.RowsLeft.{find_gone}
+use Rattle.gh_invariant.proofs.SetsOne.{MakesOne, is_of_calls, keeps_objects}
+
+-- the change reclaims nothing
+abbrev pub keeps_spaces : Change → Bool
+keeps_spaces (change.Reclaim object) = false
+keeps_spaces _ = true
+
+keeps_by : (one : Change) → IsTrue (keeps_objects one) → IsTrue (keeps_spaces one)
+keeps_by (change.Reclaim object) keeps = absurd (let never : ⊥ = cc in never)
+keeps_by _ keeps = refl
+
+left_one : (cspace slot : ℕ) (one : Change) → keeps_spaces one ≡ true → is_of_calls one ≡ true
+    → sets_slot cspace slot one ≡ false → leaves cspace slot one ≡ true
+left_one cspace slot (change.Reclaim object) keeps calls unset = absurd (let never : ⊥ = cc in never)
+left_one cspace slot (change.FillSlot row) keeps calls unset = absurd (let never : ⊥ = cc in never)
+left_one cspace slot _ keeps calls unset = ap not unset
+
+left_all : (cspace slot : ℕ) (changes : List Change) → IsTrue (list_all keeps_spaces changes)
+    → IsTrue (list_all is_of_calls changes) → list_any (sets_slot cspace slot) changes ≡ false
+    → IsTrue (list_all (leaves cspace slot) changes)
+left_all cspace slot [] keep calls unset = refl
+left_all cspace slot (one ∷ others) keep calls unset =
+    let here = or_parts (sets_slot cspace slot one) (list_any (sets_slot cspace slot) others) unset in
+    let kept = both (keeps_spaces one) (list_all keeps_spaces others) keep in
+    let called = both (is_of_calls one) (list_all is_of_calls others) calls in
+    and_from (leaves cspace slot one) (list_all (leaves cspace slot) others)
+    (left_one cspace slot one kept.0 called.0 here.0)
+    (left_all cspace slot others kept.1 called.1 here.1)
+  where
+    both : (a b : Bool) → (a && b) ≡ true → (a ≡ true) × (b ≡ true)
+    both true b is = (refl, is)
+    both false b is = absurd (let never : ⊥ = cc in never)
+
+-- an act reclaims nothing
+makes_keep : (s : State) (changes : List Change)
+    → IsTrue (list_all keeps_objects changes) ⊎ MakesOne s changes
+    → IsTrue (list_all keeps_spaces changes)
+makes_keep s changes (inl keep) = all_by keeps_objects keeps_spaces changes keeps_by keep
+makes_keep s changes (inr one) = rw one.is refl
+
+if_keep : (allowed : Bool) (changes : List Change) → IsTrue (list_all keeps_spaces changes)
+    → IsTrue (list_all keeps_spaces (if allowed then changes else []))
+if_keep true changes keep = keep
+if_keep false changes keep = refl
+
+-- the space that a reclaim takes away doesn't live behind it
+reclaim_by : (objects : List ObjectRow) (gone cspace : ℕ) (here : Bool) → (gone == cspace) ≡ here
+    → lives (without (is_object gone) objects) cspace ≡ true → not here ≡ true
+reclaim_by objects gone cspace false other alive = refl
+reclaim_by objects gone cspace true is alive =
+    let same : gone ≡ cspace = eqb-true gone cspace is in
+    let none : find (is_object cspace) (without (is_object gone) objects) ≡ None =
+    find_gone (is_object cspace) (is_object gone) objects (λ row other. subst (λ (n : ℕ). (row.serial.0 == n) ≡ false) same other) in
+    let dead : lives (without (is_object gone) objects) cspace ≡ false = ap (λ (found : Option ObjectRow). is_some found) none in
+    absurd (let never : ⊥ = cc in never)
+
+leaves_by : (cspace slot gone : ℕ) (left : Bool) → (not (gone == cspace)) ≡ left → left ≡ true
+    → (not (gone == cspace) && true) ≡ true
+leaves_by cspace slot gone true is left = rw is refl
+leaves_by cspace slot gone false is left = absurd (let never : ⊥ = cc in never)
+
+reclaimed_leaves : (s new : State) (gone cspace slot : ℕ) (allowed : Bool)
+    → new.objects ≡ without (is_object gone) s.objects
+    → lives (let after : State = if allowed then new else numbered s in after).objects cspace ≡ true
+    → IsTrue (list_all (leaves cspace slot) (if allowed then change.Reclaim (record { 0 = gone }) ∷ [] else []))
+reclaimed_leaves s new gone cspace slot false is alive = refl
+reclaimed_leaves s new gone cspace slot true is alive =
+    let still : lives (without (is_object gone) s.objects) cspace ≡ true = subst (λ (objects : List ObjectRow). lives objects cspace ≡ true) is alive in
+    leaves_by cspace slot gone (not (gone == cspace)) refl (reclaim_by s.objects gone cspace (gone == cspace) refl still)
+
+-- an entry leaves each slot that it doesn't set, of what lives behind it
+pub entry_left : (s : State) (event : Event) (entry : Entry) (cspace slot : ℕ)
+    → list_any (sets_slot cspace slot) (entry_changes s event entry) ≡ false
+    → lives (after_entry s event entry).objects cspace ≡ true
+    → IsTrue (list_all (leaves cspace slot) (entry_changes s event entry))
+entry_left s event (Acted cpu number) cspace slot unset alive =
+    left_all cspace slot (entry_changes s event (Acted cpu number))
+    (if_keep (may_act s cpu.0 event.call event.words) (made_by (judged_by s cpu.0 event)) (makes_keep s (made_by (judged_by s cpu.0 event))
+    (judged_sets s cpu.0 event).makes)) (entry_of_calls s event (Acted cpu number)) unset
+entry_left s event (Part cpu number space n) cspace slot unset alive =
+    left_all cspace slot (entry_changes s event (Part cpu number space n))
+    (if_keep (may_part (find (fills space.0 n) s.caps)) (change.RevokeCapability space n ∷ []) refl)
+    (entry_of_calls s event (Part cpu number space n)) unset
+entry_left s event (Retired serial seen) cspace slot unset alive =
+    left_all cspace slot (entry_changes s event (Retired serial seen))
+    (if_keep (is_doomed s serial.0 && is_unretired (object_row s serial.0)) (change.Retire serial seen ∷ []) refl)
+    (entry_of_calls s event (Retired serial seen)) unset
+entry_left s event (Reclaimed serial seen) cspace slot unset alive =
+    reclaimed_leaves s (counted (changed s (change.Reclaim serial))) serial.0 cspace slot (is_doomed s serial.0 && is_retired (object_row s serial.0)) refl alive
+
+-- changes that set no slot don't set this one
+
+unset_by : (cspace slot : ℕ) (place : Option (ℕ × ℕ)) → is_some place ≡ false
+    → is_place cspace slot place ≡ false
+unset_by cspace slot None none = refl
+unset_by cspace slot (Some place) none = absurd (let never : ⊥ = cc in never)
+
+none_here : (some : Bool) (others : ℕ) → one_if some + others ≡ 0 → some ≡ false
+none_here false others none = refl
+none_here true others none = absurd (omega (arith, one_true true refl, none))
+
+pub none_set : (cspace slot : ℕ) (changes : List Change) → slots_set changes ≡ 0
+    → list_any (sets_slot cspace slot) changes ≡ false
+none_set cspace slot [] none = refl
+none_set cspace slot (one ∷ others) none =
+    let all : one_if (sets_some one) + slots_set others ≡ 0 = sym (count_cons sets_some one others) ∙ none in
+    let first : sets_slot cspace slot one ≡ false = unset_by cspace slot (sets one) (none_here (sets_some one) (slots_set others) all) in
+    let rest : list_any (sets_slot cspace slot) others ≡ false = none_set cspace slot others (omega (arith, all)) in
+    rw first rest
