@@ -1,10 +1,11 @@
 -- An event of a CPU that doesn't have the turn, which leaves history, dead words and turn, keeps sound
 -- calls where those of the CPU are sound.
-use Rattle.std.proofs.Common.{◌≡◌, ◌==◌, ◌+◌, ◌∙◌, ◌⊎◌, inl, inr, ℕ, Bool, true, false, List, [], ◌++◌, refl, subst, sym, ap, Option, Some, None, slice_get, if◌then◌else◌}
+use Rattle.std.proofs.Common.{◌≡◌, ◌==◌, ◌+◌, ◌∙◌, ◌⊎◌, inl, inr, ℕ, Bool, true, false, List, [], ◌∷◌, ◌++◌, refl, subst, sym, ap, Option, Some, None, slice_get, if◌then◌else◌}
 use Rattle.std.specs.List.{last_or}
 use Rattle.std.proofs.lemmas.Bool.{eqb-true}
 use Rattle.std.proofs.lemmas.Bool.Decides.{eqb_tells}
 use Rattle.std.proofs.lemmas.List.{append-nil}
+use Rattle.std.proofs.lemmas.Option.{slice_get_within}
 use Rattle.gh_base.specs.declared.mark.End.TheVariants as ends
 use Rattle.gh_model.specs.History as history
 use Rattle.gh_model.specs.Legal.{CallIs, EntryIs, GoesOn, IsEndOf, IsNumbered, is_part}
@@ -13,6 +14,7 @@ use Rattle.gh_model.specs.Rows.{cpu_row}
 use Rattle.gh_model.specs.declared.entry.Entry.{Entry}
 use Rattle.gh_model.specs.declared.entry.Entry.TheVariants.{Acted, Part, Retired, Reclaimed}
 use Rattle.gh_model.specs.declared.state.State.{State}
+use Rattle.gh_model.proofs.RunLists.{slice_get_left}
 use Rattle.gh_core.specs.Calls.{CpuCalls, CurrentIs, DeathIs, HasCalls, IsActing, IsIdle, NextIs, Waits, acted_call, calls_in, calls_of, counted}
 use Rattle.gh_core.specs.Config.{AtAct, Config, Cpu, Current, Given, Holder, IsIn, put}
 use Rattle.gh_core.proofs.CpuMoves.{with_part}
@@ -34,6 +36,17 @@ module _ (boot : State) (events : List history.Event) (at : ℕ) where
       → calls_of boot events turn at cpu ≡ cpu.made
   only_made turn cpu other =
       ap (λ (more : List Made). cpu.made ++ more) (none_acted turn cpu.current other) ∙ append-nil cpu.made
+
+-- one more call leaves the ends of those before it
+pub ends_more : (calls : List Made) (made : Made) (number entry : ℕ) → IsEndOf calls number entry
+    → IsEndOf (calls ++ made ∷ []) number entry
+ends_more calls made number entry is = record {
+  at = is.at;
+  made = is.made;
+  is = slice_get_left calls (made ∷ []) is.at (slice_get_within calls is.at is.made is.is) ∙ is.is;
+  numbered = is.numbered;
+  ends = is.ends;
+}
 
 -- each dead call's last grant is retired or killed
 abbrev pub DeathsAre : Config → List Made → Type 0
@@ -169,6 +182,7 @@ module _ (conf : Config) (at : ℕ) (cpu : Cpu) (count counter : ℕ → ℕ)
       entries = λ n event is. entry_kept n event event.entry (sound.entries.entries n event is);
       parts = λ n event is part. part_kept n event (sound.entries.parts n event is part);
       untaken = sound.entries.untaken;
+      unreferenced = sound.entries.unreferenced;
       deaths = deaths_kept;
     };
   }

@@ -2,7 +2,6 @@
 use Rattle.std.proofs.Common.{◌≡◌, ◌==◌, ◌+◌, ◌*◌, ◌<◌, ◌∙◌, ◌⊎◌, inl, inr, ℕ, Bool, true, false, List, [], ◌∷◌, ◌++◌, length, refl, is_some, not, subst, sym, ap, arith, Option, Some, None, Result, Ok, Err, count_by, option_map, slice_get, if◌then◌else◌}
 use Rattle.std.specs.Prelude.{nat_lt}
 use Rattle.std.specs.List.{last_or}
-use Rattle.std.proofs.lemmas.Option.{slice_get_within}
 use Rattle.gh_base.specs.Reply.{refusal}
 use Rattle.gh_base.specs.declared.call.Call.{Call}
 use Rattle.gh_base.specs.declared.errno.Errno.{Errno}
@@ -13,11 +12,11 @@ use Rattle.gh_base.specs.declared.mark.End.TheVariants as ends
 use Rattle.gh_model.specs.Legal.{CallIs, EndIs, FrameIs, IsEndOf, IsNumbered}
 use Rattle.gh_model.specs.Marks.{Fails, Grants, InTurn, Made, Outcome, Seen, Wants, cspace_of, failure, has_looks, place_after}
 use Rattle.gh_model.specs.Registers.{call_of}
-use Rattle.gh_model.proofs.RunLists.{count_snoc, in_turn_snoc, slice_get_left, snoc_cases}
+use Rattle.gh_model.proofs.RunLists.{count_snoc, in_turn_snoc, snoc_cases}
 use Rattle.gh_core.specs.Calls.{CurrentIs, DeathIs, HasCalls, calls_in, section_behind, steps_at}
 use Rattle.gh_core.specs.CallEvents.{MayLeave, after_leave, at_stage, end_of_looks, finished, has_grants, has_needs, leaves_from, left, reply_of_looks, with_end, with_left}
 use Rattle.gh_core.specs.Config.{AtAct, Config, Cpu, Current, DeadPin, Failed, IsIn, Looked, Reading, Stage, Undone, came_to, put}
-use Rattle.gh_core.proofs.CallMoves.{CallMoves, DeathsAre, IsNotHolder, moved_sound, no_holder, only_made}
+use Rattle.gh_core.proofs.CallMoves.{CallMoves, DeathsAre, IsNotHolder, ends_more, moved_sound, no_holder, only_made}
 use Rattle.gh_core.proofs.CallsGoOn.{its_came, its_counter, its_death, its_looked, its_needs, its_pinned, none_acts, stage_sound}
 use Rattle.gh_core.proofs.CallsKeep.{stage_number}
 use Rattle.gh_core.proofs.CpuMoves.{with_part}
@@ -67,13 +66,7 @@ module _ (conf : Config) (at : ℕ) (call : Current) (end : End) (reply : Reply)
   -- every end is still there
   pub ends_stay : (number entry : ℕ) → IsEndOf before number entry
       → IsEndOf (before ++ made_now ∷ []) number entry
-  ends_stay number entry is = record {
-    at = is.at;
-    made = is.made;
-    is = slice_get_left before (made_now ∷ []) is.at (slice_get_within before is.at is.made is.is) ∙ is.is;
-    numbered = is.numbered;
-    ends = is.ends;
-  }
+  ends_stay number entry is = ends_more before made_now number entry is
 
   pub deaths_stay : DeathsAre conf (before ++ made_now ∷ [])
   deaths_stay i made seen is dead last =

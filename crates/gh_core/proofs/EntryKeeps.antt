@@ -41,17 +41,19 @@ some_same None (Some old) same = absurd (let never : ⊥ = cc in never)
 some_same (Some new) None same = absurd (let never : ⊥ = cc in never)
 some_same (Some new) (Some old) same = refl
 
-lives_same : (new old : List ObjectRow) (serial : ℕ) → life new serial ≡ life old serial
+pub lives_same : (new old : List ObjectRow) (serial : ℕ) → life new serial ≡ life old serial
     → lives new serial ≡ lives old serial
 lives_same new old serial same =
     some_same (find (is_object serial) new) (find (is_object serial) old) same
 
-some_of : (found : Option ObjectRow) (counters : Option (List ℕ))
+-- what has a life is found
+pub some_of : (found : Option ObjectRow) (counters : Option (List ℕ))
     → option_map counters_of found ≡ Some counters → is_some found ≡ true
 some_of None counters is = absurd (let never : ⊥ = cc in never)
 some_of (Some row) counters is = refl
 
-none_of : (found : Option ObjectRow) → option_map counters_of found ≡ None → is_some found ≡ false
+-- and what has none doesn't
+pub none_of : (found : Option ObjectRow) → option_map counters_of found ≡ None → is_some found ≡ false
 none_of None is = refl
 none_of (Some row) is = absurd (let never : ⊥ = cc in never)
 
@@ -286,7 +288,7 @@ none_set : (b : Bool) (one : Change) → slots_set (one ∷ []) ≡ 0
 none_set true one none = none
 none_set false one none = refl
 
-setting_spares : (conf : Config) (event : Event) (kind : Entry)
+pub setting_spares : (conf : Config) (event : Event) (kind : Entry)
     → slots_set (entry_changes (present conf) event kind) ≡ 1 → SparesLooks conf kind
 setting_spares conf event (Acted cpu number) one = tt
 setting_spares conf event (Part cpu number space slot) one = tt
@@ -299,7 +301,7 @@ setting_spares conf event (Reclaimed serial seen) one =
 abbrev index_by : (ℕ → ℕ) → ℕ → ℕ → Bool → ℕ → ℕ
 index_by index next at makes = if makes then put index next at else index
 
-kept_by : (index : ℕ → ℕ) (next at serial : ℕ) (makes : Bool) → serial < next
+pub kept_by : (index : ℕ → ℕ) (next at serial : ℕ) (makes : Bool) → serial < next
     → index_by index next at makes serial ≡ index serial
 kept_by index next at serial true below =
     let other : (serial == next) ≡ false = grind (arith, nat_tests) in put_other index next at serial other

@@ -176,6 +176,7 @@ module _ (conf : Config) (at : ℕ) (sound : HasCalls conf) (may : MayQuit conf 
       entries = λ n event is. quit_entry n event event.entry (sound.entries.entries n event is);
       parts = λ n event is part. quit_part n event (sound.entries.parts n event is part);
       untaken = λ closed. sound.entries.untaken (rw (may.has_turn.turn, may.no_part) refl);
+      unreferenced = sound.entries.unreferenced;
       deaths = sound.entries.deaths;
     };
   }

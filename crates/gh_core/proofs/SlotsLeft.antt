@@ -1,9 +1,8 @@
 -- Which slots an event leaves: all that it doesn't set, in capability spaces that live behind it.
-use Rattle.std.proofs.Common.{◌≡◌, ◌+◌, ◌∙◌, ◌⊎◌, inl, inr, ℕ, Bool, true, false, not, List, [], ◌∷◌, refl, subst, sym, ap, arith, IsTrue, Option, Some, None, find, is_some, if◌then◌else◌}
-use Rattle.std.specs.Prelude.{◌&&◌, ◌||◌, ◌==◌, count_by}
+use Rattle.std.proofs.Common.{◌≡◌, ◌+◌, ◌≤◌, ◌∙◌, ◌⊎◌, inl, inr, ℕ, Bool, true, false, not, List, [], ◌∷◌, refl, subst, sym, ap, arith, IsTrue, Option, Some, None, find, is_some, if◌then◌else◌}
+use Rattle.std.specs.Prelude.{◌&&◌, ◌||◌, ◌==◌}
 use Rattle.std.specs.List.{list_all, list_any}
-use Rattle.std.proofs.lemmas.Bool.{and_from, eqb-true, or_parts}
-use Rattle.std.proofs.lemmas.Bool.Decides.{nat_tests}
+use Rattle.std.proofs.lemmas.Bool.{and_from, and_parts, eqb-true, or_parts}
 use Rattle.gh_model.specs.Act.{counted}
 use Rattle.gh_model.specs.Changes.{changed, without}
 use Rattle.gh_model.specs.History.{Event, after_entry, is_retired, is_unretired, may_act, may_part, numbered}
@@ -19,37 +18,47 @@ use Rattle.gh_model.specs.declared.state.State.{State}
 use Rattle.gh_invariant.specs.Effects.{is_place, leaves, sets, sets_slot, sets_some, slots_set}
 use Rattle.gh_invariant.specs.Events.{entry_changes, judged_by, made_by}
 use Rattle.gh_invariant.specs.Lives.{lives}
-use Rattle.gh_invariant.proofs.Counting.{all_by, count_cons, one_true}
-use Rattle.gh_invariant.proofs.EventWords.{entry_of_calls, judged_sets}
+use Rattle.gh_invariant.proofs.Counting.{count_cons, one_true}
+use Rattle.gh_invariant.proofs.EventWords.{judged_sets}
 use Rattle.gh_invariant.proofs.RowsLeft.{find_gone}
 use Rattle.gh_invariant.proofs.SetsOne.{MakesOne, is_of_calls, keeps_objects}
+use Rattle.gh_core.specs.Entries.{or_else, slot_set}
 
--- the change reclaims nothing
+-- the change reclaims nothing, and fills no slot without a setting
 abbrev pub keeps_spaces : Change → Bool
 keeps_spaces (change.Reclaim object) = false
+keeps_spaces (change.FillSlot row) = false
 keeps_spaces _ = true
 
-keeps_by : (one : Change) → IsTrue (keeps_objects one) → IsTrue (keeps_spaces one)
-keeps_by (change.Reclaim object) keeps = absurd (let never : ⊥ = cc in never)
-keeps_by _ keeps = refl
+keeps_by : (one : Change) → IsTrue (keeps_objects one) → IsTrue (is_of_calls one)
+    → IsTrue (keeps_spaces one)
+keeps_by (change.Reclaim object) keeps calls = absurd (let never : ⊥ = cc in never)
+keeps_by (change.FillSlot row) keeps calls = absurd (let never : ⊥ = cc in never)
+keeps_by _ keeps calls = refl
 
-left_one : (cspace slot : ℕ) (one : Change) → keeps_spaces one ≡ true → is_of_calls one ≡ true
+called_keep : (changes : List Change) → IsTrue (list_all keeps_objects changes)
+    → IsTrue (list_all is_of_calls changes) → IsTrue (list_all keeps_spaces changes)
+called_keep [] keep calls = refl
+called_keep (one ∷ others) keep calls =
+    let kept = and_parts (keeps_objects one) (list_all keeps_objects others) keep in
+    let called = and_parts (is_of_calls one) (list_all is_of_calls others) calls in
+    and_from (keeps_spaces one) (list_all keeps_spaces others) (keeps_by one kept.0 called.0)
+    (called_keep others kept.1 called.1)
+
+pub left_one : (cspace slot : ℕ) (one : Change) → keeps_spaces one ≡ true
     → sets_slot cspace slot one ≡ false → leaves cspace slot one ≡ true
-left_one cspace slot (change.Reclaim object) keeps calls unset = absurd (let never : ⊥ = cc in never)
-left_one cspace slot (change.FillSlot row) keeps calls unset = absurd (let never : ⊥ = cc in never)
-left_one cspace slot _ keeps calls unset = ap not unset
+left_one cspace slot (change.Reclaim object) keeps unset = absurd (let never : ⊥ = cc in never)
+left_one cspace slot (change.FillSlot row) keeps unset = absurd (let never : ⊥ = cc in never)
+left_one cspace slot _ keeps unset = ap not unset
 
-left_all : (cspace slot : ℕ) (changes : List Change) → IsTrue (list_all keeps_spaces changes)
-    → IsTrue (list_all is_of_calls changes) → list_any (sets_slot cspace slot) changes ≡ false
+pub left_all : (cspace slot : ℕ) (changes : List Change) → IsTrue (list_all keeps_spaces changes)
+    → list_any (sets_slot cspace slot) changes ≡ false
     → IsTrue (list_all (leaves cspace slot) changes)
-left_all cspace slot [] keep calls unset = refl
-left_all cspace slot (one ∷ others) keep calls unset =
+left_all cspace slot [] keep unset = refl
+left_all cspace slot (one ∷ others) keep unset =
     let here = or_parts (sets_slot cspace slot one) (list_any (sets_slot cspace slot) others) unset in
     let kept = both (keeps_spaces one) (list_all keeps_spaces others) keep in
-    let called = both (is_of_calls one) (list_all is_of_calls others) calls in
-    and_from (leaves cspace slot one) (list_all (leaves cspace slot) others)
-    (left_one cspace slot one kept.0 called.0 here.0)
-    (left_all cspace slot others kept.1 called.1 here.1)
+    and_from (leaves cspace slot one) (list_all (leaves cspace slot) others) (left_one cspace slot one kept.0 here.0) (left_all cspace slot others kept.1 here.1)
   where
     both : (a b : Bool) → (a && b) ≡ true → (a ≡ true) × (b ≡ true)
     both true b is = (refl, is)
@@ -58,9 +67,15 @@ left_all cspace slot (one ∷ others) keep calls unset =
 -- an act reclaims nothing
 makes_keep : (s : State) (changes : List Change)
     → IsTrue (list_all keeps_objects changes) ⊎ MakesOne s changes
-    → IsTrue (list_all keeps_spaces changes)
-makes_keep s changes (inl keep) = all_by keeps_objects keeps_spaces changes keeps_by keep
-makes_keep s changes (inr one) = rw one.is refl
+    → IsTrue (list_all is_of_calls changes) → IsTrue (list_all keeps_spaces changes)
+makes_keep s changes (inl keep) calls = called_keep changes keep calls
+makes_keep s changes (inr one) calls = rw one.is refl
+
+judged_keep : (s : State) (cpu : ℕ) (event : Event)
+    → IsTrue (list_all keeps_spaces (made_by (judged_by s cpu event)))
+judged_keep s cpu event =
+    makes_keep s (made_by (judged_by s cpu event)) (judged_sets s cpu event).makes
+    (judged_sets s cpu event).calls
 
 if_keep : (allowed : Bool) (changes : List Change) → IsTrue (list_all keeps_spaces changes)
     → IsTrue (list_all keeps_spaces (if allowed then changes else []))
@@ -99,16 +114,13 @@ pub entry_left : (s : State) (event : Event) (entry : Entry) (cspace slot : ℕ)
     → IsTrue (list_all (leaves cspace slot) (entry_changes s event entry))
 entry_left s event (Acted cpu number) cspace slot unset alive =
     left_all cspace slot (entry_changes s event (Acted cpu number))
-    (if_keep (may_act s cpu.0 event.call event.words) (made_by (judged_by s cpu.0 event)) (makes_keep s (made_by (judged_by s cpu.0 event))
-    (judged_sets s cpu.0 event).makes)) (entry_of_calls s event (Acted cpu number)) unset
+    (if_keep (may_act s cpu.0 event.call event.words) (made_by (judged_by s cpu.0 event)) (judged_keep s cpu.0 event)) unset
 entry_left s event (Part cpu number space n) cspace slot unset alive =
     left_all cspace slot (entry_changes s event (Part cpu number space n))
-    (if_keep (may_part (find (fills space.0 n) s.caps)) (change.RevokeCapability space n ∷ []) refl)
-    (entry_of_calls s event (Part cpu number space n)) unset
+    (if_keep (may_part (find (fills space.0 n) s.caps)) (change.RevokeCapability space n ∷ []) refl) unset
 entry_left s event (Retired serial seen) cspace slot unset alive =
     left_all cspace slot (entry_changes s event (Retired serial seen))
-    (if_keep (is_doomed s serial.0 && is_unretired (object_row s serial.0)) (change.Retire serial seen ∷ []) refl)
-    (entry_of_calls s event (Retired serial seen)) unset
+    (if_keep (is_doomed s serial.0 && is_unretired (object_row s serial.0)) (change.Retire serial seen ∷ []) refl) unset
 entry_left s event (Reclaimed serial seen) cspace slot unset alive =
     reclaimed_leaves s (counted (changed s (change.Reclaim serial))) serial.0 cspace slot (is_doomed s serial.0 && is_retired (object_row s serial.0)) refl alive
 
@@ -131,3 +143,50 @@ none_set cspace slot (one ∷ others) none =
     let first : sets_slot cspace slot one ≡ false = unset_by cspace slot (sets one) (none_here (sets_some one) (slots_set others) all) in
     let rest : list_any (sets_slot cspace slot) others ≡ false = none_set cspace slot others (omega (arith, all)) in
     rw first rest
+
+-- an entry that sets a slot reclaims nothing
+no_reclaim : (cspace slot : ℕ) (one : Change) (allowed : Bool) → sets_slot cspace slot one ≡ false
+    → list_any (sets_slot cspace slot) (if allowed then one ∷ [] else []) ≡ true → ⊥
+no_reclaim cspace slot one true unset set =
+    let none : list_any (sets_slot cspace slot) (one ∷ []) ≡ false = rw unset refl in
+    let never : ⊥ = cc in never
+no_reclaim cspace slot one false unset set = let never : ⊥ = cc in never
+
+pub setting_keeps : (s : State) (event : Event) (entry : Entry) (cspace slot : ℕ)
+    → list_any (sets_slot cspace slot) (entry_changes s event entry) ≡ true
+    → IsTrue (list_all keeps_spaces (entry_changes s event entry))
+setting_keeps s event (Acted cpu number) cspace slot set =
+    if_keep (may_act s cpu.0 event.call event.words) (made_by (judged_by s cpu.0 event)) (judged_keep s cpu.0 event)
+setting_keeps s event (Part cpu number space n) cspace slot set =
+    if_keep (may_part (find (fills space.0 n) s.caps)) (change.RevokeCapability space n ∷ []) refl
+setting_keeps s event (Retired serial seen) cspace slot set =
+    if_keep (is_doomed s serial.0 && is_unretired (object_row s serial.0)) (change.Retire serial seen ∷ []) refl
+setting_keeps s event (Reclaimed serial seen) cspace slot set =
+    absurd (no_reclaim cspace slot (change.Reclaim serial) (is_doomed s serial.0 && is_retired (object_row s serial.0)) refl set)
+
+-- changes that set just one slot set no other
+
+place_by : (cspace slot home n : ℕ) → ((home == cspace) && (n == slot)) ≡ false
+    → (place : Option (ℕ × ℕ)) (others : Option (ℕ × ℕ)) (later : Bool)
+    → or_else place others ≡ Some (home, n) → (is_some place ≡ false → later ≡ false)
+    → (is_some place ≡ true → later ≡ false) → (is_place cspace slot place || later) ≡ false
+place_by cspace slot home n other None others later is without behind = without refl
+place_by cspace slot home n other (Some place) others later is without behind =
+    let same : place ≡ (home, n) = cc in
+    let first : is_place cspace slot (Some place) ≡ false = ap (λ (p : ℕ × ℕ). is_place cspace slot (Some p)) same ∙ other in
+    rw first (behind refl)
+
+pub other_set : (cspace slot home n : ℕ) (changes : List Change)
+    → ((home == cspace) && (n == slot)) ≡ false → slots_set changes ≤ 1
+    → slot_set changes ≡ Some (home, n) → list_any (sets_slot cspace slot) changes ≡ false
+other_set cspace slot home n [] other few is = refl
+other_set cspace slot home n (one ∷ others) other few is =
+    let all : one_if (sets_some one) + slots_set others ≤ 1 = omega (arith, count_cons sets_some one others, few) in
+    place_by cspace slot home n other (sets one) (slot_set others) (list_any (sets_slot cspace slot) others) is
+    (λ none. other_set cspace slot home n others other (omega arith) (rest_by (sets one) (slot_set others) none is))
+    (λ some. none_set cspace slot others (omega (arith, one_true (sets_some one) some, all)))
+  where
+    rest_by : (place others : Option (ℕ × ℕ)) → is_some place ≡ false → or_else place others ≡ Some (home, n)
+        → others ≡ Some (home, n)
+    rest_by None others none is = is
+    rest_by (Some place) others none is = absurd (let never : ⊥ = cc in never)

@@ -249,6 +249,7 @@ module _ (conf : Config) (at : ℕ) (sound : HasCalls conf) (may : MayTake conf 
       entries = λ n event is. take_entry n event event.entry (sound.entries.entries n event is);
       parts = λ n event is part. take_part n event (sound.entries.parts n event is part);
       untaken = λ closed. sound.entries.untaken (rw may.free refl);
+      unreferenced = sound.entries.unreferenced;
       deaths = take_deaths;
     };
   }

@@ -177,6 +177,7 @@ module _ (conf : Config) (turn : Option Holder) (count : ℕ → ℕ) (dead : �
       entries = λ n event is. entry_stays n event event.entry (sound.entries.entries n event is);
       parts = λ n event is part. part_stays n event (sound.entries.parts n event is part);
       untaken = λ closed. sound.entries.untaken (sym (open_same turn conf.turn moves.same) ∙ closed);
+      unreferenced = sound.entries.unreferenced;
       deaths = λ cpu i made seen is end last. death_stays seen (sound.entries.deaths cpu i made seen is end last);
     };
   }

@@ -126,9 +126,6 @@ pub record WordsFollow (conf : Config) (new : State) (index : ℕ → ℕ) (cap 
 
 module _ (conf : Config) (history : List Event) (index : ℕ → ℕ) (cap : ℕ → ℕ → CapWord)
     (follows : WordsFollow conf (replay conf.boot history) index cap) (words : ShowsWords conf) where
-  new : State
-  new = replay conf.boot history
-
   abbrev ShowsNow : ℕ → ℕ → Type 0
   ShowsNow cspace slot =
       (cap (index cspace) slot).0 ≡ shown index (word_at (replay conf.boot history) cspace slot)

@@ -2,8 +2,10 @@
 -- legal so far.
 use Rattle.std.specs.Prelude.{◌≡◌, ◌==◌, ◌&&◌, ◌+◌, ◌*◌, ◌-◌, ◌⊎◌, not, ℕ, Bool, true, false, List, [], ◌∷◌, ◌++◌, length, take, Option, Some, None, Ok, count_by, map, is_some, nat_lt, slice_get, if◌then◌else◌}
 use Rattle.std.specs.List.{last_or, list_any}
+use Rattle.gh_base.specs.declared.mark.End.{End}
 use Rattle.gh_base.specs.declared.mark.End.TheVariants as ends
 use Rattle.gh_model.specs.Act.{granted}
+use Rattle.gh_model.specs.Graced.{GoesUnreferenced}
 use Rattle.gh_model.specs.History as history
 use Rattle.gh_model.specs.Legal.{CallIs, EntryIs, GoesOn, IsNumbered, IsRetiredBehind, LookIs, exits, is_part}
 use Rattle.gh_model.specs.Marks.{InTurn, Made, Outcome, Seen, cspace_of, failure, has_looks, place_after}
@@ -14,7 +16,7 @@ use Rattle.gh_model.specs.declared.state.State.{State}
 use Rattle.gh_core.specs.CallEvents.{finished, has_grants, has_needs}
 use Rattle.gh_core.specs.Config.{AtAct, Config, Cpu, Current, DeadPin, Failed, Given, Holder, IsIn, Looked, Reading, Stage, Undone, came_to, has_acted, has_part, is_killed, judged, object_at, pin_of, present, seen_index}
 use Rattle.gh_core.specs.Entries.{logged}
-use Rattle.gh_core.specs.TurnEvents.{Ending, acted_ending}
+use Rattle.gh_core.specs.TurnEvents.{Ending, acted_ending, ending}
 
 -- finished calls
 
@@ -197,6 +199,9 @@ pub record AreEntries (conf : Config) : Type 0 where
       → is_part event.entry ≡ true
       → GoesOn conf.boot conf.history n event ⊎ Waits conf.history conf.turn conf.cpu n event
   pub untaken : stands_open conf.turn ≡ false → (present conf).taken ≡ []
+  -- what an entry retires or reclaims has no references just before it
+  pub unreferenced : (n : ℕ) (event : history.Event) → slice_get conf.history n ≡ Some event
+      → GoesUnreferenced (history.state_at conf.boot conf.history n) event.entry
   -- the object that a dead call's last look granted is retired behind it, or the holder killed it
   pub deaths : (cpu i : ℕ) (made : Made) (seen : Seen)
       → slice_get (conf.cpu cpu).made i ≡ Some made → made.mark.end ≡ ends.Dead
@@ -227,3 +232,28 @@ pub record HasCalls (conf : Config) : Type 0 where
   pub calls : AreCalls conf
   pub counters : (cpu : ℕ) → conf.counter cpu ≡ counted (conf.cpu cpu)
   pub entries : AreEntries conf
+
+-- the history begins with the boot: no entry was counted before it
+abbrev pub BeginsAtBoot : Config → Type 0
+BeginsAtBoot conf = conf.boot.entries ≡ 0
+
+-- the holder's call ends for want of units
+abbrev pub is_short_end : End → Bool
+is_short_end ends.Frame = false
+is_short_end ends.Refused = false
+is_short_end ends.Dead = false
+is_short_end (ends.Act at) = false
+is_short_end (ends.Short at held) = true
+is_short_end (ends.Entry number) = false
+
+abbrev pub ends_short : Option Ending → Bool
+ends_short None = false
+ends_short (Some ending) = is_short_end ending.end
+
+abbrev pub short_by : Config → ℕ → Option Holder → Option Current → Bool
+short_by conf at None current = false
+short_by conf at (Some holder) None = false
+short_by conf at (Some holder) (Some call) = ends_short (ending conf at holder call)
+
+abbrev pub is_short_now : Config → ℕ → Bool
+is_short_now conf at = short_by conf at conf.turn (conf.cpu at).current

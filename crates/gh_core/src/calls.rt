@@ -1,16 +1,36 @@
 //! Which events are shown to keep sound calls: finished calls and looks that are legal so far. The
-//! functions do nothing; their clauses are laws. Of looks, of entries and of ends behind an act nothing
-//! is said yet.
+//! functions do nothing; their clauses are laws. Of ends behind an act nothing is said
+//! yet.
 
-ghost use Rattle.std.specs.Prelude.{ℕ, true, false};
+ghost use Rattle.std.specs.Prelude.{ℕ, List, true, false};
+ghost use Rattle.gh_base.specs.declared.cap_word.CapWord.{CapWord};
+ghost use Rattle.gh_base.specs.declared.frame.Frame.{Frame};
 ghost use Rattle.gh_base.specs.declared.ids.CpuNo.{CpuNo};
 ghost use Rattle.gh_base.specs.declared.ids.ObjIndex.{ObjIndex};
-ghost use Rattle.gh_core.specs.Calls.{HasCalls};
+ghost use Rattle.gh_core.specs.Calls.{BeginsAtBoot, HasCalls};
 ghost use Rattle.gh_core.specs.Config.{Config};
 ghost use Rattle.gh_core.specs.Events.{Possible, after};
+ghost use Rattle.gh_core.specs.Grace.{HasGrace};
 ghost use Rattle.gh_core.specs.References.{HasReferences};
+ghost use Rattle.gh_core.specs.Replayed.{HasState};
+ghost use Rattle.gh_core.specs.Start.{MayGive, given, start};
 ghost use Rattle.gh_core.specs.ValidState.{HasValid};
-ghost use Rattle.gh_core.specs.declared.event.Event.TheVariants.{Enter, Free, Kill, Leave, Pin, Revive, Scan, Take, Undo, Unpin};
+ghost use Rattle.gh_core.specs.Words.{HasRoom, ShowsWords};
+ghost use Rattle.gh_core.specs.declared.event.Event.TheVariants.{Commit, Enter, Free, Join, Kill, Leave, Look, Pin, Revive, Scan, SetCap, Split, Take, Undo, Unpin};
+ghost use Rattle.gh_model.specs.Boot.{boot_state};
+ghost use Rattle.gh_model.specs.declared.boot_line.BootLine.{BootLine};
+ghost use Rattle.gh_model.specs.declared.entry.Entry.{Entry};
+
+/// Of each boot file, the calls are sound before any event.
+pub fn start_has_calls()
+    ensures { (lines : List BootLine) (index : ℕ → ℕ) → HasCalls (start (boot_state lines) index) }
+{}
+
+/// A call that a CPU is given keeps them sound, and so does one whose frame is refused at once.
+pub fn given_call_keeps_calls()
+    ensures { (conf : Config) (at number : ℕ) (frame : Frame) → HasCalls conf
+        → MayGive conf at number → HasCalls (given conf at number frame) }
+{}
 
 /// A call that enters its section keeps sound calls.
 pub fn enter_keeps_calls()
@@ -22,6 +42,14 @@ pub fn enter_keeps_calls()
 pub fn undo_keeps_calls()
     ensures { (conf : Config) (cpu : CpuNo) (object : ObjIndex) → HasCalls conf
         → Possible conf (Undo cpu object) → HasCalls (after conf (Undo cpu object)) }
+{}
+
+/// So does a look, where the words are those of the present state and the number of each entry fits
+/// into a word: it finds what the slot holds, and has held since its setting.
+pub fn look_keeps_calls()
+    ensures { (conf : Config) (cpu : CpuNo) (slot : ℕ) → HasCalls conf → HasValid conf
+        → ShowsWords conf → HasRoom conf → BeginsAtBoot conf → Possible conf (Look cpu slot)
+        → HasCalls (after conf (Look cpu slot)) }
 {}
 
 /// So does a pin of a call, where the references are sound and the present state is valid: on a dead
@@ -68,4 +96,29 @@ pub fn words_keep_calls()
         → Possible conf (Scan cpu of_cpu) → HasCalls (after conf (Scan cpu of_cpu)) }
     ensures revive { (conf : Config) (cpu : CpuNo) (object : ObjIndex) (count : ℕ) → HasCalls conf
         → Possible conf (Revive cpu object count) → HasCalls (after conf (Revive cpu object count)) }
+{}
+
+/// So does an entry that sets no slot, where references and grace are sound, the present state is
+/// valid and objects live where they should: an act's entry ends the holder's call, a part waits for
+/// the next entry, and an object that a dead call was granted stays killed or is retired.
+pub fn commit_keeps_calls()
+    ensures { (conf : Config) (cpu : CpuNo) (entry : Entry) → HasCalls conf → HasReferences conf
+        → HasGrace conf → HasState conf → HasValid conf → Possible conf (Commit cpu entry)
+        → HasCalls (after conf (Commit cpu entry)) }
+{}
+
+/// So does an entry that sets one, be it the master capability of an object that it makes.
+pub fn set_cap_keeps_calls()
+    ensures { (conf : Config) (cpu : CpuNo) (entry : Entry) (space : ObjIndex) (slot : ℕ)
+        (word : CapWord) → HasCalls conf → HasReferences conf → HasGrace conf → HasState conf
+        → HasValid conf → Possible conf (SetCap cpu entry space slot word)
+        → HasCalls (after conf (SetCap cpu entry space slot word)) }
+{}
+
+/// And a seat that is given back or made.
+pub fn seats_keep_calls()
+    ensures join { (conf : Config) (cpu : CpuNo) → HasCalls conf → Possible conf (Join cpu)
+        → HasCalls (after conf (Join cpu)) }
+    ensures split { (conf : Config) (cpu : CpuNo) → HasCalls conf → Possible conf (Split cpu)
+        → HasCalls (after conf (Split cpu)) }
 {}

@@ -9,11 +9,12 @@ mod grace;
 mod references;
 mod start;
 mod validity;
+mod words;
 
 pub use bounds::{events_keep_bounded, objects_are_bounded, start_is_bounded};
 pub use calls::{
-    enter_keeps_calls, leave_keeps_calls, pin_keeps_calls, quit_keeps_calls, take_keeps_calls,
-    undo_keeps_calls, unpin_keeps_calls, words_keep_calls,
+    enter_keeps_calls, leave_keeps_calls, look_keeps_calls, pin_keeps_calls, quit_keeps_calls,
+    take_keeps_calls, undo_keeps_calls, unpin_keeps_calls, words_keep_calls,
 };
 pub use entries::{
     boot_file_has_references, commit_keeps_references, events_keep_state, set_cap_keeps_references,
@@ -36,3 +37,4 @@ pub use references::{
 };
 pub use start::start_has_references;
 pub use validity::{events_keep_validity, given_call_keeps_validity, start_is_valid};
+pub use words::{commit_keeps_words, events_keep_words, start_shows_words};

@@ -47,7 +47,7 @@ either_counts : (n : ℕ) (allowed : Bool) (new old : State) → new.entries ≡
 either_counts n true new old is was = is
 either_counts n false new old is was = was
 
-entry_counts : (s : State) (event : Event) (entry : Entry)
+pub entry_counts : (s : State) (event : Event) (entry : Entry)
     → (after_entry s event entry).entries ≡ s.entries + 1
 entry_counts s event (Acted cpu number) =
     either_counts (s.entries + 1) (may_act s cpu.0 event.call event.words)
