@@ -5,9 +5,9 @@ use Rattle.std.specs.Prelude.{◌&&◌, ◌==◌, option_map}
 use Rattle.std.specs.List.{list_all}
 use Rattle.std.proofs.lemmas.Bool.{and_parts, eqb-true}
 use Rattle.std.proofs.lemmas.Bool.Decides.{nat_tests}
-use Rattle.gh_model.specs.Act.{counted, grants_of}
+use Rattle.gh_model.specs.Act.{counted}
 use Rattle.gh_model.specs.Changes.{changed, changed_all, with_cost, with_counters, with_stage, without}
-use Rattle.gh_model.specs.Decide.{has_moved, verdict}
+use Rattle.gh_model.specs.Decide.{verdict}
 use Rattle.gh_model.specs.History.{Event, after_entry, after_event, after_verdict, is_retired, is_unretired, may_act, may_part, numbered}
 use Rattle.gh_model.specs.References.{is_doomed}
 use Rattle.gh_model.specs.Rows.{change_row, fills, is_object, object_row}
@@ -25,8 +25,9 @@ use Rattle.gh_invariant.specs.Events.{entry_changes, judged_by, made_by}
 use Rattle.gh_invariant.specs.Lives.{lives}
 use Rattle.gh_invariant.proofs.ChangedRow.{find_change_seen, find_past_change}
 use Rattle.gh_invariant.proofs.Counting.{find_push_found, find_push_new, find_push_other}
+use Rattle.gh_invariant.proofs.EventWords.{judged_sets}
 use Rattle.gh_invariant.proofs.RowsLeft.{find_gone, find_left}
-use Rattle.gh_invariant.proofs.SetsOne.{MakesOne, decision_sets, keeps_objects}
+use Rattle.gh_invariant.proofs.SetsOne.{MakesOne, keeps_objects}
 
 -- the counters of an object's retirement
 abbrev pub counters_of : ObjectRow → Option (List ℕ)
@@ -96,6 +97,13 @@ change_life s (change.DropMessage queue) serial keeps = refl
 change_life s (change.EmptyQueue queue) serial keeps = refl
 change_life s (change.Exit cpu) serial keeps = refl
 change_life s change.Ring serial keeps = refl
+change_life s (change.SetPages count) serial keeps = refl
+change_life s (change.AddPartition quota) serial keeps = absurd (let never : ⊥ = cc in never)
+change_life s (change.AddRoot row) serial keeps = refl
+change_life s (change.SetRoom queue depth size) serial keeps = refl
+change_life s (change.FillSlot row) serial keeps = refl
+change_life s (change.AddCpu row) serial keeps = refl
+change_life s (change.AddLink row) serial keeps = refl
 
 changes_life : (s : State) (changes : List Change) (serial : ℕ)
     → IsTrue (list_all keeps_objects changes)
@@ -217,7 +225,7 @@ entry_goes : (s : State) (event : Event) (entry : Entry) (serial : ℕ)
     → Goes s (after_entry s event entry) event entry serial
 entry_goes s event (Acted cpu number) serial =
     acted_goes s (may_act s cpu.0 event.call event.words) (judged_by s cpu.0 event) serial
-    (decision_sets s (has_moved s cpu.0 event.call event.words) cpu.0 event.call event.bytes (grants_of event.call event.words)).makes
+    (judged_sets s cpu.0 event).makes
 entry_goes s event (Part cpu number space slot) serial =
     inl (parted_goes s _ (may_part (find (fills space.0 slot) s.caps)) serial refl)
 entry_goes s event (Retired retired seen) serial =

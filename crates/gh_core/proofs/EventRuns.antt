@@ -4,9 +4,9 @@ use Rattle.std.specs.Prelude.{◌&&◌}
 use Rattle.std.specs.List.{list_all}
 use Rattle.std.proofs.lemmas.Bool.{and_parts}
 use Rattle.std.proofs.lemmas.Bool.Decides.{nat_tests}
-use Rattle.gh_model.specs.Act.{counted, grants_of}
+use Rattle.gh_model.specs.Act.{counted}
 use Rattle.gh_model.specs.Changes.{as_exited, changed, changed_all}
-use Rattle.gh_model.specs.Decide.{has_moved, verdict}
+use Rattle.gh_model.specs.Decide.{verdict}
 use Rattle.gh_model.specs.History.{Event, after_entry, after_verdict, is_retired, is_unretired, may_act, may_part, numbered}
 use Rattle.gh_model.specs.References.{is_doomed}
 use Rattle.gh_model.specs.Rows.{cpu_row, fills, is_cpu, object_row}
@@ -20,7 +20,8 @@ use Rattle.gh_model.specs.declared.rows.CpuRow.{CpuRow}
 use Rattle.gh_model.specs.declared.state.State.{State}
 use Rattle.gh_invariant.specs.Events.{judged_by, made_by}
 use Rattle.gh_invariant.proofs.ChangedRow.{find_past_change}
-use Rattle.gh_invariant.proofs.SetsOne.{decision_sets, exit_fits, may_exit}
+use Rattle.gh_invariant.proofs.EventWords.{judged_sets}
+use Rattle.gh_invariant.proofs.SetsOne.{exit_fits, may_exit}
 
 -- the CPU's row is as it was
 abbrev RowStays : State → State → ℕ → Type 0
@@ -61,6 +62,13 @@ module _ (cpu n : ℕ) (may : Bool) (other_cpu : (may && (cpu == n)) ≡ false) 
   change_stays s (change.DropMessage queue) fits = refl
   change_stays s (change.EmptyQueue queue) fits = refl
   change_stays s change.Ring fits = refl
+  change_stays s (change.SetPages count) fits = refl
+  change_stays s (change.AddPartition quota) fits = refl
+  change_stays s (change.AddRoot row) fits = refl
+  change_stays s (change.SetRoom queue depth size) fits = refl
+  change_stays s (change.FillSlot row) fits = refl
+  change_stays s (change.AddCpu row) fits = absurd (let never : ⊥ = cc in never)
+  change_stays s (change.AddLink row) fits = refl
 
   changes_stay : (s : State) (changes : List Change)
       → IsTrue (list_all (exit_fits cpu may) changes) → RowStays s (changed_all s changes) n
@@ -93,7 +101,7 @@ pub entry_stays : (s : State) (event : Event) (entry : Entry) (n : ℕ)
     → exits_by event entry n ≡ false → cpu_row (after_entry s event entry) n ≡ cpu_row s n
 entry_stays s event (Acted cpu number) n other =
     acted_stays cpu.0 n (may_exit event.call) other s (may_act s cpu.0 event.call event.words) (judged_by s cpu.0 event)
-    (decision_sets s (has_moved s cpu.0 event.call event.words) cpu.0 event.call event.bytes (grants_of event.call event.words)).exits
+    (judged_sets s cpu.0 event).exits
 entry_stays s event (Part cpu number space slot) n other =
     either_stays s _ n (may_part (find (fills space.0 slot) s.caps)) refl
 entry_stays s event (Retired serial seen) n other =

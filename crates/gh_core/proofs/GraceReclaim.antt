@@ -8,7 +8,8 @@ use Rattle.std.proofs.lemmas.List.Sums.{fold-append}
 use Rattle.std.proofs.lemmas.Option.{slice_get-get_or}
 use Rattle.gh_base.specs.declared.ids.Serial.{Serial}
 use Rattle.gh_base.specs.declared.limits.TheConstants.{CPUS}
-use Rattle.gh_invariant.proofs.ChangedRow.{find_change, find_past_change}
+use Rattle.gh_model.proofs.ChangedRows.{find_changed}
+use Rattle.gh_invariant.proofs.ChangedRow.{find_past_change}
 use Rattle.gh_invariant.proofs.RowsLeft.{find_gone, find_left}
 use Rattle.gh_model.specs.Act.{counted}
 use Rattle.gh_model.specs.Changes.{reclaim_object, retire_object, with_counters, without}
@@ -82,7 +83,7 @@ retire_row : (s : State) (serial : Serial) (seen : List ℕ) (x : ℕ)
     → RowBehind s (counted (retire_object serial seen s)) serial.0 (option_map (with_counters seen)) x
 retire_row s serial seen x =
     elim (eqb_tells x serial.0) as (λ _. RowBehind s (counted (retire_object serial seen s)) serial.0 (option_map (with_counters seen)) x) [
-      | inl same ↦ Changed same.1 (subst (λ (n : ℕ). find (is_object n) (change_row (is_object serial.0) (with_counters seen) s.objects) ≡ option_map (with_counters seen) (find (is_object n) s.objects)) (sym same.1) (find_change (is_object serial.0) (with_counters seen) s.objects (λ row. refl)))
+      | inl same ↦ Changed same.1 (subst (λ (n : ℕ). find (is_object n) (change_row (is_object serial.0) (with_counters seen) s.objects) ≡ option_map (with_counters seen) (find (is_object n) s.objects)) (sym same.1) (find_changed (is_object serial.0) (with_counters seen) s.objects (λ row. refl)))
       | inr differs ↦ Kept (find_past_change (is_object x) (is_object serial.0) (with_counters seen) s.objects (λ row here. apart_rows row.serial.0 serial.0 x differs.0 here) (λ row here. apart_rows row.serial.0 serial.0 x differs.0 here))
     ]
 

@@ -18,7 +18,7 @@ use Rattle.gh_invariant.specs.Events.{EventFits, changes_of}
 use Rattle.gh_invariant.specs.Premises.{MayChange, MayChangeAll}
 use Rattle.gh_invariant.specs.Valid.{IsValid}
 use Rattle.gh_invariant.proofs.CapabilityMade.{word_found}
-use Rattle.gh_invariant.proofs.Counting.{count_cons, one_true}
+use Rattle.gh_invariant.proofs.Counting.{count_cons, find_push_new, one_true}
 use Rattle.gh_invariant.proofs.EventWords.{event_may, event_sets_few}
 use Rattle.gh_invariant.proofs.FactLemmas.{entry_word}
 use Rattle.gh_invariant.proofs.RowsLeft.{find_gone}
@@ -65,6 +65,15 @@ module _ (cspace slot : ℕ) where
       let same : cap ≡ row = cc in
       let valid : row.valid ≡ true = sym (ap (λ (one : CapabilityRow). one.valid) same) ∙ may.valid in
       absurd (let never : ⊥ = cc in never)
+  touched s (change.FillSlot cap) row revoked may left is =
+      let here = not_false (fills cspace slot cap) left in
+      let parts = and_parts (cap.cspace.0 == cspace) (cap.slot == slot) here in
+      let there : find (fills cspace cap.slot) s.caps ≡ None = subst (λ (c : ℕ). find (fills c cap.slot) s.caps ≡ None) (eqb-true cap.cspace.0 cspace parts.0) may.free in
+      let free : find (fills cspace slot) s.caps ≡ None = subst (λ (m : ℕ). find (fills cspace m) s.caps ≡ None) (eqb-true cap.slot slot parts.1) there in
+      let both : Some cap ≡ Some row = sym (find_push_new (fills cspace slot) s.caps cap free here) ∙ is in
+      let same : cap ≡ row = cc in
+      let valid : row.valid ≡ true = sym (ap (λ (one : CapabilityRow). one.valid) same) ∙ may.valid in
+      absurd (let never : ⊥ = cc in never)
   touched s (change.DropCapability home n) row revoked may left is =
       let set : SlotSet s (changed s (change.DropCapability home n)) cspace slot None = slot_set s (change.DropCapability home n) cspace slot may (not_false (sets_slot cspace slot (change.DropCapability home n)) left) in
       let both : None ≡ Some row = sym set.capability ∙ is in
@@ -89,6 +98,7 @@ module _ (cspace slot : ℕ) where
   left_not : (one : Change) → keeps_spaces one ≡ true → sets_slot cspace slot one ≡ true
       → leaves cspace slot one ≡ false
   left_not (change.Reclaim object) keeps set = absurd (let never : ⊥ = cc in never)
+  left_not (change.FillSlot row) keeps set = absurd (let never : ⊥ = cc in never)
   left_not _ keeps set = ap not set
 
   some_set : (place : Option (ℕ × ℕ)) → is_place cspace slot place ≡ true → is_some place ≡ true

@@ -2,10 +2,9 @@
 use Rattle.std.proofs.Common.{◌≡◌, ◌+◌, ◌≤◌, ◌∙◌, ◌⊎◌, inl, inr, ℕ, Bool, true, false, not, List, [], ◌∷◌, refl, subst, sym, ap, arith, IsTrue, Option, Some, None, find, is_some, if◌then◌else◌}
 use Rattle.std.specs.Prelude.{◌&&◌, ◌||◌, ◌==◌}
 use Rattle.std.specs.List.{list_all, list_any}
-use Rattle.std.proofs.lemmas.Bool.{and_from, eqb-true, or_parts}
-use Rattle.gh_model.specs.Act.{counted, grants_of}
+use Rattle.std.proofs.lemmas.Bool.{and_from, and_parts, eqb-true, or_parts}
+use Rattle.gh_model.specs.Act.{counted}
 use Rattle.gh_model.specs.Changes.{changed, without}
-use Rattle.gh_model.specs.Decide.{has_moved}
 use Rattle.gh_model.specs.History.{Event, after_entry, is_retired, is_unretired, may_act, may_part, numbered}
 use Rattle.gh_model.specs.QueueCalls.{one_if}
 use Rattle.gh_model.specs.References.{is_doomed}
@@ -19,23 +18,37 @@ use Rattle.gh_model.specs.declared.state.State.{State}
 use Rattle.gh_invariant.specs.Effects.{is_place, leaves, sets, sets_slot, sets_some, slots_set}
 use Rattle.gh_invariant.specs.Events.{entry_changes, judged_by, made_by}
 use Rattle.gh_invariant.specs.Lives.{lives}
-use Rattle.gh_invariant.proofs.Counting.{all_by, count_cons, one_true}
+use Rattle.gh_invariant.proofs.Counting.{count_cons, one_true}
+use Rattle.gh_invariant.proofs.EventWords.{judged_sets}
 use Rattle.gh_invariant.proofs.RowsLeft.{find_gone}
-use Rattle.gh_invariant.proofs.SetsOne.{MakesOne, decision_sets, keeps_objects}
+use Rattle.gh_invariant.proofs.SetsOne.{MakesOne, is_of_calls, keeps_objects}
 use Rattle.gh_core.specs.Entries.{or_else, slot_set}
 
--- the change reclaims nothing
+-- the change reclaims nothing, and fills no slot without a setting
 abbrev pub keeps_spaces : Change → Bool
 keeps_spaces (change.Reclaim object) = false
+keeps_spaces (change.FillSlot row) = false
 keeps_spaces _ = true
 
-keeps_by : (one : Change) → IsTrue (keeps_objects one) → IsTrue (keeps_spaces one)
-keeps_by (change.Reclaim object) keeps = absurd (let never : ⊥ = cc in never)
-keeps_by _ keeps = refl
+keeps_by : (one : Change) → IsTrue (keeps_objects one) → IsTrue (is_of_calls one)
+    → IsTrue (keeps_spaces one)
+keeps_by (change.Reclaim object) keeps calls = absurd (let never : ⊥ = cc in never)
+keeps_by (change.FillSlot row) keeps calls = absurd (let never : ⊥ = cc in never)
+keeps_by _ keeps calls = refl
+
+called_keep : (changes : List Change) → IsTrue (list_all keeps_objects changes)
+    → IsTrue (list_all is_of_calls changes) → IsTrue (list_all keeps_spaces changes)
+called_keep [] keep calls = refl
+called_keep (one ∷ others) keep calls =
+    let kept = and_parts (keeps_objects one) (list_all keeps_objects others) keep in
+    let called = and_parts (is_of_calls one) (list_all is_of_calls others) calls in
+    and_from (keeps_spaces one) (list_all keeps_spaces others) (keeps_by one kept.0 called.0)
+    (called_keep others kept.1 called.1)
 
 pub left_one : (cspace slot : ℕ) (one : Change) → keeps_spaces one ≡ true
     → sets_slot cspace slot one ≡ false → leaves cspace slot one ≡ true
 left_one cspace slot (change.Reclaim object) keeps unset = absurd (let never : ⊥ = cc in never)
+left_one cspace slot (change.FillSlot row) keeps unset = absurd (let never : ⊥ = cc in never)
 left_one cspace slot _ keeps unset = ap not unset
 
 pub left_all : (cspace slot : ℕ) (changes : List Change) → IsTrue (list_all keeps_spaces changes)
@@ -54,9 +67,15 @@ left_all cspace slot (one ∷ others) keep unset =
 -- an act reclaims nothing
 makes_keep : (s : State) (changes : List Change)
     → IsTrue (list_all keeps_objects changes) ⊎ MakesOne s changes
-    → IsTrue (list_all keeps_spaces changes)
-makes_keep s changes (inl keep) = all_by keeps_objects keeps_spaces changes keeps_by keep
-makes_keep s changes (inr one) = rw one.is refl
+    → IsTrue (list_all is_of_calls changes) → IsTrue (list_all keeps_spaces changes)
+makes_keep s changes (inl keep) calls = called_keep changes keep calls
+makes_keep s changes (inr one) calls = rw one.is refl
+
+judged_keep : (s : State) (cpu : ℕ) (event : Event)
+    → IsTrue (list_all keeps_spaces (made_by (judged_by s cpu event)))
+judged_keep s cpu event =
+    makes_keep s (made_by (judged_by s cpu event)) (judged_sets s cpu event).makes
+    (judged_sets s cpu event).calls
 
 if_keep : (allowed : Bool) (changes : List Change) → IsTrue (list_all keeps_spaces changes)
     → IsTrue (list_all keeps_spaces (if allowed then changes else []))
@@ -95,8 +114,7 @@ pub entry_left : (s : State) (event : Event) (entry : Entry) (cspace slot : ℕ)
     → IsTrue (list_all (leaves cspace slot) (entry_changes s event entry))
 entry_left s event (Acted cpu number) cspace slot unset alive =
     left_all cspace slot (entry_changes s event (Acted cpu number))
-    (if_keep (may_act s cpu.0 event.call event.words) (made_by (judged_by s cpu.0 event)) (makes_keep s (made_by (judged_by s cpu.0 event))
-    (decision_sets s (has_moved s cpu.0 event.call event.words) cpu.0 event.call event.bytes (grants_of event.call event.words)).makes)) unset
+    (if_keep (may_act s cpu.0 event.call event.words) (made_by (judged_by s cpu.0 event)) (judged_keep s cpu.0 event)) unset
 entry_left s event (Part cpu number space n) cspace slot unset alive =
     left_all cspace slot (entry_changes s event (Part cpu number space n))
     (if_keep (may_part (find (fills space.0 n) s.caps)) (change.RevokeCapability space n ∷ []) refl) unset
@@ -138,8 +156,7 @@ pub setting_keeps : (s : State) (event : Event) (entry : Entry) (cspace slot : �
     → list_any (sets_slot cspace slot) (entry_changes s event entry) ≡ true
     → IsTrue (list_all keeps_spaces (entry_changes s event entry))
 setting_keeps s event (Acted cpu number) cspace slot set =
-    if_keep (may_act s cpu.0 event.call event.words) (made_by (judged_by s cpu.0 event)) (makes_keep s (made_by (judged_by s cpu.0 event))
-    (decision_sets s (has_moved s cpu.0 event.call event.words) cpu.0 event.call event.bytes (grants_of event.call event.words)).makes)
+    if_keep (may_act s cpu.0 event.call event.words) (made_by (judged_by s cpu.0 event)) (judged_keep s cpu.0 event)
 setting_keeps s event (Part cpu number space n) cspace slot set =
     if_keep (may_part (find (fills space.0 n) s.caps)) (change.RevokeCapability space n ∷ []) refl
 setting_keeps s event (Retired serial seen) cspace slot set =

@@ -1,5 +1,5 @@
 -- The configuration before any event shows the words of the boot.
-use Rattle.std.proofs.Common.{◌≡◌, ◌+◌, ◌*◌, ◌<◌, ◌∙◌, ℕ, Bool, true, false, List, [], ◌∷◌, refl, ap, arith, IsTrue, Option, Some, None, fold, find, is_some}
+use Rattle.std.proofs.Common.{◌≡◌, ◌<◌, ◌∙◌, ℕ, Bool, true, false, List, [], ◌∷◌, ◌++◌, refl, ap, arith, IsTrue, Option, Some, None, fold, find, is_some}
 use Rattle.std.specs.List.{list_all}
 use Rattle.std.specs.Option.{option_map_or}
 use Rattle.gh_base.specs.CapWord.{settings}
@@ -11,7 +11,7 @@ use Rattle.gh_invariant.proofs.BootValid.{boot_valid}
 use Rattle.gh_invariant.proofs.CapabilityMade.{word_found}
 use Rattle.gh_invariant.proofs.Counting.{all_push, found_all, unfound}
 use Rattle.gh_invariant.proofs.FactLemmas.{names_living, spaces_live}
-use Rattle.gh_model.specs.Boot.{after_line, boot_fits, boot_state, empty_state, manager_cspace, with_capability}
+use Rattle.gh_model.specs.Boot.{after_line, boot_fits, boot_state, empty_state}
 use Rattle.gh_model.specs.Rows.{cpu_row, fills, is_object}
 use Rattle.gh_model.specs.Word.{word_at}
 use Rattle.gh_model.specs.declared.boot_line.BootLine.{BootLine}
@@ -38,11 +38,6 @@ record IsUnused (s : State) : Type 0 where
   good : IsTrue (list_all is_good s.caps)
   none : s.entries ≡ 0
 
-with_good : (s : State) (cspace slot object rights : ℕ) (master : Bool)
-    → IsTrue (list_all is_good s.caps)
-    → IsTrue (list_all is_good (with_capability s cspace slot object rights master).caps)
-with_good s cspace slot object rights master good = all_push is_good s.caps _ good refl
-
 line_unused : (s : State) (line : BootLine) → IsUnused s → IsUnused (after_line s line)
 line_unused s (Pages count) unused = record { good = unused.good; none = unused.none }
 line_unused s (Partition quota) unused = record { good = unused.good; none = unused.none }
@@ -63,8 +58,7 @@ line_unused s (Rm cspace space partition) unused =
     record { good = all_push is_good s.caps _ unused.good refl; none = unused.none }
 line_unused s (Link vm extent request reply) unused =
     record {
-      good = with_good (with_capability s (manager_cspace s) (2 * vm.0) request.0 2 false) (manager_cspace s) (2 * vm.0 + 1) reply.0 1 false
-          (with_good s (manager_cspace s) (2 * vm.0) request.0 2 false unused.good);
+      good = all_push is_good (s.caps ++ _ ∷ []) _ (all_push is_good s.caps _ unused.good refl) refl;
       none = unused.none;
     }
 

@@ -3,7 +3,7 @@ use Rattle.std.proofs.Common.{◌≡◌, ◌==◌, ◌<◌, ◌≤◌, ℕ, Bool
 use Rattle.std.proofs.lemmas.Bool.Decides.{nat_tests}
 use Rattle.gh_invariant.specs.Lives.{lives}
 use Rattle.gh_invariant.specs.Valid.{IsValid}
-use Rattle.gh_invariant.proofs.BootValid.{boot_fresh, boot_valid}
+use Rattle.gh_invariant.proofs.BootValid.{boot_unretired, boot_valid}
 use Rattle.gh_invariant.proofs.Counting.{unfound}
 use Rattle.gh_invariant.proofs.MayMake.{below_by}
 use Rattle.gh_model.specs.Boot.{boot_fits, boot_state}
@@ -45,7 +45,7 @@ start_keeps_state lines index fits indices = record {
 pub file_sound : (lines : List BootLine) (index : ℕ → ℕ) → IsTrue (boot_fits lines)
     → AreIndices (boot_state lines) index → HasReferences (start (boot_state lines) index)
 file_sound lines index fits indices =
-    start_sound (boot_state lines) index indices (λ row is. sym (ap is_retired is) ∙ boot_fresh lines row.serial.0 fits)
+    start_sound (boot_state lines) index indices (λ row is. sym (ap is_retired is) ∙ boot_unretired lines row.serial.0 fits)
 
 -- events that leave the history and the indices
 

@@ -2,10 +2,9 @@
 use Rattle.std.proofs.Common.{◌≡◌, ◌==◌, ◌+◌, ◌-◌, ◌<◌, ◌≤◌}
 use Rattle.std.proofs.Common.{◌^◌, ◌∙◌, ℕ, zero, suc, Bool, true, false, List, []}
 use Rattle.std.proofs.Common.{◌∷◌, ◌++◌, length, refl, subst, sym, ap, arith, Option}
-use Rattle.std.proofs.Common.{Some, None, Result, Ok, Err, get_or, slice_get, slice_set, take}
-use Rattle.std.proofs.Common.{drop, All, if◌then◌else◌, length-append, length-set}
+use Rattle.std.proofs.Common.{Some, None, Result, Ok, Err, get_or, slice_get, slice_set}
+use Rattle.std.proofs.Common.{All, if◌then◌else◌, length-append, length-set}
 use Rattle.std.specs.List.{list_all, refill}
-use Rattle.std.proofs.Math.Seq.{take-append_seam}
 use Rattle.std.proofs.lemmas.List.Elements.{All-get_or, All-set, All-weaker}
 use Rattle.std.proofs.lemmas.Option.{get_or_from_slice_get, slice_get-get_or, slice_get_within}
 use Rattle.gh_base.specs.declared.frame.Reply.{Reply}
@@ -21,6 +20,7 @@ use Rattle.gh_model.specs.Calls.{Called, call_with, next_call, turn, turn_of}
 use Rattle.gh_model.specs.Calls.{turns, round, rounds, has_ended, with_call}
 use Rattle.gh_model.specs.Calls.{seat_after, seat_behind, after_mark, entries_of}
 use Rattle.gh_model.proofs.CallsLemmas.{call_entries, turns_step, rounds_none, rounds_step}
+use Rattle.gh_model.proofs.RowLemmas.{refilled_set}
 use Rattle.gh_model.proofs.Tests.{and-first, and-second}
 use Rattle.gh_driver.specs.Pace.{IsReady, IsPaced, IsBounded}
 
@@ -177,11 +177,6 @@ module _ {P : Type 0} (answer : P → Option Reply → Step) (after : P → Opti
   pub turn_seats : (w new : Running P) (at : ℕ) → new ≡ turn answer after w at → length new.seats ≡ length w.seats
   turn_seats w new at is = ap (λ (v : Running P). length v.seats) is ∙ turn_seats_of w at (slice_get w.seats at)
 
--- a list that is written through a borrow of all of it is what was written
-pub refilled : {X : Type 0} (xs ws : List X) → length ws ≡ length xs → refill (length xs) xs ws ≡ ws
-refilled xs ws same =
-    subst (λ (n : ℕ). take n (ws ++ drop (length ws) xs) ≡ ws) same (take-append_seam ws (drop (length ws) xs))
-
 put_back : {X : Type 0} (xs : List X) (at : ℕ) (x : X) → slice_get xs at ≡ Some x → slice_set xs at x ≡ xs
 put_back [] at x is = refl
 put_back (y ∷ xs) zero x is = let same : x ≡ y = cc in ap (λ z. z ∷ xs) same
@@ -196,9 +191,7 @@ module _ {P : Type 0} (answer : P → Option Reply → Step) (after : P → Opti
   there = item_there w.seats view at d same within
 
   seats_are : (moved : Seat P) → refill (length w.seats) w.seats (slice_set view at moved) ≡ slice_set w.seats at moved
-  seats_are moved =
-      ap (λ (v : List (Seat P)). refill (length w.seats) w.seats (slice_set v at moved)) same
-      ∙ refilled w.seats (slice_set w.seats at moved) (length-set w.seats at moved)
+  seats_are moved = refilled_set w.seats view at moved same
 
   abbrev run_with : State → List Entry → List Mark → Seat P → Running P
   run_with plain entries marks moved = record {

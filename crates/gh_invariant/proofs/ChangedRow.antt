@@ -6,7 +6,8 @@ use Rattle.std.specs.List.{list_all}
 use Rattle.std.proofs.lemmas.Bool.{cases_Bool, and_parts, and_from}
 use Rattle.gh_model.specs.QueueCalls.{one_if}
 use Rattle.gh_model.specs.Rows.{change_row}
-use Rattle.gh_invariant.proofs.Counting.{count_found, count_cons, find_here, find_later, change_here, change_later}
+use Rattle.gh_model.proofs.ChangedRows.{change_here, change_later}
+use Rattle.gh_invariant.proofs.Counting.{count_found, count_cons, find_here, find_later}
 
 count_change_by : {R : Type 0} (p q : R → Bool) (change : R → R) (row : R) (rows : List R)
     → (q row ≡ true) ⊎ (q row ≡ false)
@@ -56,23 +57,6 @@ count_change_kept p q change rows kept =
     let same : count_found p (option_map change (find q rows)) ≡ count_found p (find q rows) =
     count_found_kept p change (find q rows) kept in
     omega arith
-
-find_change_by : {R : Type 0} (q : R → Bool) (change : R → R) (row : R) (rows : List R)
-    → (q row ≡ true) ⊎ (q row ≡ false) → q (change row) ≡ q row
-    → find q (change_row q change rows) ≡ option_map change (find q rows)
-    → find q (change_row q change (row ∷ rows)) ≡ option_map change (find q (row ∷ rows))
-find_change_by q change row rows (inl here) kept others =
-    ap (find q) (change_here q change row rows here) ∙ find_here q (change row) rows (kept ∙ here) ∙ sym (ap (option_map change) (find_here q row rows here))
-find_change_by q change row rows (inr later) kept others =
-    ap (find q) (change_later q change row rows later) ∙ find_later q row (change_row q change rows) later ∙ others ∙ sym (ap (option_map change) (find_later q row rows later))
-
--- the row that is changed is found changed
-pub find_change : {R : Type 0} (q : R → Bool) (change : R → R) (rows : List R)
-    → ((row : R) → q (change row) ≡ q row)
-    → find q (change_row q change rows) ≡ option_map change (find q rows)
-find_change q change [] kept = refl
-find_change q change (row ∷ rows) kept =
-    find_change_by q change row rows (cases_Bool (q row)) (kept row) (find_change q change rows kept)
 
 find_past_by : {R : Type 0} (p q : R → Bool) (change : R → R) (row : R) (rows : List R)
     → (q row ≡ true) ⊎ (q row ≡ false) → (q row ≡ true → p row ≡ false)

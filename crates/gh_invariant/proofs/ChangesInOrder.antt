@@ -5,8 +5,8 @@ use Rattle.gh_model.specs.Changes.{changed, changed_all}
 use Rattle.gh_model.specs.References.{references}
 use Rattle.gh_model.specs.Units.{used_units, given_units}
 use Rattle.gh_model.specs.declared.change.Change.{Change}
-use Rattle.gh_model.specs.declared.change.Change.TheVariants.{PutCapability, DropCapability, RevokeCapability, AddObject, SetStage, Retire, Reclaim, GiveQuota, AddExtent, MovePages, PutMapping, DropMapping, SetBell, ConfigureQueue, PutMessage, DropMessage, EmptyQueue, Exit, Ring}
 use Rattle.gh_model.specs.declared.state.State.{State}
+use Rattle.gh_model.proofs.RoomLemmas.{change_counts}
 use Rattle.gh_invariant.specs.Effects.{is_that, times, gains, losses, gained, lost, share_for, units_of, takes, returns, takes_all, returns_all}
 use Rattle.gh_invariant.specs.Premises.{MayChangeAll}
 use Rattle.gh_invariant.specs.Valid.{IsValidTo}
@@ -16,36 +16,9 @@ use Rattle.gh_invariant.proofs.UnitsOfChange.{units_moved}
 use Rattle.gh_invariant.proofs.ValidKept.{valid_kept}
 
 -- no change counts an entry
-pub entries_stay : (s : State) (change : Change) → (changed s change).entries ≡ s.entries
-entries_stay s (PutCapability row) = refl
-entries_stay s (DropCapability cspace slot) = refl
-entries_stay s (RevokeCapability cspace slot) = refl
-entries_stay s (AddObject row) = refl
-entries_stay s (SetStage object stage) = refl
-entries_stay s (Retire object seen) = refl
-entries_stay s (Reclaim object) = refl
-entries_stay s (GiveQuota partition quota) = refl
-entries_stay s (AddExtent row) = refl
-entries_stay s (MovePages first count holder) = refl
-entries_stay s (PutMapping row) = refl
-entries_stay s (DropMapping row) = refl
-entries_stay s (SetBell row) = refl
-entries_stay s (ConfigureQueue queue depth size cost) = refl
-entries_stay s (PutMessage queue message) = refl
-entries_stay s (DropMessage queue) = refl
-entries_stay s (EmptyQueue queue) = refl
-entries_stay s (Exit cpu) = refl
-entries_stay s Ring = refl
-
-pub entries_stay_all : (s : State) (changes : List Change)
-    → (changed_all s changes).entries ≡ s.entries
-entries_stay_all s [] = refl
-entries_stay_all s (change ∷ changes) =
-    entries_stay_all (changed s change) changes ∙ entries_stay s change
-
 room_stays : (last : ℕ) (s : State) (change : Change) → s.entries + 1 ≤ last
     → (changed s change).entries + 1 ≤ last
-room_stays last s change room = subst (λ (n : ℕ). n + 1 ≤ last) (sym (entries_stay s change)) room
+room_stays last s change room = subst (λ (n : ℕ). n + 1 ≤ last) (sym (change_counts s change).entries) room
 
 -- a valid state stays so
 pub valid_all : (last : ℕ) (s : State) (changes : List Change) → s.entries + 1 ≤ last

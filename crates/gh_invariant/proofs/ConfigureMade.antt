@@ -26,7 +26,7 @@ use Rattle.gh_invariant.specs.Lives.{cost_fits, is_new, lives_as}
 use Rattle.gh_invariant.specs.Grants.{MayMake}
 use Rattle.gh_invariant.specs.Premises.{MayConfigure, MayGive}
 use Rattle.gh_invariant.specs.Valid.{IsValid}
-use Rattle.gh_invariant.proofs.ChangedRow.{find_change}
+use Rattle.gh_model.proofs.ChangedRows.{find_changed}
 use Rattle.gh_invariant.proofs.Counting.{found_all, found_passes, unfound}
 use Rattle.gh_invariant.proofs.MayMake.{at_most_by, unless}
 use Rattle.gh_invariant.proofs.ObjectsMade.{or_none}
@@ -41,7 +41,7 @@ module _ (s : State) (object : Serial) where
   pub ready_row : (row : ObjectRow) → object_row s object.0 ≡ Some row
       → object_row (ready s object) object.0 ≡ Some (with_stage Ready row)
   ready_row row found =
-      find_change (is_object object.0) (with_stage Ready) s.objects (λ row. refl) ∙ ap (option_map (with_stage Ready)) found
+      find_changed (is_object object.0) (with_stage Ready) s.objects (λ row. refl) ∙ ap (option_map (with_stage Ready)) found
 
   -- the units that partitions have left are as before
   ready_units : (partition : ℕ) → free_units (ready s object) partition ≡ free_units s partition

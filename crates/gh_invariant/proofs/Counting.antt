@@ -1,13 +1,12 @@
--- How many rows of a list pass a test, which one is found, and whether all pass, once a row is added,
--- changed or taken away.
-use Rattle.std.proofs.Common.{◌≡◌, ◌+◌, ◌≤◌, ◌∙◌, ℕ, suc, Bool, true, false, not, List, [], ◌∷◌, ◌++◌, refl, subst, sym, ap, arith, Option, Some, None, IsTrue, find, if◌then◌else◌}
+-- How many rows of a list pass a test, which one is found, and whether all pass, once a row is added
+-- or taken away.
+use Rattle.std.proofs.Common.{◌≡◌, ◌+◌, ◌≤◌, ◌∙◌, ℕ, Bool, true, false, not, List, [], ◌∷◌, ◌++◌, refl, subst, sym, ap, arith, Option, Some, None, IsTrue, find, if◌then◌else◌}
 use Rattle.std.specs.Option.{option_or}
-use Rattle.std.specs.Prelude.{count_by, slice_get}
-use Rattle.std.specs.List.{list_all, position_or_len}
+use Rattle.std.specs.Prelude.{count_by}
+use Rattle.std.specs.List.{list_all}
 use Rattle.std.proofs.lemmas.Bool.{and_parts, and_from}
 use Rattle.std.proofs.lemmas.List.Sums.{sum_by-cons, sum_by-append}
 use Rattle.gh_model.specs.QueueCalls.{one_if}
-use Rattle.gh_model.specs.Rows.{put_row, change_row}
 use Rattle.gh_model.specs.Changes.{without}
 use Rattle.std.proofs.lemmas.List.Folds.{list_all-append}
 use Rattle.gh_model.proofs.CpuRows.{unfound_none}
@@ -53,23 +52,6 @@ count_one p row =
     let all : count_by p (row ∷ []) ≡ one_if (p row) + count_by p [] = count_cons p row [] in
     let none : count_by p [] ≡ 0 = refl in
     omega arith
-
-pub put_later : {R : Type 0} (change : R → R) (row : R) (rows : List R) (at : ℕ) (found : Option R)
-    → put_row change (row ∷ rows) (suc at) found ≡ row ∷ put_row change rows at found
-put_later change row rows at None = refl
-put_later change row rows at (Some old) = refl
-
-module _ {R : Type 0} (p : R → Bool) (change : R → R) (row : R) (rows : List R) where
-  pub change_here : p row ≡ true → change_row p change (row ∷ rows) ≡ change row ∷ rows
-  change_here passes = rw passes refl
-
-  pub change_later : p row ≡ false
-      → change_row p change (row ∷ rows) ≡ row ∷ change_row p change rows
-  change_later fails =
-      let at : position_or_len p (row ∷ rows) ≡ suc (position_or_len p rows) =
-      rw fails (omega arith) in
-      subst (λ (n : ℕ). put_row change (row ∷ rows) n (slice_get (row ∷ rows) n) ≡ row ∷ change_row p change rows) (sym at)
-      (put_later change row rows (position_or_len p rows) (slice_get rows (position_or_len p rows)))
 
 -- rows of two lists count together
 pub count_append : {R : Type 0} (p : R → Bool) (rows others : List R)

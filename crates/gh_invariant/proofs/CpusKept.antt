@@ -1,13 +1,15 @@
 -- Each change that may be made leaves CPUs and links fit.
 use Rattle.std.proofs.Common.{◌∙◌, ◌++◌, ◌∷◌, [], ℕ}
-use Rattle.gh_model.specs.Changes.{changed, with_stage, with_counters, with_cost}
+use Rattle.gh_base.specs.declared.kind.Kind.TheVariants as kind
+use Rattle.gh_model.specs.Changes.{boot_object, changed, with_stage, with_counters, with_cost}
 use Rattle.gh_model.specs.Rows.{change_row, is_object}
 use Rattle.gh_model.specs.declared.change.Change.{Change}
-use Rattle.gh_model.specs.declared.change.Change.TheVariants.{PutCapability, DropCapability, RevokeCapability, AddObject, SetStage, Retire, Reclaim, GiveQuota, AddExtent, MovePages, PutMapping, DropMapping, SetBell, ConfigureQueue, PutMessage, DropMessage, EmptyQueue, Exit, Ring}
+use Rattle.gh_model.specs.declared.change.Change.TheVariants.{PutCapability, DropCapability, RevokeCapability, AddObject, SetStage, Retire, Reclaim, GiveQuota, AddExtent, MovePages, PutMapping, DropMapping, SetBell, ConfigureQueue, PutMessage, DropMessage, EmptyQueue, Exit, Ring, SetPages, AddPartition, AddRoot, SetRoom, FillSlot, AddCpu, AddLink}
 use Rattle.gh_model.specs.declared.rows.ObjectRow.{ObjectRow}
 use Rattle.gh_model.specs.declared.state.State.{State}
 use Rattle.gh_invariant.specs.Premises.{MayChange}
 use Rattle.gh_invariant.specs.Valid.{IsValidTo, CpusFit}
+use Rattle.gh_invariant.proofs.CpusAdded.{attach_keeps_cpus, link_keeps_cpus}
 use Rattle.gh_invariant.proofs.CpusFit.{cpus_live_on, exit_keeps_cpus, reclaim_keeps_cpus}
 use Rattle.gh_invariant.proofs.ObjectsFit.{KeepsPlace, lives_beside, lives_kept}
 use Rattle.gh_invariant.proofs.PartsKept.{stage_keeps, counters_keep, cost_keeps}
@@ -48,3 +50,12 @@ module _ (last : ℕ) (s : State) (valid : IsValidTo last s) where
   cpus_kept (EmptyQueue queue) may = valid.cpus
   cpus_kept (Exit cpu) may = exit_keeps_cpus s.objects s.cpus s.links cpu.0 valid.cpus
   cpus_kept Ring may = valid.cpus
+  cpus_kept (SetPages count) may = valid.cpus
+  cpus_kept (AddPartition quota) may =
+      cpus_live_on s.objects (changed s (AddPartition quota)).objects s.cpus s.links
+      (lives_beside s.objects (boot_object s kind.Partition s.next_serial 1)) valid.cpus
+  cpus_kept (AddRoot row) may = valid.cpus
+  cpus_kept (SetRoom queue depth size) may = valid.cpus
+  cpus_kept (FillSlot row) may = valid.cpus
+  cpus_kept (AddCpu row) may = attach_keeps_cpus s valid.cpus row may
+  cpus_kept (AddLink row) may = link_keeps_cpus s valid.cpus row may

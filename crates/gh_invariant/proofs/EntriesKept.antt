@@ -1,5 +1,6 @@
 -- A state that is valid between two entries is so behind the next one, once that is counted.
 use Rattle.std.proofs.Common.{◌≡◌, ◌+◌, ◌≤◌, ◌&&◌, ℕ, Bool, true, false, List, [], ◌∷◌, ◌++◌, refl, subst, sym, arith, IsTrue, Option, Some, None, find, is_some, if◌then◌else◌}
+use Rattle.std.specs.List.{list_all}
 use Rattle.std.proofs.lemmas.Bool.{and_parts, leb-true, le-leb, eqb-true}
 use Rattle.gh_base.specs.declared.ids.Serial.{Serial}
 use Rattle.gh_model.specs.Act.{counted}
@@ -13,12 +14,13 @@ use Rattle.gh_model.specs.declared.rows.ObjectRow.{ObjectRow}
 use Rattle.gh_model.specs.declared.rows.SetAtRow.{SetAtRow}
 use Rattle.gh_model.specs.declared.rows.TakenSlot.{TakenSlot}
 use Rattle.gh_model.specs.declared.state.State.{State}
+use Rattle.gh_model.proofs.RoomLemmas.{changes_count}
 use Rattle.gh_invariant.specs.Lives.{setting_fits}
-use Rattle.gh_invariant.specs.Valid.{IsValid, IsValidTo, IsValidWithin, SlotsFit}
+use Rattle.gh_invariant.specs.Valid.{IsValid, IsValidTo, IsValidWithin}
 use Rattle.gh_invariant.proofs.Counting.{all_by}
 use Rattle.gh_invariant.proofs.SlotsFit.{SettingParts, setting_parts, setting_from}
 use Rattle.gh_invariant.proofs.ValidKept.{valid_kept}
-use Rattle.gh_invariant.proofs.ChangesInOrder.{valid_all, entries_stay_all}
+use Rattle.gh_invariant.proofs.ChangesInOrder.{valid_all}
 use Rattle.gh_invariant.specs.Premises.{MayChangeAll}
 use Rattle.gh_model.specs.declared.change.Change.{Change}
 
@@ -30,22 +32,19 @@ settings_more last later objects row more fits =
     let within : row.number ≤ last = leb-true row.number last parts.within in
     setting_from later objects row (record { home = parts.home; slot = parts.slot; some = parts.some; within = le-leb row.number later (omega arith) })
 
-pub slots_more : (next last later : ℕ) (objects : List ObjectRow) (caps : List CapabilityRow) (set_at : List SetAtRow)
-    → last ≤ later → SlotsFit next last objects caps set_at
-    → SlotsFit next later objects caps set_at
-slots_more next last later objects caps set_at more fit = record {
-  once = fit.once;
-  masters = fit.masters;
-  filled = fit.filled;
-  set_once = fit.set_once;
-  set = all_by (setting_fits last objects) (setting_fits later objects) set_at (λ row fits. settings_more last later objects row more fits) fit.set;
-}
-
--- a state is valid up to a later entry too
-pub valid_more : (last later : ℕ) (s : State) → last ≤ later → IsValidTo last s → IsValidTo later s
-valid_more last later s more valid = record {
+-- where the settings fit up to another entry, a state is valid up to that
+valid_to : (last other : ℕ) (s : State)
+    → IsTrue (list_all (setting_fits other s.objects) s.set_at) → IsValidTo last s
+    → IsValidTo other s
+valid_to last other s set valid = record {
   objects = valid.objects;
-  slots = slots_more s.next_serial last later s.objects s.caps s.set_at more valid.slots;
+  slots = record {
+    once = valid.slots.once;
+    masters = valid.slots.masters;
+    filled = valid.slots.filled;
+    set_once = valid.slots.set_once;
+    set = set;
+  };
   rows = valid.rows;
   units = valid.units;
   pages = valid.pages;
@@ -55,6 +54,21 @@ valid_more last later s more valid = record {
   retired = valid.retired;
   parcels = valid.parcels;
 }
+
+-- as up to a later one
+pub valid_more : (last later : ℕ) (s : State) → last ≤ later → IsValidTo last s → IsValidTo later s
+valid_more last later s more valid =
+    valid_to last later s
+    (all_by (setting_fits last s.objects) (setting_fits later s.objects) s.set_at
+    (λ row fits. settings_more last later s.objects row more fits) valid.slots.set) valid
+
+-- or up to any, where no slot was set
+pub valid_unset : (last other : ℕ) (s : State) → s.set_at ≡ [] → IsValidTo last s
+    → IsValidTo other s
+valid_unset last other s unset valid =
+    valid_to last other s
+    (subst (λ (rows : List SetAtRow). IsTrue (list_all (setting_fits other s.objects) rows))
+    (sym unset) refl) valid
 
 pub begins : (s : State) → IsValid s → IsValidWithin s
 begins s valid = valid_more s.entries (s.entries + 1) s (omega arith) valid
@@ -129,5 +143,5 @@ module _ (s : State) (valid : IsValid s) where
       → IsValid (counted (changed_all s changes))
   made_valid changes may =
       counted_valid (changed_all s changes)
-      (subst (λ (n : ℕ). IsValidTo (n + 1) (changed_all s changes)) (sym (entries_stay_all s changes))
+      (subst (λ (n : ℕ). IsValidTo (n + 1) (changed_all s changes)) (sym (changes_count s changes).entries)
       (valid_all (s.entries + 1) s changes (omega arith) (begins s valid) may))

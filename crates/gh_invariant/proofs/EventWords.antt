@@ -1,8 +1,9 @@
 -- An event sets one slot at most, and that slot's setting is the event's number.
 use Rattle.std.proofs.Common.{◌≡◌, ◌+◌, ◌≤◌, ◌∙◌, ℕ, Bool, true, false, not, List, [], ◌∷◌, refl, ap, arith, IsTrue, Option, Some, None, find, if◌then◌else◌}
 use Rattle.std.specs.Prelude.{◌&&◌, ◌||◌, is_some}
-use Rattle.std.specs.List.{list_any}
+use Rattle.std.specs.List.{list_all, list_any}
 use Rattle.std.proofs.lemmas.Bool.{and_parts, eqb-true}
+use Rattle.gh_base.specs.declared.ids.Serial.{Serial}
 use Rattle.gh_model.specs.Act.{grants_of}
 use Rattle.gh_model.specs.Changes.{changed, changed_all}
 use Rattle.gh_model.specs.Decide.{has_moved}
@@ -19,17 +20,17 @@ use Rattle.gh_model.specs.declared.entry.Entry.{Entry}
 use Rattle.gh_model.specs.declared.entry.Entry.TheVariants.{Acted, Part, Retired, Reclaimed}
 use Rattle.gh_model.specs.declared.state.State.{State}
 use Rattle.gh_model.specs.declared.word.Word.{Word}
+use Rattle.gh_model.proofs.RoomLemmas.{change_counts}
 use Rattle.gh_invariant.specs.Effects.{is_place, leaves_in, sets, sets_last, sets_slot, sets_some, slots_set}
 use Rattle.gh_invariant.specs.Events.{EntryFits, EventFits, changes_of, entry_changes, judged_by, made_by}
 use Rattle.gh_invariant.specs.Grants.{MayMake}
 use Rattle.gh_invariant.specs.Premises.{MayChangeAll}
 use Rattle.gh_invariant.specs.Valid.{IsValid}
-use Rattle.gh_invariant.proofs.ChangesInOrder.{entries_stay}
 use Rattle.gh_invariant.proofs.Counting.{count_cons, one_false}
 use Rattle.gh_invariant.proofs.DecisionMade.{decision_made}
 use Rattle.gh_invariant.proofs.EntriesKept.{part_filled}
 use Rattle.gh_invariant.proofs.FactLemmas.{entry_word}
-use Rattle.gh_invariant.proofs.SetsOne.{decision_sets}
+use Rattle.gh_invariant.proofs.SetsOne.{SetsOne, decision_sets, is_of_calls, may_exit}
 use Rattle.gh_invariant.proofs.WordsLeft.{slot_set, word_set}
 
 at_most_one : (b : Bool) → one_if b ≤ 1
@@ -81,23 +82,45 @@ set_number s (one ∷ next ∷ changes) cspace slot may last is set =
     let later : IsTrue (list_any (sets_slot cspace slot) (next ∷ changes)) = or_later (sets_slot cspace slot one) _ other set in
     let rest : (word_at (changed_all (changed s one) (next ∷ changes)) cspace slot).set_at ≡ (changed s one).entries + 1 =
     set_number (changed s one) (next ∷ changes) cspace slot may.others both.1 is later in
-    rest ∙ ap (λ (n : ℕ). n + 1) (entries_stay s one)
+    rest ∙ ap (λ (n : ℕ). n + 1) (change_counts s one).entries
 
--- an event's changes set a slot by the last of them at most
-if_last : (allowed : Bool) (changes : List Change) → IsTrue (sets_last changes) → IsTrue (sets_last (if allowed then changes else []))
-if_last true changes last = last
-if_last false changes last = refl
+-- an event's changes set a slot by the last of them at most, and are none of boot lines alone
+if_holds : (test : List Change → Bool) (allowed : Bool) (changes : List Change) → IsTrue (test []) → IsTrue (test changes)
+    → IsTrue (test (if allowed then changes else []))
+if_holds test true changes none holds = holds
+if_holds test false changes none holds = none
+
+-- what holds of the changes of a decision, and of each that the other entries make, holds of an entry's
+entry_holds : (test : List Change → Bool) (s : State) (event : Event) (entry : Entry)
+    → IsTrue (test []) → ((cpu : ℕ) → IsTrue (test (made_by (judged_by s cpu event))))
+    → ((space : Serial) (n : ℕ) → IsTrue (test (change.RevokeCapability space n ∷ [])))
+    → ((serial : Serial) (seen : List ℕ) → IsTrue (test (change.Retire serial seen ∷ [])))
+    → ((serial : Serial) → IsTrue (test (change.Reclaim serial ∷ [])))
+    → IsTrue (test (entry_changes s event entry))
+entry_holds test s event (Acted cpu number) none acted parted retired reclaimed =
+    if_holds test (may_act s cpu.0 event.call event.words) (made_by (judged_by s cpu.0 event)) none (acted cpu.0)
+entry_holds test s event (Part cpu number space n) none acted parted retired reclaimed =
+    if_holds test (may_part (find (fills space.0 n) s.caps)) (change.RevokeCapability space n ∷ []) none (parted space n)
+entry_holds test s event (Retired serial seen) none acted parted retired reclaimed =
+    if_holds test (is_doomed s serial.0 && is_unretired (object_row s serial.0)) (change.Retire serial seen ∷ []) none (retired serial seen)
+entry_holds test s event (Reclaimed serial seen) none acted parted retired reclaimed =
+    if_holds test (is_doomed s serial.0 && is_retired (object_row s serial.0)) (change.Reclaim serial ∷ []) none (reclaimed serial)
+
+-- what a call comes to
+pub judged_sets : (s : State) (cpu : ℕ) (event : Event) → SetsOne s cpu (may_exit event.call) (judged_by s cpu event)
+judged_sets s cpu event =
+    decision_sets s (has_moved s cpu event.call event.words) cpu event.call event.bytes (grants_of event.call event.words)
 
 entry_last : (s : State) (event : Event) (entry : Entry) → IsTrue (sets_last (entry_changes s event entry))
-entry_last s event (Acted cpu number) =
-    if_last (may_act s cpu.0 event.call event.words) (made_by (judged_by s cpu.0 event))
-    (decision_sets s (has_moved s cpu.0 event.call event.words) cpu.0 event.call event.bytes (grants_of event.call event.words)).last
-entry_last s event (Part cpu number space n) =
-    if_last (may_part (find (fills space.0 n) s.caps)) (change.RevokeCapability space n ∷ []) refl
-entry_last s event (Retired serial seen) =
-    if_last (is_doomed s serial.0 && is_unretired (object_row s serial.0)) (change.Retire serial seen ∷ []) refl
-entry_last s event (Reclaimed serial seen) =
-    if_last (is_doomed s serial.0 && is_retired (object_row s serial.0)) (change.Reclaim serial ∷ []) refl
+entry_last s event entry =
+    entry_holds sets_last s event entry refl (λ cpu. (judged_sets s cpu event).last) (λ space n. refl) (λ serial seen. refl) (λ serial. refl)
+
+pub entry_of_calls : (s : State) (event : Event) (entry : Entry) → IsTrue (list_all is_of_calls (entry_changes s event entry))
+entry_of_calls s event entry =
+    entry_holds (list_all is_of_calls) s event entry refl (λ cpu. (judged_sets s cpu event).calls) (λ space n. refl) (λ serial seen. refl) (λ serial. refl)
+
+pub event_of_calls : (s : State) (event : Event) → IsTrue (list_all is_of_calls (changes_of s event))
+event_of_calls s event = entry_of_calls s event event.entry
 
 pub event_sets_few : (s : State) (event : Event) → slots_set (changes_of s event) ≤ 1
 event_sets_few s event = last_few (changes_of s event) (entry_last s event event.entry)

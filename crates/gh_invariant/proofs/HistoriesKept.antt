@@ -14,6 +14,7 @@ use Rattle.gh_model.specs.declared.change.Decision.TheVariants.{Refuse, Unfinish
 use Rattle.gh_model.specs.declared.entry.Entry.{Entry}
 use Rattle.gh_model.specs.declared.entry.Entry.TheVariants.{Acted, Part, Retired, Reclaimed}
 use Rattle.gh_model.specs.declared.state.State.{State}
+use Rattle.gh_model.proofs.RoomLemmas.{change_counts}
 use Rattle.gh_invariant.specs.Events.{EventsFit, judged_by}
 use Rattle.gh_invariant.specs.Valid.{IsValid}
 use Rattle.gh_invariant.proofs.EventsKept.{event_doomed, event_valid}
@@ -21,25 +22,7 @@ use Rattle.gh_invariant.proofs.EventsKept.{event_doomed, event_valid}
 -- serials rise
 
 pub serial_rises : (s : State) (one : Change) → s.next_serial ≤ (changed s one).next_serial
-serial_rises s (change.AddObject row) = omega arith
-serial_rises s (change.PutCapability row) = omega arith
-serial_rises s (change.DropCapability cspace slot) = omega arith
-serial_rises s (change.RevokeCapability cspace slot) = omega arith
-serial_rises s (change.SetStage object stage) = omega arith
-serial_rises s (change.Retire object seen) = omega arith
-serial_rises s (change.Reclaim object) = omega arith
-serial_rises s (change.GiveQuota partition quota) = omega arith
-serial_rises s (change.AddExtent row) = omega arith
-serial_rises s (change.MovePages first count holder) = omega arith
-serial_rises s (change.PutMapping row) = omega arith
-serial_rises s (change.DropMapping row) = omega arith
-serial_rises s (change.SetBell row) = omega arith
-serial_rises s (change.ConfigureQueue queue depth size cost) = omega arith
-serial_rises s (change.PutMessage queue message) = omega arith
-serial_rises s (change.DropMessage queue) = omega arith
-serial_rises s (change.EmptyQueue queue) = omega arith
-serial_rises s (change.Exit cpu) = omega arith
-serial_rises s change.Ring = omega arith
+serial_rises s one = omega (arith, (change_counts s one).serials)
 
 serials_rise : (s : State) (changes : List Change) → s.next_serial ≤ (changed_all s changes).next_serial
 serials_rise s [] = omega arith

@@ -1,10 +1,11 @@
 -- An object's kind never changes while it lives, and a serial that was given is never given again.
-use Rattle.std.proofs.Common.{◌≡◌, ◌<◌, ◌≤◌, ◌∙◌, ◌⊎◌, inl, inr, ℕ, Bool, true, false, List, [], ◌∷◌, refl, subst, sym, ap, arith, Some, None, find, option_map, if◌then◌else◌}
+use Rattle.std.proofs.Common.{◌≡◌, ◌<◌, ◌≤◌, ◌∙◌, ◌⊎◌, inl, inr, ℕ, Bool, true, false, List, [], ◌∷◌, ◌++◌, refl, subst, sym, ap, arith, Some, None, find, option_map, if◌then◌else◌}
 use Rattle.std.specs.Prelude.{◌&&◌, ◌==◌}
 use Rattle.std.proofs.lemmas.Bool.{eqb-true}
 use Rattle.std.proofs.lemmas.Bool.Decides.{nat_tests}
 use Rattle.gh_model.specs.Act.{counted}
-use Rattle.gh_model.specs.Changes.{changed, changed_all, with_cost, with_counters, with_stage, without}
+use Rattle.gh_base.specs.declared.kind.Kind.TheVariants as kind
+use Rattle.gh_model.specs.Changes.{boot_object, changed, changed_all, with_cost, with_counters, with_stage, without}
 use Rattle.gh_model.specs.Decide.{verdict}
 use Rattle.gh_model.specs.History.{Event, after_entry, after_event, after_verdict, is_retired, is_unretired, may_act, may_part, numbered, took}
 use Rattle.gh_model.specs.References.{is_doomed}
@@ -48,13 +49,20 @@ gone_kind objects gone object false other =
     apart : (a b c : ℕ) → (a == c) ≡ true → (b == c) ≡ false → (a == b) ≡ false
     apart a b c first second = grind (arith, nat_tests)
 
-change_kind : (s : State) (one : Change) (object : ℕ) → object < s.next_serial → MayChange s one → KindStays s.objects (changed s one).objects object
-change_kind s (change.AddObject row) object made may =
-    let other : (row.serial.0 == object) ≡ false = below row.serial.0 object s.next_serial may.serial made in
+-- one more with the next serial leaves the others' kinds
+added_kind : (s : State) (row : ObjectRow) (object : ℕ) → object < s.next_serial → row.serial.0 ≡ s.next_serial
+    → KindStays s.objects (s.objects ++ row ∷ []) object
+added_kind s row object made serial =
+    let other : (row.serial.0 == object) ≡ false = below row.serial.0 object s.next_serial serial made in
     inr (ap (option_map row_kind) (find_push_other (is_object object) s.objects row other))
   where
     below : (a b n : ℕ) → a ≡ n → b < n → (a == b) ≡ false
     below a b n same less = grind (arith, nat_tests)
+
+change_kind : (s : State) (one : Change) (object : ℕ) → object < s.next_serial → MayChange s one → KindStays s.objects (changed s one).objects object
+change_kind s (change.AddObject row) object made may = added_kind s row object made may.serial
+change_kind s (change.AddPartition quota) object made may =
+    added_kind s (boot_object s kind.Partition s.next_serial 1) object made refl
 change_kind s (change.SetStage other stage) object made may = recast_kind (is_object other.0) (with_stage stage) s.objects object (λ row. refl) (λ row. refl)
 change_kind s (change.Retire other seen) object made may = recast_kind (is_object other.0) (with_counters seen) s.objects object (λ row. refl) (λ row. refl)
 change_kind s (change.Reclaim other) object made may = gone_kind s.objects other.0 object (object == other.0) refl
@@ -74,6 +82,12 @@ change_kind s (change.DropMessage queue) object made may = inr refl
 change_kind s (change.EmptyQueue queue) object made may = inr refl
 change_kind s (change.Exit cpu) object made may = inr refl
 change_kind s change.Ring object made may = inr refl
+change_kind s (change.SetPages count) object made may = inr refl
+change_kind s (change.AddRoot row) object made may = inr refl
+change_kind s (change.SetRoom queue depth size) object made may = inr refl
+change_kind s (change.FillSlot row) object made may = inr refl
+change_kind s (change.AddCpu row) object made may = inr refl
+change_kind s (change.AddLink row) object made may = inr refl
 
 -- one after another
 pub then_kind : (old middle new : List ObjectRow) (object : ℕ) → KindStays old middle object → KindStays middle new object → KindStays old new object

@@ -1,15 +1,13 @@
-pub mod BootCpus
-pub mod BootMapping
+pub mod BootGains
 pub mod BootObjects
-pub mod BootPartition
-pub mod BootSlots
-pub mod BootSpans
+pub mod BootRows
 pub mod BootValid
 pub mod CapabilityMade
 pub mod ChangedRow
 pub mod ChangesInOrder
 pub mod ConfigureMade
 pub mod Counting
+pub mod CpusAdded
 pub mod CpusFit
 pub mod CpusKept
 pub mod DecisionGives
@@ -34,6 +32,7 @@ pub mod NotLiving
 pub mod ObjectsFit
 pub mod ObjectsMade
 pub mod PagesFit
+pub mod PartitionAdded
 pub mod PartsKept
 pub mod PlainMade
 pub mod QueuesKept
@@ -41,6 +40,8 @@ pub mod ReferencesLaw
 pub mod ReferencesMoved
 pub mod Referred
 pub mod RetiredKept
+pub mod RoomFor
+pub mod RootAdded
 pub mod RowsLeft
 pub mod RowsTested
 pub mod SetsOne
@@ -48,6 +49,7 @@ pub mod Settings
 pub mod SlotsFit
 pub mod SlotsKept
 pub mod Summing
+pub mod TakenLemmas
 pub mod UnitsBeside
 pub mod UnitsFit
 pub mod UnitsLeft

@@ -1,27 +1,22 @@
 -- A change that may be made keeps what is said of objects, of rows of their kinds, of units, of
--- pages
--- and of mapping rows.
+-- pages and of mapping rows.
 use Rattle.std.proofs.Common.{◌≡◌, ◌+◌, ◌≤◌, ◌<◌, ◌∙◌, ◌==◌, ◌++◌, ℕ, zero, suc, Bool, true, false, List, [], ◌∷◌, refl, sym, ap, arith, IsTrue, Option, Some, None, find, nat_le}
 use Rattle.std.specs.Prelude.{count_by}
-use Rattle.std.proofs.lemmas.Bool.{eqb-true, leb-false, ne_eqb}
-use Rattle.gh_base.specs.Kind.{kind_number}
+use Rattle.std.proofs.lemmas.Bool.{eqb-true, ne_eqb}
 use Rattle.gh_base.specs.declared.ids.Serial.{Serial}
 use Rattle.gh_base.specs.declared.kind.Kind.{Kind}
 use Rattle.gh_base.specs.declared.kind.Kind.TheVariants as kind
 use Rattle.gh_base.specs.declared.kind.Stage.{Stage}
-use Rattle.gh_base.specs.declared.limits.TheConstants.{CSPACES, PARTITIONS}
-use Rattle.gh_model.specs.Boot.{is_of_kind}
-use Rattle.gh_model.specs.Changes.{changed, is_mapping, replaced, with_cost, with_counters, with_message, with_quota, with_room, with_stage, without_first, without_messages}
+use Rattle.gh_model.specs.Changes.{boot_object, changed, is_mapping, serial_of, replaced, with_cost, with_counters, with_message, with_quota, with_room, with_stage, without_first, without_messages}
 use Rattle.gh_model.specs.History.{is_retired}
-use Rattle.gh_model.specs.ObjectCalls.{is_full}
 use Rattle.gh_model.specs.QueueCalls.{one_if}
 use Rattle.gh_model.specs.Rows.{change_row, is_bell, is_extent, is_object, is_partition, is_queue, object_row}
 use Rattle.gh_model.specs.declared.change.Change.{Change}
-use Rattle.gh_model.specs.declared.change.Change.TheVariants.{PutCapability, DropCapability, RevokeCapability, AddObject, SetStage, Retire, Reclaim, GiveQuota, AddExtent, MovePages, PutMapping, DropMapping, SetBell, ConfigureQueue, PutMessage, DropMessage, EmptyQueue, Exit, Ring}
+use Rattle.gh_model.specs.declared.change.Change.TheVariants.{PutCapability, DropCapability, RevokeCapability, AddObject, SetStage, Retire, Reclaim, GiveQuota, AddExtent, MovePages, PutMapping, DropMapping, SetBell, ConfigureQueue, PutMessage, DropMessage, EmptyQueue, Exit, Ring, SetPages, AddPartition, AddRoot, SetRoom, FillSlot, AddCpu, AddLink}
 use Rattle.gh_model.specs.declared.rows.ObjectRow.{ObjectRow}
 use Rattle.gh_model.specs.declared.rows.QueueRow.{QueueRow}
 use Rattle.gh_model.specs.declared.state.State.{State}
-use Rattle.gh_invariant.specs.Lives.{kind_total, lives_as}
+use Rattle.gh_invariant.specs.Lives.{lives_as}
 use Rattle.gh_invariant.specs.Premises.{MayAdd, MayChange}
 use Rattle.gh_invariant.specs.Valid.{IsValidTo, KindRowsFit, MappingsFit, ObjectsFit, PagesFit, UnitsFit}
 use Rattle.gh_invariant.proofs.Counting.{unfound}
@@ -31,7 +26,10 @@ use Rattle.gh_invariant.proofs.Living.{lives_some}
 use Rattle.gh_invariant.proofs.MappingsFit.{drop_keeps_mappings, lives_keep_mappings, put_keeps_mappings, reclaim_keeps_mappings, span_keeps_mappings}
 use Rattle.gh_invariant.proofs.ObjectsFit.{KeepsPlace, add_keeps_objects, change_keeps_objects, lives_beside, lives_kept, reclaim_keeps_objects}
 use Rattle.gh_invariant.proofs.PagesFit.{add_keeps_pages, move_keeps_pages, reclaim_keeps_pages}
+use Rattle.gh_invariant.proofs.PartitionAdded.{objects_now, rows_now, units_now}
 use Rattle.gh_invariant.proofs.ReferencesLaw.{unreferenced}
+use Rattle.gh_invariant.proofs.RoomFor.{few_cspaces, few_partitions, no_row_by}
+use Rattle.gh_invariant.proofs.RootAdded.{pages_come, root_keeps_pages}
 use Rattle.gh_invariant.proofs.RowsTested.{count_change_where}
 use Rattle.gh_invariant.proofs.UnitsBeside.{add_keeps_units}
 use Rattle.gh_invariant.proofs.UnitsFit.{configure_keeps_units, give_keeps_units, retire_keeps_units, span_keeps_units, stage_keeps_units}
@@ -48,44 +46,6 @@ counters_keep seen = record { serial = λ row. refl; kind = λ row. refl; partit
 
 pub cost_keeps : (cost : ℕ) → KeepsPlace (with_cost cost)
 cost_keeps cost = record { serial = λ row. refl; kind = λ row. refl; partition = λ row. refl }
-
--- there is room for an object of the kind
-
-room_for : (most total : ℕ) → nat_le most total ≡ false → total + one_if true ≤ most
-room_for most total room =
-    let fewer : total < most = leb-false most total room in
-    let one : one_if true ≡ 1 = refl in
-    omega arith
-
-room_as : (most total : ℕ) → total ≤ most → total + one_if false ≤ most
-room_as most total within = (let none : one_if false ≡ 0 = refl in omega arith)
-
-pub few_partitions : (s : State) (k : Kind) → is_full s k ≡ false
-    → kind_total s.objects kind.Partition ≤ PARTITIONS
-    → kind_total s.objects kind.Partition + one_if (kind_number k == kind_number kind.Partition)
-    ≤ PARTITIONS
-few_partitions s kind.Partition room within =
-    room_for PARTITIONS (kind_total s.objects kind.Partition) room
-few_partitions s kind.Cspace room within =
-    room_as PARTITIONS (kind_total s.objects kind.Partition) within
-few_partitions s kind.Space room within =
-    room_as PARTITIONS (kind_total s.objects kind.Partition) within
-few_partitions s kind.Extent room within =
-    room_as PARTITIONS (kind_total s.objects kind.Partition) within
-few_partitions s kind.Bell room within =
-    room_as PARTITIONS (kind_total s.objects kind.Partition) within
-few_partitions s kind.Queue room within =
-    room_as PARTITIONS (kind_total s.objects kind.Partition) within
-
-pub few_cspaces : (s : State) (k : Kind) → is_full s k ≡ false
-    → kind_total s.objects kind.Cspace ≤ CSPACES
-    → kind_total s.objects kind.Cspace + one_if (kind_number k == kind_number kind.Cspace) ≤ CSPACES
-few_cspaces s kind.Cspace room within = room_for CSPACES (kind_total s.objects kind.Cspace) room
-few_cspaces s kind.Partition room within = room_as CSPACES (kind_total s.objects kind.Cspace) within
-few_cspaces s kind.Space room within = room_as CSPACES (kind_total s.objects kind.Cspace) within
-few_cspaces s kind.Extent room within = room_as CSPACES (kind_total s.objects kind.Cspace) within
-few_cspaces s kind.Bell room within = room_as CSPACES (kind_total s.objects kind.Cspace) within
-few_cspaces s kind.Queue room within = room_as CSPACES (kind_total s.objects kind.Cspace) within
 
 -- objects
 pub objects_kept : (last : ℕ) (s : State) (change : Change) → IsValidTo last s → MayChange s change
@@ -121,6 +81,13 @@ objects_kept last s (DropMessage queue) valid may = valid.objects
 objects_kept last s (EmptyQueue queue) valid may = valid.objects
 objects_kept last s (Exit cpu) valid may = valid.objects
 objects_kept last s Ring valid may = valid.objects
+objects_kept last s (SetPages count) valid may = valid.objects
+objects_kept last s (AddPartition quota) valid may = objects_now last s quota valid may
+objects_kept last s (AddRoot row) valid may = valid.objects
+objects_kept last s (SetRoom queue depth size) valid may = valid.objects
+objects_kept last s (FillSlot row) valid may = valid.objects
+objects_kept last s (AddCpu row) valid may = valid.objects
+objects_kept last s (AddLink row) valid may = valid.objects
 
 -- the rows of each kind
 
@@ -196,14 +163,18 @@ rows_kept last s (EmptyQueue queue) valid may =
     queue_rows s queue.0 without_messages (λ row. refl) valid.rows
 rows_kept last s (Exit cpu) valid may = valid.rows
 rows_kept last s Ring valid may = valid.rows
+rows_kept last s (SetPages count) valid may = valid.rows
+rows_kept last s (AddPartition quota) valid may = rows_now last s quota valid may
+rows_kept last s (AddRoot row) valid may =
+    span_keeps_rows s.objects s.partitions s.bells s.queues s.extents row may.kind
+    (ap (find (is_extent row.serial.0)) may.first) valid.rows
+rows_kept last s (SetRoom queue depth size) valid may =
+    queue_rows s queue.0 (with_room depth size) (λ row. refl) valid.rows
+rows_kept last s (FillSlot row) valid may = valid.rows
+rows_kept last s (AddCpu row) valid may = valid.rows
+rows_kept last s (AddLink row) valid may = valid.rows
 
 -- units
-
-pub no_row_by : {R : Type 0} (p : R → Bool) (rows : List R) (found : Option ObjectRow) (k : Kind)
-    → found ≡ None → count_by p rows ≤ one_if (is_of_kind k found) → find p rows ≡ None
-no_row_by p rows None k none few =
-    unfound p rows (let zero : one_if (is_of_kind k None) ≡ 0 = refl in omega arith)
-no_row_by p rows (Some row) k none few = absurd (let never : ⊥ = cc in never)
 
 module _ (last : ℕ) (s : State) (row : ObjectRow) (valid : IsValidTo last s) (may : MayAdd s row)
   where
@@ -278,6 +249,15 @@ units_kept last s (DropMessage queue) valid may = valid.units
 units_kept last s (EmptyQueue queue) valid may = valid.units
 units_kept last s (Exit cpu) valid may = valid.units
 units_kept last s Ring valid may = valid.units
+units_kept last s (SetPages count) valid may = valid.units
+units_kept last s (AddPartition quota) valid may = units_now last s quota valid may
+units_kept last s (AddRoot row) valid may =
+    span_keeps_units s.objects s.partitions s.extents row may.object valid.units valid.objects.once
+    may.lives may.stage
+units_kept last s (SetRoom queue depth size) valid may = valid.units
+units_kept last s (FillSlot row) valid may = valid.units
+units_kept last s (AddCpu row) valid may = valid.units
+units_kept last s (AddLink row) valid may = valid.units
 
 -- pages
 pub pages_kept : (last : ℕ) (s : State) (change : Change) → IsValidTo last s → MayChange s change
@@ -305,6 +285,15 @@ pages_kept last s (DropMessage queue) valid may = valid.pages
 pages_kept last s (EmptyQueue queue) valid may = valid.pages
 pages_kept last s (Exit cpu) valid may = valid.pages
 pages_kept last s Ring valid may = valid.pages
+pages_kept last s (SetPages count) valid may =
+    pages_come count (serial_of 0) s.extents may.none may.few
+pages_kept last s (AddPartition quota) valid may = valid.pages
+pages_kept last s (AddRoot row) valid may =
+    root_keeps_pages s.holders s.extents row may.first may.whole may.pages valid.pages
+pages_kept last s (SetRoom queue depth size) valid may = valid.pages
+pages_kept last s (FillSlot row) valid may = valid.pages
+pages_kept last s (AddCpu row) valid may = valid.pages
+pages_kept last s (AddLink row) valid may = valid.pages
 
 -- mapping rows
 
@@ -348,3 +337,13 @@ mappings_kept last s (DropMessage queue) valid may = valid.mappings
 mappings_kept last s (EmptyQueue queue) valid may = valid.mappings
 mappings_kept last s (Exit cpu) valid may = valid.mappings
 mappings_kept last s Ring valid may = valid.mappings
+mappings_kept last s (SetPages count) valid may = valid.mappings
+mappings_kept last s (AddPartition quota) valid may =
+    lives_keep_mappings s.objects (changed s (AddPartition quota)).objects s.extents s.mappings
+    (lives_beside s.objects (boot_object s kind.Partition s.next_serial 1)) valid.mappings
+mappings_kept last s (AddRoot row) valid may =
+    span_keeps_mappings s.objects s.extents s.mappings row valid.mappings
+mappings_kept last s (SetRoom queue depth size) valid may = valid.mappings
+mappings_kept last s (FillSlot row) valid may = valid.mappings
+mappings_kept last s (AddCpu row) valid may = valid.mappings
+mappings_kept last s (AddLink row) valid may = valid.mappings

@@ -9,9 +9,9 @@ use Rattle.gh_base.specs.declared.kind.Kind.{Kind}
 use Rattle.gh_base.specs.declared.kind.Kind.TheVariants as kind
 use Rattle.gh_base.specs.declared.limits.TheConstants.{MESSAGE_BYTES, QUEUE_DEPTH}
 use Rattle.gh_model.specs.Changes.{changed, new_queues, with_message, with_room, without_first, without_messages}
-use Rattle.gh_model.specs.Rows.{is_queue}
+use Rattle.gh_model.specs.Rows.{change_row, is_queue}
 use Rattle.gh_model.specs.declared.change.Change.{Change}
-use Rattle.gh_model.specs.declared.change.Change.TheVariants.{PutCapability, DropCapability, RevokeCapability, AddObject, SetStage, Retire, Reclaim, GiveQuota, AddExtent, MovePages, PutMapping, DropMapping, SetBell, ConfigureQueue, PutMessage, DropMessage, EmptyQueue, Exit, Ring}
+use Rattle.gh_model.specs.declared.change.Change.TheVariants.{PutCapability, DropCapability, RevokeCapability, AddObject, SetStage, Retire, Reclaim, GiveQuota, AddExtent, MovePages, PutMapping, DropMapping, SetBell, ConfigureQueue, PutMessage, DropMessage, EmptyQueue, Exit, Ring, SetPages, AddPartition, AddRoot, SetRoom, FillSlot, AddCpu, AddLink}
 use Rattle.gh_model.specs.declared.rows.QueueRow.{QueueRow}
 use Rattle.gh_model.specs.declared.state.State.{State}
 use Rattle.gh_invariant.specs.Lives.{is_short, queue_fits}
@@ -112,6 +112,15 @@ send_keeps s queue message fit may row is fits =
     (subst (λ (one : QueueRow). length one.messages < one.depth) same may.room)
     (subst (λ (one : QueueRow). length message ≤ one.size) same may.short) fits
 
+room_keeps : (s : State) (queue depth size : ℕ) → IsTrue (list_all queue_fits s.queues)
+    → depth ≤ QUEUE_DEPTH → size ≤ MESSAGE_BYTES
+    → IsTrue (list_all queue_fits (change_row (is_queue queue) (with_room depth size) s.queues))
+room_keeps s queue depth size fit deep wide =
+    all_change queue_fits (is_queue queue) (with_room depth size) s.queues
+    (λ row is fits.
+    queue_from (with_room depth size row)
+    (record { deep = deep; wide = wide; few = omega arith; short = refl })) fit
+
 pub queues_kept : (last : ℕ) (s : State) (change : Change) → IsValidTo last s → MayChange s change
     → IsTrue (list_all queue_fits (changed s change).queues)
 queues_kept last s (PutCapability row) valid may = valid.queues
@@ -131,10 +140,7 @@ queues_kept last s (PutMapping row) valid may = valid.queues
 queues_kept last s (DropMapping row) valid may = valid.queues
 queues_kept last s (SetBell row) valid may = valid.queues
 queues_kept last s (ConfigureQueue queue depth size cost) valid may =
-    all_change queue_fits (is_queue queue.0) (with_room depth size) s.queues
-    (λ row is fits.
-    queue_from (with_room depth size row)
-    (record { deep = may.deep; wide = may.wide; few = omega arith; short = refl })) valid.queues
+    room_keeps s queue.0 depth size valid.queues may.deep may.wide
 queues_kept last s (PutMessage queue message) valid may =
     all_change_found queue_fits (is_queue queue.0) (with_message message) s.queues
     (send_keeps s queue.0 message valid.queues may) valid.queues
@@ -146,3 +152,11 @@ queues_kept last s (EmptyQueue queue) valid may =
     (λ row is fits. emptied_fits row fits) valid.queues
 queues_kept last s (Exit cpu) valid may = valid.queues
 queues_kept last s Ring valid may = valid.queues
+queues_kept last s (SetPages count) valid may = valid.queues
+queues_kept last s (AddPartition quota) valid may = valid.queues
+queues_kept last s (AddRoot row) valid may = valid.queues
+queues_kept last s (SetRoom queue depth size) valid may =
+    room_keeps s queue.0 depth size valid.queues may.deep may.wide
+queues_kept last s (FillSlot row) valid may = valid.queues
+queues_kept last s (AddCpu row) valid may = valid.queues
+queues_kept last s (AddLink row) valid may = valid.queues

@@ -1,5 +1,5 @@
 -- Each change gives and takes just the references that it tells.
-use Rattle.std.proofs.Common.{◌≡◌, ◌+◌, ◌≤◌, ◌<◌, ◌&&◌, ◌==◌, ℕ, Bool, true, false, List, refl, ap, arith, Some, IsTrue, find}
+use Rattle.std.proofs.Common.{◌≡◌, ◌+◌, ◌≤◌, ◌<◌, ◌&&◌, ◌==◌, ℕ, Bool, true, false, not, List, refl, ap, arith, Some, IsTrue, find}
 use Rattle.std.specs.Prelude.{count_by}
 use Rattle.std.proofs.lemmas.Bool.{and_parts}
 use Rattle.std.proofs.lemmas.Bool.Decides.{nat_tests}
@@ -8,27 +8,29 @@ use Rattle.gh_base.specs.declared.ids.CpuNo.{CpuNo}
 use Rattle.gh_base.specs.declared.kind.Kind.TheVariants as kind
 use Rattle.gh_base.specs.declared.kind.Stage.{Stage}
 use Rattle.gh_model.specs.QueueCalls.{one_if}
-use Rattle.gh_model.specs.Changes.{changed, without, with_stage, with_counters, with_cost, with_quota, is_in_cspace, is_mapping}
+use Rattle.gh_model.specs.Changes.{boot_object, boot_partition, changed, serial_of, without, with_stage, with_counters, with_cost, with_quota, is_in_cspace, is_mapping}
 use Rattle.gh_model.specs.References.{references, is_capability_of, is_slot_of, is_inhabitant_of, is_child_of, is_root_extent, is_boot_partition, is_mapping_of, is_attached_to, is_link_of}
 use Rattle.gh_model.specs.Rows.{is_object, is_extent, is_partition, is_cpu}
 use Rattle.gh_model.specs.declared.change.Change.{Change}
-use Rattle.gh_model.specs.declared.change.Change.TheVariants.{PutCapability, DropCapability, RevokeCapability, AddObject, SetStage, Retire, Reclaim, GiveQuota, AddExtent, MovePages, PutMapping, DropMapping, SetBell, ConfigureQueue, PutMessage, DropMessage, EmptyQueue, Exit, Ring}
+use Rattle.gh_model.specs.declared.change.Change.TheVariants.{PutCapability, DropCapability, RevokeCapability, AddObject, SetStage, Retire, Reclaim, GiveQuota, AddExtent, MovePages, PutMapping, DropMapping, SetBell, ConfigureQueue, PutMessage, DropMessage, EmptyQueue, Exit, Ring, SetPages, AddPartition, AddRoot, SetRoom, FillSlot, AddCpu, AddLink}
 use Rattle.gh_model.specs.declared.rows.ObjectRow.{ObjectRow}
 use Rattle.gh_model.specs.declared.rows.ExtentRow.{ExtentRow}
 use Rattle.gh_model.specs.declared.rows.CapabilityRow.{CapabilityRow}
 use Rattle.gh_model.specs.declared.rows.MappingRow.{MappingRow}
 use Rattle.gh_model.specs.declared.rows.CpuRow.{CpuRow}
+use Rattle.gh_model.specs.declared.rows.LinkRow.{LinkRow}
 use Rattle.gh_model.specs.declared.state.State.{State}
 use Rattle.gh_invariant.specs.Effects.{is_that, times, gains, losses, home_named, parent_named}
 use Rattle.gh_invariant.specs.Lives.{lives_as, mapping_stands, cpu_fits}
-use Rattle.gh_invariant.specs.Premises.{MayChange, MayAdd, MayReclaim, MayMap}
+use Rattle.gh_invariant.specs.Premises.{MayChange, MayAdd, MayAttach, MayLink, MayReclaim, MayMap}
 use Rattle.gh_invariant.specs.Valid.{IsValidTo}
-use Rattle.gh_invariant.proofs.Counting.{count_append, found_all}
+use Rattle.gh_invariant.proofs.Counting.{count_append, count_push, found_all}
 use Rattle.gh_invariant.proofs.ChangedRow.{count_change_kept}
+use Rattle.gh_invariant.proofs.CpusAdded.{links_beside, links_put}
 use Rattle.gh_invariant.proofs.RowsLeft.{without_none}
 use Rattle.gh_invariant.proofs.MappingOnce.{mapping_apart, mapping_once}
 use Rattle.gh_invariant.proofs.Living.{kinds_apart, lives_some}
-use Rattle.gh_invariant.proofs.ReferencesMoved.{caps_put, caps_dropped, caps_revoked, home_put, home_gone, extents_put, extents_gone, mappings_put, mappings_dropped, cpus_exited, links_stay, boot_added, boot_gone}
+use Rattle.gh_invariant.proofs.ReferencesMoved.{caps_put, caps_dropped, caps_revoked, home_put, home_gone, extents_put, extents_gone, mappings_put, mappings_dropped, cpus_exited, links_stay, boot_added, boot_gone, times_attached, times_one}
 
 -- the change gives and takes what it tells
 abbrev pub Moves : State → Change → ℕ → Type 0
@@ -151,6 +153,43 @@ module _ (last : ℕ) (s : State) (valid : IsValidTo last s) (object : ℕ) wher
       and_parts _ _ both in
       kinds_apart s.objects row.cspace.0 row.space.0 kind.Cspace kind.Space parts.0 parts.1 refl
 
+  fill_moves : (row : CapabilityRow) → Moves s (FillSlot row) object
+  fill_moves row = omega (arith, caps_put object s.caps row)
+
+  no_both : (b : Bool) → one_if (b && not b) ≡ 0
+  no_both true = refl
+  no_both false = refl
+
+  one_and : (b : Bool) → one_if (b && true) ≡ one_if b
+  one_and true = refl
+  one_and false = refl
+
+  partition_moves : (quota : ℕ) → Moves s (AddPartition quota) object
+  partition_moves quota =
+      omega (
+        arith,
+        count_push (is_inhabitant_of object) s.objects (boot_object s kind.Partition s.next_serial 1),
+        no_both (s.next_serial == object),
+        count_push (is_boot_partition object) s.partitions (boot_partition s.next_serial quota),
+        one_and (s.next_serial == object),
+        times_one object (serial_of s.next_serial),
+      )
+
+  root_moves : 0 < object → (row : ExtentRow) → Moves s (AddRoot row) object
+  root_moves some row = omega (arith, extents_put object some s.extents row)
+
+  attach_moves : (row : CpuRow) → MayAttach s row → Moves s (AddCpu row) object
+  attach_moves row may =
+      omega (
+        arith,
+        count_push (is_attached_to object) s.cpus row,
+        times_attached object row (λ runs. kinds_apart s.objects row.cspace.0 row.space.0 kind.Cspace kind.Space may.cspace may.space refl),
+        links_beside s.objects s.cpus row object s.links valid.cpus.linked,
+      )
+
+  link_moves : (row : LinkRow) → MayLink s row → Moves s (AddLink row) object
+  link_moves row may = omega (arith, links_put s row may object)
+
   exit_moves : (cpu : CpuNo) → Moves s (Exit cpu) object
   exit_moves cpu =
       omega (
@@ -180,3 +219,10 @@ module _ (last : ℕ) (s : State) (valid : IsValidTo last s) (object : ℕ) wher
   moves (EmptyQueue queue) some may = refl
   moves (Exit cpu) some may = exit_moves cpu
   moves Ring some may = refl
+  moves (SetPages count) some may = refl
+  moves (AddPartition quota) some may = partition_moves quota
+  moves (AddRoot row) some may = root_moves some row
+  moves (SetRoom queue depth size) some may = refl
+  moves (FillSlot row) some may = fill_moves row
+  moves (AddCpu row) some may = attach_moves row may
+  moves (AddLink row) some may = link_moves row may

@@ -8,7 +8,8 @@ use Rattle.std.proofs.lemmas.Bool.Decides.{nat_tests}
 use Rattle.gh_model.specs.Changes.{without}
 use Rattle.gh_model.specs.QueueCalls.{one_if}
 use Rattle.gh_model.specs.Rows.{change_row}
-use Rattle.gh_invariant.proofs.Counting.{all_by_two, change_here, change_later, count_cons, count_found, find_here, find_later, found_passes, none_fail, one_true}
+use Rattle.gh_model.proofs.ChangedRows.{change_here, change_later}
+use Rattle.gh_invariant.proofs.Counting.{all_by_two, count_cons, count_found, find_here, find_later, found_passes, none_fail, one_true}
 use Rattle.gh_invariant.proofs.ChangedRow.{count_change}
 use Rattle.gh_invariant.proofs.RowsLeft.{all_left}
 

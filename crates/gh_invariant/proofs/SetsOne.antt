@@ -25,7 +25,7 @@ use Rattle.gh_model.specs.QueueCalls as queues
 use Rattle.gh_model.specs.Registers.{user_access}
 use Rattle.gh_model.specs.Units.{free_units}
 use Rattle.gh_model.specs.declared.change.Change.{Change}
-use Rattle.gh_model.specs.declared.change.Change.TheVariants.{AddObject, Exit, PutCapability, PutMessage, Reclaim, Retire}
+use Rattle.gh_model.specs.declared.change.Change.TheVariants.{AddCpu, AddLink, AddObject, AddPartition, AddRoot, Exit, FillSlot, PutCapability, PutMessage, Reclaim, Retire, SetPages, SetRoom}
 use Rattle.gh_model.specs.declared.change.Decision.{Decision}
 use Rattle.gh_model.specs.declared.change.Decision.TheVariants.{Refuse, Unfinished, Make}
 use Rattle.gh_model.specs.declared.rows.BellRow.{BellRow}
@@ -43,6 +43,7 @@ use Rattle.gh_invariant.proofs.MayMake.{itself}
 -- the change makes no object, and retires and reclaims none
 abbrev pub keeps_objects : Change → Bool
 keeps_objects (AddObject row) = false
+keeps_objects (AddPartition quota) = false
 keeps_objects (Retire object seen) = false
 keeps_objects (Reclaim object) = false
 keeps_objects _ = true
@@ -55,161 +56,174 @@ pub record MakesOne (s : State) (changes : List Change) : Type 0 where
   pub serial : row.serial.0 ≡ s.next_serial
   pub unretired : row.retired ≡ None
 
--- the change is no exit but, of a call that may exit, that of its own CPU
+-- the change adds no CPU, and is no exit but, of a call that may exit, that of its own CPU
 abbrev pub exit_fits : ℕ → Bool → Change → Bool
 exit_fits cpu may (Exit other) = may && (other.0 == cpu)
+exit_fits cpu may (AddCpu row) = false
 exit_fits cpu may _ = true
+
+-- the change isn't one that boot lines alone make
+abbrev pub is_of_calls : Change → Bool
+is_of_calls (SetPages count) = false
+is_of_calls (AddPartition quota) = false
+is_of_calls (AddRoot row) = false
+is_of_calls (SetRoom queue depth size) = false
+is_of_calls (FillSlot row) = false
+is_of_calls (AddCpu row) = false
+is_of_calls (AddLink row) = false
+is_of_calls _ = true
 
 abbrev pub may_exit : Call → Bool
 may_exit calls.Exit = true
 may_exit _ = false
 
 -- the changes of the decision set one slot at most, by the last of them, and make one object or
--- none; they retire and reclaim none, and let no other CPU exit
+-- none; they retire and reclaim none, let no other CPU exit, and are none of boot lines alone
 pub record SetsOne (s : State) (cpu : ℕ) (may : Bool) (decision : Decision) : Type 0 where
   pub last : IsTrue (sets_last (made_by decision))
   pub makes : IsTrue (list_all keeps_objects (made_by decision)) ⊎ MakesOne s (made_by decision)
   pub exits : IsTrue (list_all (exit_fits cpu may) (made_by decision))
+  pub calls : IsTrue (list_all is_of_calls (made_by decision))
 
 module _ (s : State) (cpu : ℕ) (may : Bool) where
   sets_unless : (refused : Bool) (errno : Errno) (others : Decision) → SetsOne s cpu may others → SetsOne s cpu may (if refused then Refuse errno else others)
-  sets_unless true errno others sets = record { last = refl; makes = inl refl; exits = refl }
+  sets_unless true errno others sets = record { last = refl; makes = inl refl; exits = refl; calls = refl }
   sets_unless false errno others sets = sets
 
   sets_provided : (holds : Bool) (errno : Errno) (others : Decision) → SetsOne s cpu may others → SetsOne s cpu may (if holds then others else Refuse errno)
   sets_provided true errno others sets = sets
-  sets_provided false errno others sets = record { last = refl; makes = inl refl; exits = refl }
+  sets_provided false errno others sets = record { last = refl; makes = inl refl; exits = refl; calls = refl }
 
   sent_sets : (flags : ℕ) (row : Option BellRow) → SetsOne s cpu may (bells.sent flags row)
-  sent_sets flags None = record { last = refl; makes = inl refl; exits = refl }
-  sent_sets flags (Some row) = record { last = refl; makes = inl refl; exits = refl }
+  sent_sets flags None = record { last = refl; makes = inl refl; exits = refl; calls = refl }
+  sent_sets flags (Some row) = record { last = refl; makes = inl refl; exits = refl; calls = refl }
 
   received_sets : (clear : ℕ) (row : Option BellRow) → SetsOne s cpu may (bells.received clear row)
-  received_sets clear None = record { last = refl; makes = inl refl; exits = refl }
-  received_sets clear (Some row) = record { last = refl; makes = inl refl; exits = refl }
+  received_sets clear None = record { last = refl; makes = inl refl; exits = refl; calls = refl }
+  received_sets clear (Some row) = record { last = refl; makes = inl refl; exits = refl; calls = refl }
 
   masked_sets : (enable ack : ℕ) (row : Option BellRow) → SetsOne s cpu may (bells.masked enable ack row)
-  masked_sets enable ack None = record { last = refl; makes = inl refl; exits = refl }
-  masked_sets enable ack (Some row) = record { last = refl; makes = inl refl; exits = refl }
+  masked_sets enable ack None = record { last = refl; makes = inl refl; exits = refl; calls = refl }
+  masked_sets enable ack (Some row) = record { last = refl; makes = inl refl; exits = refl; calls = refl }
 
   rings_set : (queue : Serial) (message : List ℕ) (linked : Bool) (reply : Reply) → SetsOne s cpu may (Make (PutMessage queue message ∷ queues.rings_if linked) reply)
-  rings_set queue message true reply = record { last = refl; makes = inl refl; exits = refl }
-  rings_set queue message false reply = record { last = refl; makes = inl refl; exits = refl }
+  rings_set queue message true reply = record { last = refl; makes = inl refl; exits = refl; calls = refl }
+  rings_set queue message false reply = record { last = refl; makes = inl refl; exits = refl; calls = refl }
 
   put_sets : (queue : Serial) (message : List ℕ) (fill : Option QueueFill) → SetsOne s cpu may (queues.message_sent s queue message fill)
-  put_sets queue message None = record { last = refl; makes = inl refl; exits = refl }
+  put_sets queue message None = record { last = refl; makes = inl refl; exits = refl; calls = refl }
   put_sets queue message (Some fill) =
       sets_unless (nat_lt fill.size (length message)) ArgSize _ (sets_unless (nat_le fill.depth fill.count) QueueFull _
       (rings_set queue message (queues.is_request_queue s queue) (done_with (queues.one_if (nat_lt (fill.count + 1) fill.depth)))))
 
   taken_sets : (queue : Serial) (room : ℕ) (fill : Option QueueFill) (first : Option (List ℕ)) → SetsOne s cpu may (queues.message_received queue room fill first)
-  taken_sets queue room None first = record { last = refl; makes = inl refl; exits = refl }
-  taken_sets queue room (Some fill) None = record { last = refl; makes = inl refl; exits = refl }
+  taken_sets queue room None first = record { last = refl; makes = inl refl; exits = refl; calls = refl }
+  taken_sets queue room (Some fill) None = record { last = refl; makes = inl refl; exits = refl; calls = refl }
   taken_sets queue room (Some fill) (Some message) =
-      sets_unless (nat_lt (min room MESSAGE_BYTES) (length message)) ArgSize _ (record { last = refl; makes = inl refl; exits = refl })
+      sets_unless (nat_lt (min room MESSAGE_BYTES) (length message)) ArgSize _ (record { last = refl; makes = inl refl; exits = refl; calls = refl })
 
   flushed_sets : (queue : Serial) (fill : Option QueueFill) → SetsOne s cpu may (queues.flushed queue fill)
-  flushed_sets queue None = record { last = refl; makes = inl refl; exits = refl }
-  flushed_sets queue (Some fill) = record { last = refl; makes = inl refl; exits = refl }
+  flushed_sets queue None = record { last = refl; makes = inl refl; exits = refl; calls = refl }
+  flushed_sets queue (Some fill) = record { last = refl; makes = inl refl; exits = refl; calls = refl }
 
   looked_sets : (found : Option (PageNo × Access)) → SetsOne s cpu may (looked_up found)
-  looked_sets None = record { last = refl; makes = inl refl; exits = refl }
-  looked_sets (Some found) = record { last = refl; makes = inl refl; exits = refl }
+  looked_sets None = record { last = refl; makes = inl refl; exits = refl; calls = refl }
+  looked_sets (Some found) = record { last = refl; makes = inl refl; exits = refl; calls = refl }
 
   copied_into_sets : (row : CapabilityRow) (cspace : Serial) (mask : ℕ) (slot : Option ℕ) → SetsOne s cpu may (copied_into row cspace mask slot)
-  copied_into_sets row cspace mask None = record { last = refl; makes = inl refl; exits = refl }
-  copied_into_sets row cspace mask (Some slot) = record { last = refl; makes = inl refl; exits = refl }
+  copied_into_sets row cspace mask None = record { last = refl; makes = inl refl; exits = refl; calls = refl }
+  copied_into_sets row cspace mask (Some slot) = record { last = refl; makes = inl refl; exits = refl; calls = refl }
 
   copied_sets : (cspace object : Serial) (mask : ℕ) (found : Option CapabilityRow) → SetsOne s cpu may (copied s cspace object mask found)
-  copied_sets cspace object mask None = record { last = refl; makes = inl refl; exits = refl }
+  copied_sets cspace object mask None = record { last = refl; makes = inl refl; exits = refl; calls = refl }
   copied_sets cspace object mask (Some row) =
       sets_provided (is_valid_of object row) Retry _ (copied_into_sets row cspace mask (free_slot s cspace.0))
 
   deleted_sets : (found : Option CapabilityRow) → SetsOne s cpu may (deleted found)
-  deleted_sets None = record { last = refl; makes = inl refl; exits = refl }
-  deleted_sets (Some row) = record { last = refl; makes = inl refl; exits = refl }
+  deleted_sets None = record { last = refl; makes = inl refl; exits = refl; calls = refl }
+  deleted_sets (Some row) = record { last = refl; makes = inl refl; exits = refl; calls = refl }
 
   revoked_sets : (found : Option CapabilityRow) → SetsOne s cpu may (revoked found)
-  revoked_sets None = record { last = refl; makes = inl refl; exits = refl }
+  revoked_sets None = record { last = refl; makes = inl refl; exits = refl; calls = refl }
   revoked_sets (Some row) =
-      sets_unless (not row.valid) CapRevoked _ (sets_unless row.master InsufRights _ (record { last = refl; makes = inl refl; exits = refl }))
+      sets_unless (not row.valid) CapRevoked _ (sets_unless row.master InsufRights _ (record { last = refl; makes = inl refl; exits = refl; calls = refl }))
 
   revoke_all_sets : (finished : Bool) (n : ℕ) → SetsOne s cpu may (if finished then Make [] (done_with n) else Unfinished)
-  revoke_all_sets true n = record { last = refl; makes = inl refl; exits = refl }
-  revoke_all_sets false n = record { last = refl; makes = inl refl; exits = refl }
+  revoke_all_sets true n = record { last = refl; makes = inl refl; exits = refl; calls = refl }
+  revoke_all_sets false n = record { last = refl; makes = inl refl; exits = refl; calls = refl }
 
   created_in_sets : (partition cspace : Serial) (k : Kind) (slot : Option ℕ) → SetsOne s cpu may (created_in s partition cspace k slot)
-  created_in_sets partition cspace k None = record { last = refl; makes = inl refl; exits = refl }
-  created_in_sets partition cspace k (Some slot) = sets_unless (lacks_room s partition k) Nomem _ (record { last = refl; makes = inr (record { row = new_object s partition k; cap = new_master s cspace slot k; is = refl; serial = refl; unretired = refl }); exits = refl })
+  created_in_sets partition cspace k None = record { last = refl; makes = inl refl; exits = refl; calls = refl }
+  created_in_sets partition cspace k (Some slot) = sets_unless (lacks_room s partition k) Nomem _ (record { last = refl; makes = inr (record { row = new_object s partition k; cap = new_master s cspace slot k; is = refl; serial = refl; unretired = refl }); exits = refl; calls = refl })
 
   created_sets : (partition cspace : Serial) (k : Option Kind) → SetsOne s cpu may (created s partition cspace k)
-  created_sets partition cspace None = record { last = refl; makes = inl refl; exits = refl }
+  created_sets partition cspace None = record { last = refl; makes = inl refl; exits = refl; calls = refl }
   created_sets partition cspace (Some k) = created_in_sets partition cspace k (free_slot s cspace.0)
 
   quota_sets : (partition : Serial) (quota : ℕ) (row : Option PartitionRow) → SetsOne s cpu may (quota_given s partition quota row)
-  quota_sets partition quota None = record { last = refl; makes = inl refl; exits = refl }
-  quota_sets partition quota (Some row) = sets_unless (nat_lt (free_units s row.parent.0) quota) Nomem _ (record { last = refl; makes = inl refl; exits = refl })
+  quota_sets partition quota None = record { last = refl; makes = inl refl; exits = refl; calls = refl }
+  quota_sets partition quota (Some row) = sets_unless (nat_lt (free_units s row.parent.0) quota) Nomem _ (record { last = refl; makes = inl refl; exits = refl; calls = refl })
 
   room_sets : (queue : Serial) (depth size : ℕ) (row : Option ObjectRow) → SetsOne s cpu may (room_given s queue depth size row)
-  room_sets queue depth size None = record { last = refl; makes = inl refl; exits = refl }
+  room_sets queue depth size None = record { last = refl; makes = inl refl; exits = refl; calls = refl }
   room_sets queue depth size (Some row) =
-      sets_unless (nat_lt (free_units s row.partition.0) (room_cost depth size)) Nomem _ (record { last = refl; makes = inl refl; exits = refl })
+      sets_unless (nat_lt (free_units s row.partition.0) (room_cost depth size)) Nomem _ (record { last = refl; makes = inl refl; exits = refl; calls = refl })
 
   activated_sets : (object : Serial) (row : Option ObjectRow) → SetsOne s cpu may (activated object row)
-  activated_sets object None = record { last = refl; makes = inl refl; exits = refl }
-  activated_sets object (Some row) = sets_unless (is_init_stage row.stage) ObjConfig _ (record { last = refl; makes = inl refl; exits = refl })
+  activated_sets object None = record { last = refl; makes = inl refl; exits = refl; calls = refl }
+  activated_sets object (Some row) = sets_unless (is_init_stage row.stage) ObjConfig _ (record { last = refl; makes = inl refl; exits = refl; calls = refl })
 
   mapped_sets : (space extent : Serial) (base access flags offset size : ℕ) (row : Option ExtentRow)
       → SetsOne s cpu may (mapped s space extent base access flags offset size row)
-  mapped_sets space extent base access flags offset size None = record { last = refl; makes = inl refl; exits = refl }
+  mapped_sets space extent base access flags offset size None = record { last = refl; makes = inl refl; exits = refl; calls = refl }
   mapped_sets space extent base access flags offset size (Some row) =
       sets_unless (nat_lt 4096 (page_of base + meant_count row flags size)) AddrOvfl _
       (sets_unless (nat_lt row.count (meant_offset flags offset + meant_count row flags size)) ArgSize _
       (sets_unless (not (access_fits access row.access.0)) Denied _
       (sets_unless (list_any (overlaps space.0 (page_of base) (meant_count row flags size)) s.mappings) Busy _
-      (sets_unless (nat_le 64 (count_by (is_row_of space.0) s.mappings)) Nomem _ (record { last = refl; makes = inl refl; exits = refl })))))
+      (sets_unless (nat_le 64 (count_by (is_row_of space.0) s.mappings)) Nomem _ (record { last = refl; makes = inl refl; exits = refl; calls = refl })))))
 
   unmapped_row_sets : (row : Option MappingRow) → SetsOne s cpu may (unmapped_row row)
-  unmapped_row_sets None = record { last = refl; makes = inl refl; exits = refl }
-  unmapped_row_sets (Some row) = record { last = refl; makes = inl refl; exits = refl }
+  unmapped_row_sets None = record { last = refl; makes = inl refl; exits = refl; calls = refl }
+  unmapped_row_sets (Some row) = record { last = refl; makes = inl refl; exits = refl; calls = refl }
 
   unmapped_sets : (space extent : Serial) (base flags offset size : ℕ) (row : Option ExtentRow)
       → SetsOne s cpu may (unmapped s space extent base flags offset size row)
-  unmapped_sets space extent base flags offset size None = record { last = refl; makes = inl refl; exits = refl }
+  unmapped_sets space extent base flags offset size None = record { last = refl; makes = inl refl; exits = refl; calls = refl }
   unmapped_sets space extent base flags offset size (Some row) = unmapped_row_sets _
 
   derived_sets : (child parent : Serial) (offset size access : ℕ) (row : Option ExtentRow)
       → SetsOne s cpu may (derived s child parent offset size access row)
-  derived_sets child parent offset size access None = record { last = refl; makes = inl refl; exits = refl }
+  derived_sets child parent offset size access None = record { last = refl; makes = inl refl; exits = refl; calls = refl }
   derived_sets child parent offset size access (Some row) =
       sets_unless (nat_lt row.count (page_of offset + page_of size)) ArgSize _
-      (sets_unless (not (holds_run s.holders parent (row.first.0 + page_of offset) (page_of size)) || not (access_fits access row.access.0)) Denied _ (record { last = refl; makes = inl refl; exits = refl }))
+      (sets_unless (not (holds_run s.holders parent (row.first.0 + page_of offset) (page_of size)) || not (access_fits access row.access.0)) Denied _ (record { last = refl; makes = inl refl; exits = refl; calls = refl }))
 
   donated_to_sets : (relation offset count : ℕ) (giver : ExtentRow) (receiver : Option ExtentRow)
       → SetsOne s cpu may (donated_to s relation offset count giver receiver)
-  donated_to_sets relation offset count giver None = record { last = refl; makes = inl refl; exits = refl }
+  donated_to_sets relation offset count giver None = record { last = refl; makes = inl refl; exits = refl; calls = refl }
   donated_to_sets relation offset count giver (Some receiver) =
       sets_unless (not (are_related relation giver receiver)) ArgInval _
       (sets_unless (not (is_within_span receiver (giver.first.0 + offset) count)) AddrInval _
-      (sets_unless (not (holds_run s.holders giver.serial (giver.first.0 + offset) count)) Denied _ (record { last = refl; makes = inl refl; exits = refl })))
+      (sets_unless (not (holds_run s.holders giver.serial (giver.first.0 + offset) count)) Denied _ (record { last = refl; makes = inl refl; exits = refl; calls = refl })))
 
   donated_sets : (relation : ℕ) (receiver : Serial) (offset count : ℕ) (giver : Option ExtentRow)
       → SetsOne s cpu may (donated s relation receiver offset count giver)
-  donated_sets relation receiver offset count None = record { last = refl; makes = inl refl; exits = refl }
+  donated_sets relation receiver offset count None = record { last = refl; makes = inl refl; exits = refl; calls = refl }
   donated_sets relation receiver offset count (Some giver) = donated_to_sets relation offset count giver _
 
 exited_sets : (s : State) (cpu : ℕ) (manager : Bool) → SetsOne s cpu true (Make (exit_changes (record { 0 = cpu }) manager) done)
-exited_sets s cpu true = record { last = refl; makes = inl refl; exits = rw (itself cpu) refl }
-exited_sets s cpu false = record { last = refl; makes = inl refl; exits = rw (itself cpu) refl }
+exited_sets s cpu true = record { last = refl; makes = inl refl; exits = rw (itself cpu) refl; calls = refl }
+exited_sets s cpu false = record { last = refl; makes = inl refl; exits = rw (itself cpu) refl; calls = refl }
 
 -- each call
 decided_sets : (s : State) (cpu : ℕ) (bytes : List ℕ) (grants : List Serial) (call : Call) → SetsOne s cpu (may_exit call) (decided s cpu call bytes grants)
-decided_sets s cpu bytes grants calls.Identify = record { last = refl; makes = inl refl; exits = refl }
+decided_sets s cpu bytes grants calls.Identify = record { last = refl; makes = inl refl; exits = refl; calls = refl }
 decided_sets s cpu bytes grants calls.Exit = exited_sets s cpu (cpu == 0)
 decided_sets s cpu bytes grants (calls.BellSend cap flags) = sent_sets s cpu false flags _
 decided_sets s cpu bytes grants (calls.BellSetMask cap enable ack) = masked_sets s cpu false enable ack _
 decided_sets s cpu bytes grants (calls.BellReceive cap clear) = received_sets s cpu false clear _
-decided_sets s cpu bytes grants (calls.BellReset cap) = record { last = refl; makes = inl refl; exits = refl }
+decided_sets s cpu bytes grants (calls.BellReset cap) = record { last = refl; makes = inl refl; exits = refl; calls = refl }
 decided_sets s cpu bytes grants (calls.MsgqSend cap size buffer flags) = put_sets s cpu false (grant_at grants 0) bytes _
 decided_sets s cpu bytes grants (calls.MsgqRecv cap buffer size) = taken_sets s cpu false (grant_at grants 0) size _ _
 decided_sets s cpu bytes grants (calls.MsgqFlush cap) = flushed_sets s cpu false (grant_at grants 0) _
@@ -234,8 +248,8 @@ decided_sets s cpu bytes grants (calls.CapCopy cspace source mask) = copied_sets
 decided_sets s cpu bytes grants (calls.CapDelete cspace slot) = deleted_sets s cpu false _
 decided_sets s cpu bytes grants (calls.CapRevoke cspace slot) = revoked_sets s cpu false _
 decided_sets s cpu bytes grants (calls.CapsRevoke cap) = revoke_all_sets s cpu false (is_finished s (grant_at grants 0)) _
-decided_sets s cpu bytes grants (calls.RmAct cap vm) = sets_unless s cpu false (nat_lt (length bytes) 4) ArgSize _ (record { last = refl; makes = inl refl; exits = refl })
-decided_sets s cpu bytes grants (calls.RmPoll cap) = record { last = refl; makes = inl refl; exits = refl }
+decided_sets s cpu bytes grants (calls.RmAct cap vm) = sets_unless s cpu false (nat_lt (length bytes) 4) ArgSize _ (record { last = refl; makes = inl refl; exits = refl; calls = refl })
+decided_sets s cpu bytes grants (calls.RmPoll cap) = record { last = refl; makes = inl refl; exits = refl; calls = refl }
 
 -- whatever refuses it before
 pub decision_sets : (s : State) (moved : Bool) (cpu : ℕ) (call : Call) (bytes : List ℕ) (grants : List Serial)

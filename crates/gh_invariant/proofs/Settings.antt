@@ -13,7 +13,8 @@ use Rattle.gh_model.specs.Rows.{change_row, tells_setting}
 use Rattle.gh_model.specs.Word.{setting_number}
 use Rattle.gh_model.specs.declared.rows.SetAtRow.{SetAtRow}
 use Rattle.gh_invariant.proofs.Counting.{count_push, count_same, count_unfound, find_push_new, find_push_other}
-use Rattle.gh_invariant.proofs.ChangedRow.{count_change_kept, find_change, find_past_change}
+use Rattle.gh_model.proofs.ChangedRows.{find_changed}
+use Rattle.gh_invariant.proofs.ChangedRow.{count_change_kept, find_past_change}
 
 -- what isn't found has no place
 pub unplaced : {R : Type 0} (p : R → Bool) (rows : List R) → find p rows ≡ None
@@ -80,7 +81,7 @@ module _ (rows : List SetAtRow) (cspace : Serial) (slot number : ℕ) where
   setting_is =
       each_setting (λ new. setting_number (find (tells_setting cspace.0 slot) new) ≡ number)
       (λ none. ap setting_number (find_push_new (tells_setting cspace.0 slot) rows (record { cspace = cspace; slot = slot; number = number }) none (grind (arith, nat_tests))))
-      (λ row is. ap setting_number (find_change (tells_setting cspace.0 slot) (with_number number) rows (λ one. refl)) ∙ ap (λ (o : Option SetAtRow). setting_number (option_map (with_number number) o)) is)
+      (λ row is. ap setting_number (find_changed (tells_setting cspace.0 slot) (with_number number) rows (λ one. refl)) ∙ ap (λ (o : Option SetAtRow). setting_number (option_map (with_number number) o)) is)
 
   -- another slot has what it had
   pub setting_other : (c n : ℕ) → ((cspace.0 == c) && (slot == n)) ≡ false

@@ -2,10 +2,11 @@
 use Rattle.std.proofs.Common.{◌≡◌, ◌+◌, ◌<◌, ◌∙◌, ℕ, refl, arith, Option, Some, None, IsTrue, find, is_some, ◌++◌, ◌∷◌, []}
 use Rattle.std.proofs.lemmas.Bool.{lt-ltb}
 use Rattle.gh_base.specs.declared.ids.Serial.{Serial}
-use Rattle.gh_model.specs.Changes.{changed, with_stage, with_counters, with_cost}
+use Rattle.gh_base.specs.declared.kind.Kind.TheVariants as kind
+use Rattle.gh_model.specs.Changes.{boot_object, changed, with_stage, with_counters, with_cost}
 use Rattle.gh_model.specs.Rows.{change_row, fills, is_object}
 use Rattle.gh_model.specs.declared.change.Change.{Change}
-use Rattle.gh_model.specs.declared.change.Change.TheVariants.{PutCapability, DropCapability, RevokeCapability, AddObject, SetStage, Retire, Reclaim, GiveQuota, AddExtent, MovePages, PutMapping, DropMapping, SetBell, ConfigureQueue, PutMessage, DropMessage, EmptyQueue, Exit, Ring}
+use Rattle.gh_model.specs.declared.change.Change.TheVariants.{PutCapability, DropCapability, RevokeCapability, AddObject, SetStage, Retire, Reclaim, GiveQuota, AddExtent, MovePages, PutMapping, DropMapping, SetBell, ConfigureQueue, PutMessage, DropMessage, EmptyQueue, Exit, Ring, SetPages, AddPartition, AddRoot, SetRoom, FillSlot, AddCpu, AddLink}
 use Rattle.gh_model.specs.declared.rows.CapabilityRow.{CapabilityRow}
 use Rattle.gh_model.specs.declared.rows.ObjectRow.{ObjectRow}
 use Rattle.gh_model.specs.declared.state.State.{State}
@@ -16,7 +17,7 @@ use Rattle.gh_invariant.proofs.Living.{lives_some, lives_made}
 use Rattle.gh_invariant.proofs.ObjectsFit.{KeepsPlace, lives_beside, lives_kept}
 use Rattle.gh_invariant.proofs.PartsKept.{stage_keeps, counters_keep, cost_keeps}
 use Rattle.gh_invariant.proofs.ReferencesLaw.{unreferenced}
-use Rattle.gh_invariant.proofs.SlotsFit.{slot_from, slots_live_on, put_keeps_slots, drop_keeps_slots, revoke_keeps_slots, reclaim_keeps_slots}
+use Rattle.gh_invariant.proofs.SlotsFit.{fill_keeps_slots, slot_from, slots_live_on, put_keeps_slots, drop_keeps_slots, revoke_keeps_slots, reclaim_keeps_slots}
 
 -- slots once a change is made
 abbrev pub SlotsStay : ℕ → State → Change → Type 0
@@ -92,3 +93,13 @@ module _ (last : ℕ) (s : State) (valid : IsValidTo last s) where
     slots_kept (EmptyQueue queue) may = valid.slots
     slots_kept (Exit cpu) may = valid.slots
     slots_kept Ring may = valid.slots
+    slots_kept (SetPages count) may = valid.slots
+    slots_kept (AddPartition quota) may =
+        slots_live_on s.next_serial (s.next_serial + 1) last s.objects (changed s (AddPartition quota)).objects s.caps s.set_at (omega arith)
+        (lives_beside s.objects (boot_object s kind.Partition s.next_serial 1)) valid.slots
+    slots_kept (AddRoot row) may = valid.slots
+    slots_kept (SetRoom queue depth size) may = valid.slots
+    slots_kept (FillSlot row) may =
+        fill_keeps_slots s.next_serial last s.objects s.caps s.set_at valid.slots row may.free may.master (put_fits row may)
+    slots_kept (AddCpu row) may = valid.slots
+    slots_kept (AddLink row) may = valid.slots

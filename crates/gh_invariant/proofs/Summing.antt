@@ -6,7 +6,8 @@ use Rattle.std.proofs.lemmas.List.Sums.{sum_by-cons}
 use Rattle.gh_model.specs.Changes.{without}
 use Rattle.gh_model.specs.QueueCalls.{one_if}
 use Rattle.gh_model.specs.Rows.{change_row}
-use Rattle.gh_invariant.proofs.Counting.{change_here, change_later, count_cons, find_here, find_later, one_true, without_here, without_later}
+use Rattle.gh_model.proofs.ChangedRows.{change_here, change_later}
+use Rattle.gh_invariant.proofs.Counting.{count_cons, find_here, find_later, one_true, without_here, without_later}
 use Rattle.gh_invariant.proofs.RowsLeft.{without_none}
 
 -- the number of a row that may be there

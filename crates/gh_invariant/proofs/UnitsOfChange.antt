@@ -1,21 +1,22 @@
 -- Each change moves just the units that it takes and returns.
-use Rattle.std.proofs.Common.{◌≡◌, ◌+◌, ◌≤◌, ℕ, Bool, true, false, [], refl, arith, Some, find}
+use Rattle.std.proofs.Common.{◌≡◌, ◌+◌, ◌≤◌, ℕ, Bool, true, false, [], ◌∷◌, ◌++◌, refl, arith, Some, find}
 use Rattle.std.specs.Prelude.{count_by}
-use Rattle.std.proofs.lemmas.List.Sums.{sum_by-append}
+use Rattle.std.proofs.lemmas.List.Sums.{sum_by-append, sum_by-cons, sum_by_push}
 use Rattle.gh_base.specs.declared.ids.Serial.{Serial}
 use Rattle.gh_base.specs.declared.kind.Kind.TheVariants as kind
-use Rattle.gh_model.specs.Changes.{changed, with_cost, with_counters, with_quota, with_stage}
+use Rattle.gh_model.specs.Changes.{boot_object, boot_partition, changed, serial_of, with_cost, with_counters, with_quota, with_stage}
 use Rattle.gh_model.specs.QueueCalls.{one_if}
 use Rattle.gh_model.specs.Rows.{is_object, is_partition, object_row}
 use Rattle.gh_model.specs.Units.{given_units, used_units}
 use Rattle.gh_model.specs.declared.change.Change.{Change}
-use Rattle.gh_model.specs.declared.change.Change.TheVariants.{PutCapability, DropCapability, RevokeCapability, AddObject, SetStage, Retire, Reclaim, GiveQuota, AddExtent, MovePages, PutMapping, DropMapping, SetBell, ConfigureQueue, PutMessage, DropMessage, EmptyQueue, Exit, Ring}
+use Rattle.gh_model.specs.declared.change.Change.TheVariants.{PutCapability, DropCapability, RevokeCapability, AddObject, SetStage, Retire, Reclaim, GiveQuota, AddExtent, MovePages, PutMapping, DropMapping, SetBell, ConfigureQueue, PutMessage, DropMessage, EmptyQueue, Exit, Ring, SetPages, AddPartition, AddRoot, SetRoom, FillSlot, AddCpu, AddLink}
 use Rattle.gh_model.specs.declared.rows.ObjectRow.{ObjectRow}
+use Rattle.gh_model.specs.declared.rows.PartitionRow.{PartitionRow}
 use Rattle.gh_model.specs.declared.state.State.{State}
-use Rattle.gh_invariant.specs.Effects.{cost_of, quota_of, returns, share_for, takes, units_of}
+use Rattle.gh_invariant.specs.Effects.{Share, cost_of, quota_of, returns, share_for, takes, units_of}
 use Rattle.gh_invariant.specs.Lives.{lives_as}
 use Rattle.gh_invariant.specs.Valid.{IsValidTo}
-use Rattle.gh_invariant.proofs.UnitsMoved.{cost_instead_share, cost_share, given_change, given_push, given_without, quota_instead_share, quota_share, used_change, used_kept, used_push, used_without}
+use Rattle.gh_invariant.proofs.UnitsMoved.{cost_instead_share, cost_share, given_change, given_push, given_sum, given_without, quota_in, quota_instead_share, quota_share, used_change, used_kept, used_push, used_without}
 
 one_at_most : (b : Bool) → one_if b ≤ 1
 one_at_most true = (let one : one_if true ≡ 1 = refl in omega arith)
@@ -71,6 +72,24 @@ configured s queue depth size cost partition =
       cost_instead_share partition cost (object_row s queue.0),
     )
 
+-- a partition of the boot costs itself a unit, and its quota is of no partition
+founded : (s : State) (quota partition : ℕ) → Moves s (AddPartition quota) partition
+founded s quota partition =
+    let object : ObjectRow = boot_object s kind.Partition s.next_serial 1 in
+    let row : PartitionRow = boot_partition s.next_serial quota in
+    let cost : Share = record { partition = serial_of s.next_serial; units = 1 } in
+    let given : Share = record { partition = serial_of 0; units = quota } in
+    let none : units_of partition [] ≡ 0 = refl in
+    omega (
+      arith,
+      used_push s.objects (boot_object s kind.Partition s.next_serial 1) partition,
+      given_sum (s.partitions ++ boot_partition s.next_serial quota ∷ []) partition,
+      given_sum s.partitions partition,
+      sum_by_push (quota_in partition) s.partitions (boot_partition s.next_serial quota),
+      sum_by-cons (share_for partition) cost (given ∷ []),
+      sum_by-cons (share_for partition) given [],
+    )
+
 reclaimed : (last : ℕ) (s : State) (object : Serial) (partition : ℕ) → IsValidTo last s
     → Moves s (Reclaim object) partition
 reclaimed last s object partition valid =
@@ -123,3 +142,10 @@ units_moved last s (DropMessage queue) partition valid = refl
 units_moved last s (EmptyQueue queue) partition valid = refl
 units_moved last s (Exit cpu) partition valid = refl
 units_moved last s Ring partition valid = refl
+units_moved last s (SetPages count) partition valid = refl
+units_moved last s (AddPartition quota) partition valid = founded s quota partition
+units_moved last s (AddRoot row) partition valid = refl
+units_moved last s (SetRoom queue depth size) partition valid = refl
+units_moved last s (FillSlot row) partition valid = refl
+units_moved last s (AddCpu row) partition valid = refl
+units_moved last s (AddLink row) partition valid = refl

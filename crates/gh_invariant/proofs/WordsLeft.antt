@@ -8,7 +8,7 @@ use Rattle.gh_model.specs.Changes.{changed, changed_all, as_revoked, is_in_cspac
 use Rattle.gh_model.specs.Rows.{fills, tells_setting}
 use Rattle.gh_model.specs.Word.{setting, setting_number, word_at, is_slot}
 use Rattle.gh_model.specs.declared.change.Change.{Change}
-use Rattle.gh_model.specs.declared.change.Change.TheVariants.{PutCapability, DropCapability, RevokeCapability, AddObject, SetStage, Retire, Reclaim, GiveQuota, AddExtent, MovePages, PutMapping, DropMapping, SetBell, ConfigureQueue, PutMessage, DropMessage, EmptyQueue, Exit, Ring}
+use Rattle.gh_model.specs.declared.change.Change.TheVariants.{PutCapability, DropCapability, RevokeCapability, AddObject, SetStage, Retire, Reclaim, GiveQuota, AddExtent, MovePages, PutMapping, DropMapping, SetBell, ConfigureQueue, PutMessage, DropMessage, EmptyQueue, Exit, Ring, SetPages, AddPartition, AddRoot, SetRoom, FillSlot, AddCpu, AddLink}
 use Rattle.gh_model.specs.declared.rows.CapabilityRow.{CapabilityRow}
 use Rattle.gh_model.specs.declared.rows.SetAtRow.{SetAtRow}
 use Rattle.gh_model.specs.declared.state.State.{State}
@@ -16,7 +16,8 @@ use Rattle.gh_model.specs.declared.word.Word.{Word}
 use Rattle.gh_invariant.specs.Effects.{sets_slot, leaves, leaves_in}
 use Rattle.gh_invariant.specs.Premises.{MayChange}
 use Rattle.gh_invariant.proofs.Counting.{find_push_other, find_push_new}
-use Rattle.gh_invariant.proofs.ChangedRow.{find_past_change, find_change}
+use Rattle.gh_model.proofs.ChangedRows.{find_changed}
+use Rattle.gh_invariant.proofs.ChangedRow.{find_past_change}
 use Rattle.gh_invariant.proofs.RowsLeft.{find_left, find_gone}
 use Rattle.gh_invariant.proofs.Settings.{setting_is, setting_other}
 
@@ -80,6 +81,14 @@ module _ (s : State) (cspace slot : ℕ) where
   slot_stays (EmptyQueue queue) left = record { capability = refl; setting = refl }
   slot_stays (Exit cpu) left = record { capability = refl; setting = refl }
   slot_stays Ring left = record { capability = refl; setting = refl }
+  slot_stays (SetPages count) left = record { capability = refl; setting = refl }
+  slot_stays (AddPartition quota) left = record { capability = refl; setting = refl }
+  slot_stays (AddRoot row) left = record { capability = refl; setting = refl }
+  slot_stays (SetRoom queue depth size) left = record { capability = refl; setting = refl }
+  slot_stays (FillSlot row) left =
+      record { capability = find_push_other (fills cspace slot) s.caps row (not-true _ left); setting = refl }
+  slot_stays (AddCpu row) left = record { capability = refl; setting = refl }
+  slot_stays (AddLink row) left = record { capability = refl; setting = refl }
 
 -- changes that leave a slot
 pub slot_stays_all : (s : State) (changes : List Change) (cspace slot : ℕ)
@@ -141,7 +150,7 @@ module _ (s : State) where
   revoke_sets : (home : Serial) (n : ℕ)
       → SlotSet s (changed s (RevokeCapability home n)) home.0 n (option_map as_revoked (find (fills home.0 n) s.caps))
   revoke_sets home n = record {
-    capability = find_change (fills home.0 n) as_revoked s.caps (λ row. refl);
+    capability = find_changed (fills home.0 n) as_revoked s.caps (λ row. refl);
     setting = setting_is s.set_at home n (s.entries + 1);
   }
 

@@ -2,7 +2,7 @@
 use Rattle.std.proofs.Common.{◌≡◌, ◌+◌, ◌<◌, ◌≤◌, ◌∙◌, ◌⊎◌, inl, inr, ℕ, zero, suc, Bool, true, false, not, List, [], ◌∷◌, length, Option, refl, subst, sym, ap, arith, IsTrue, Some, None, find, is_some, option_map, if◌then◌else◌}
 use Rattle.std.specs.Prelude.{◌&&◌, ◌||◌, ◌==◌}
 use Rattle.std.specs.List.{list_all, list_any}
-use Rattle.std.proofs.lemmas.Bool.{eqb-true}
+use Rattle.std.proofs.lemmas.Bool.{and_parts, eqb-true}
 use Rattle.gh_model.specs.Act.{counted}
 use Rattle.gh_model.specs.Changes.{changed, changed_all, without}
 use Rattle.gh_model.specs.Decide.{verdict}
@@ -19,19 +19,20 @@ use Rattle.gh_model.specs.declared.entry.Entry.TheVariants.{Acted, Part, Retired
 use Rattle.gh_model.specs.declared.rows.ObjectRow.{ObjectRow}
 use Rattle.gh_model.specs.declared.state.State.{State}
 use Rattle.gh_model.specs.declared.word.Word.{Word}
+use Rattle.gh_model.proofs.RoomLemmas.{changes_count}
 use Rattle.gh_invariant.specs.Effects.{leaves, sets_slot}
 use Rattle.gh_invariant.specs.Events.{EventFits, EventsFit, changes_of, judged_by}
 use Rattle.gh_invariant.specs.NamesLiving.{living_kind, row_kind}
 use Rattle.gh_invariant.specs.Premises.{MayChangeAll}
 use Rattle.gh_invariant.specs.Valid.{IsValid}
-use Rattle.gh_invariant.proofs.ChangesInOrder.{entries_stay_all}
-use Rattle.gh_invariant.proofs.EventWords.{event_may, event_numbers}
+use Rattle.gh_invariant.proofs.EventWords.{event_may, event_numbers, event_of_calls}
 use Rattle.gh_invariant.proofs.EventsKept.{event_valid}
 use Rattle.gh_invariant.proofs.FactLemmas.{event_leaves}
 use Rattle.gh_invariant.proofs.GrantsStay.{replay_kind}
 use Rattle.gh_invariant.proofs.HistoriesKept.{entry_rises, serial_rises}
 use Rattle.gh_invariant.proofs.KindsStay.{changes_kind, entry_objects}
 use Rattle.gh_invariant.proofs.RowsLeft.{find_gone}
+use Rattle.gh_invariant.proofs.SetsOne.{is_of_calls}
 
 -- an entry counts as one
 
@@ -39,7 +40,7 @@ decided_counts : (s : State) (decision : Decision)
     → (after_verdict s (verdict s decision)).entries ≡ s.entries + 1
 decided_counts s (Refuse errno) = refl
 decided_counts s Unfinished = refl
-decided_counts s (Make changes reply) = ap (λ (n : ℕ). n + 1) (entries_stay_all s changes)
+decided_counts s (Make changes reply) = ap (λ (n : ℕ). n + 1) (changes_count s changes).entries
 
 either_counts : (n : ℕ) (allowed : Bool) (new old : State) → new.entries ≡ n → old.entries ≡ n
     → (let after : State = if allowed then new else old in after).entries ≡ n
@@ -91,46 +92,47 @@ reclaim_touches : (s : State) (object space : ℕ) (left : Bool)
 reclaim_touches s object space left (inl stays) = inl stays
 reclaim_touches s object space left (inr gone) = inr (inr gone)
 
-touches : (s : State) (one : Change) (space slot : ℕ)
+touches : (s : State) (one : Change) (space slot : ℕ) → is_of_calls one ≡ true
     → Touches s (changed s one) (leaves space slot one) (sets_slot space slot one) space
-touches s (change.Reclaim object) space slot =
+touches s (change.Reclaim object) space slot calls =
     reclaim_touches s object.0 space (leaves space slot (change.Reclaim object))
     (by_reclaim s object.0 space (object.0 == space) refl)
-touches s (change.AddObject row) space slot =
+touches s (change.AddObject row) space slot calls =
     by_set s (changed s (change.AddObject row)) (sets_slot space slot (change.AddObject row)) space
-touches s (change.PutCapability row) space slot =
+touches s (change.PutCapability row) space slot calls =
     by_set s (changed s (change.PutCapability row)) (sets_slot space slot (change.PutCapability row)) space
-touches s (change.DropCapability cspace n) space slot =
+touches s (change.DropCapability cspace n) space slot calls =
     by_set s (changed s (change.DropCapability cspace n)) (sets_slot space slot (change.DropCapability cspace n)) space
-touches s (change.RevokeCapability cspace n) space slot =
+touches s (change.RevokeCapability cspace n) space slot calls =
     by_set s (changed s (change.RevokeCapability cspace n)) (sets_slot space slot (change.RevokeCapability cspace n)) space
-touches s (change.SetStage object stage) space slot =
+touches s (change.SetStage object stage) space slot calls =
     by_set s (changed s (change.SetStage object stage)) (sets_slot space slot (change.SetStage object stage)) space
-touches s (change.Retire object seen) space slot =
+touches s (change.Retire object seen) space slot calls =
     by_set s (changed s (change.Retire object seen)) (sets_slot space slot (change.Retire object seen)) space
-touches s (change.GiveQuota partition quota) space slot =
+touches s (change.GiveQuota partition quota) space slot calls =
     by_set s (changed s (change.GiveQuota partition quota)) (sets_slot space slot (change.GiveQuota partition quota)) space
-touches s (change.AddExtent row) space slot =
+touches s (change.AddExtent row) space slot calls =
     by_set s (changed s (change.AddExtent row)) (sets_slot space slot (change.AddExtent row)) space
-touches s (change.MovePages first count holder) space slot =
+touches s (change.MovePages first count holder) space slot calls =
     by_set s (changed s (change.MovePages first count holder)) (sets_slot space slot (change.MovePages first count holder)) space
-touches s (change.PutMapping row) space slot =
+touches s (change.PutMapping row) space slot calls =
     by_set s (changed s (change.PutMapping row)) (sets_slot space slot (change.PutMapping row)) space
-touches s (change.DropMapping row) space slot =
+touches s (change.DropMapping row) space slot calls =
     by_set s (changed s (change.DropMapping row)) (sets_slot space slot (change.DropMapping row)) space
-touches s (change.SetBell row) space slot =
+touches s (change.SetBell row) space slot calls =
     by_set s (changed s (change.SetBell row)) (sets_slot space slot (change.SetBell row)) space
-touches s (change.ConfigureQueue queue depth size cost) space slot =
+touches s (change.ConfigureQueue queue depth size cost) space slot calls =
     by_set s (changed s (change.ConfigureQueue queue depth size cost)) (sets_slot space slot (change.ConfigureQueue queue depth size cost)) space
-touches s (change.PutMessage queue message) space slot =
+touches s (change.PutMessage queue message) space slot calls =
     by_set s (changed s (change.PutMessage queue message)) (sets_slot space slot (change.PutMessage queue message)) space
-touches s (change.DropMessage queue) space slot =
+touches s (change.DropMessage queue) space slot calls =
     by_set s (changed s (change.DropMessage queue)) (sets_slot space slot (change.DropMessage queue)) space
-touches s (change.EmptyQueue queue) space slot =
+touches s (change.EmptyQueue queue) space slot calls =
     by_set s (changed s (change.EmptyQueue queue)) (sets_slot space slot (change.EmptyQueue queue)) space
-touches s (change.Exit cpu) space slot =
+touches s (change.Exit cpu) space slot calls =
     by_set s (changed s (change.Exit cpu)) (sets_slot space slot (change.Exit cpu)) space
-touches s change.Ring space slot = inl refl
+touches s change.Ring space slot calls = inl refl
+touches s _ space slot calls = absurd (let never : ⊥ = cc in never)
 
 -- changes in order
 
@@ -154,14 +156,16 @@ gone_stays old new space gone (inr same) = same ∙ gone
 
 -- of changes that don't all leave a slot one sets it, or its space lives no more behind them
 all_touch : (s : State) (changes : List Change) (space slot : ℕ) → space < s.next_serial
-    → MayChangeAll s changes → list_all (leaves space slot) changes ≡ false
+    → MayChangeAll s changes → IsTrue (list_all is_of_calls changes)
+    → list_all (leaves space slot) changes ≡ false
     → (list_any (sets_slot space slot) changes ≡ true) ⊎ IsGone (changed_all s changes) space
-all_touch s [] space slot made may left = absurd (let never : ⊥ = cc in never)
-all_touch s (one ∷ others) space slot made may left =
-    elim (touches s one space slot) as (λ _. (list_any (sets_slot space slot) (one ∷ others) ≡ true)
+all_touch s [] space slot made may calls left = absurd (let never : ⊥ = cc in never)
+all_touch s (one ∷ others) space slot made may calls left =
+    let both : (is_of_calls one ≡ true) × (list_all is_of_calls others ≡ true) = and_parts _ _ calls in
+    elim (touches s one space slot both.0) as (λ _. (list_any (sets_slot space slot) (one ∷ others) ≡ true)
     ⊎ IsGone (changed_all s (one ∷ others)) space) [
       | inl leaves_it ↦
-          elim (all_touch (changed s one) others space slot (rises s one space made) may.others
+          elim (all_touch (changed s one) others space slot (rises s one space made) may.others both.1
           (left_rest (leaves space slot one) (list_all (leaves space slot) others) leaves_it left))
           as (λ _. (list_any (sets_slot space slot) (one ∷ others) ≡ true)
           ⊎ IsGone (changed_all s (one ∷ others)) space) [
@@ -190,7 +194,7 @@ event_touches s event space slot valid fits made left =
     subst (λ (objects : List ObjectRow).
     (list_any (sets_slot space slot) (changes_of s event) ≡ true) ⊎ (living_kind objects space ≡ None))
     (sym (entry_objects s event event.entry))
-    (all_touch s (changes_of s event) space slot made (event_may s event valid fits) left)
+    (all_touch s (changes_of s event) space slot made (event_may s event valid fits) (event_of_calls s event) left)
 
 -- the word behind an event is that before it, where its setting isn't the event's
 event_stands : (s : State) (event : Event) (space slot : ℕ) (left : Bool) → IsValid s → EventFits s event

@@ -3,10 +3,10 @@
 -- or returns to them, and the slot that it sets.
 use Rattle.std.specs.Prelude.{◌==◌, ◌&&◌, not, ℕ, Bool, true, false, List, [], ◌∷◌, ◌++◌, Option, Some, None, find, count_by, is_some, sum_by, if◌then◌else◌, option_map}
 use Rattle.gh_base.specs.declared.ids.Serial.{Serial}
-use Rattle.gh_model.specs.Changes.{changed, as_revoked}
+use Rattle.gh_model.specs.Changes.{changed, as_revoked, serial_of}
 use Rattle.gh_model.specs.Rows.{object_row, cpu_row, is_partition, is_extent, fills}
 use Rattle.gh_model.specs.declared.change.Change.{Change}
-use Rattle.gh_model.specs.declared.change.Change.TheVariants.{PutCapability, DropCapability, RevokeCapability, AddObject, Reclaim, GiveQuota, ConfigureQueue, AddExtent, PutMapping, DropMapping, Exit}
+use Rattle.gh_model.specs.declared.change.Change.TheVariants.{PutCapability, DropCapability, RevokeCapability, AddObject, Reclaim, GiveQuota, ConfigureQueue, AddExtent, PutMapping, DropMapping, Exit, AddPartition, AddRoot, FillSlot, AddCpu, AddLink}
 use Rattle.gh_model.specs.declared.rows.ObjectRow.{ObjectRow}
 use Rattle.gh_model.specs.declared.rows.PartitionRow.{PartitionRow}
 use Rattle.gh_model.specs.declared.rows.ExtentRow.{ExtentRow}
@@ -55,12 +55,23 @@ abbrev pub attachments : Option CpuRow → List Serial
 attachments None = []
 attachments (Some row) = if row.exited then [] else row.cspace ∷ row.space ∷ []
 
--- the objects that a change gives a reference
+-- a link refers to its VM's address space
+abbrev pub space_named : Option CpuRow → List Serial
+space_named None = []
+space_named (Some row) = row.space ∷ []
+
+-- the objects that a change gives a reference. A partition of the boot is referred to by itself
 abbrev pub gains : State → Change → List Serial
 gains s (PutCapability row) = slot_names (Some row)
 gains s (AddObject row) = home_of row
 gains s (AddExtent row) = parent_of row
 gains s (PutMapping row) = row.space ∷ row.extent ∷ []
+gains s (AddPartition quota) = serial_of s.next_serial ∷ []
+gains s (AddRoot row) = parent_of row
+gains s (FillSlot row) = slot_names (Some row)
+gains s (AddCpu row) = attachments (Some row)
+gains s (AddLink row) =
+    space_named (cpu_row s row.vm.0) ++ row.extent ∷ row.request ∷ row.reply ∷ []
 gains s _ = []
 
 -- the objects that a change takes a reference from
@@ -111,12 +122,15 @@ abbrev pub quota_instead : ℕ → Option PartitionRow → List Share
 quota_instead quota None = []
 quota_instead quota (Some row) = record { partition = row.parent; units = quota } ∷ []
 
--- the units that a change takes from partitions
+-- the units that a change takes from partitions. Serial 0 stands for the giver of the boot's quotas
 abbrev pub takes : State → Change → List Share
 takes s (AddObject row) = cost_of (Some row)
 takes s (GiveQuota partition quota) =
     quota_instead quota (find (is_partition partition.0) s.partitions)
 takes s (ConfigureQueue queue depth size cost) = cost_instead cost (object_row s queue.0)
+takes s (AddPartition quota) =
+    record { partition = serial_of s.next_serial; units = 1 }
+    ∷ record { partition = serial_of 0; units = quota } ∷ []
 takes s _ = []
 
 -- the units that a change returns to partitions
@@ -136,7 +150,7 @@ abbrev pub returns_all : State → List Change → List Share
 returns_all s [] = []
 returns_all s (change ∷ changes) = returns s change ++ returns_all (changed s change) changes
 
--- the slot that a change sets, by its capability space and number
+-- the slot that a change sets by the next entry, by its capability space and number
 abbrev pub sets : Change → Option (ℕ × ℕ)
 sets (PutCapability row) = Some (row.cspace.0, row.slot)
 sets (DropCapability cspace slot) = Some (cspace.0, slot)
@@ -158,10 +172,11 @@ is_place cspace slot (Some place) = (place.0 == cspace) && (place.1 == slot)
 abbrev pub sets_slot : ℕ → ℕ → Change → Bool
 sets_slot cspace slot change = is_place cspace slot (sets change)
 
--- the change leaves the slot as it is: it sets another or none, and the slot's capability space
--- stays
+-- the change leaves the slot as it is: it sets or fills another or none, and the slot's capability
+-- space stays
 abbrev pub leaves : ℕ → ℕ → Change → Bool
 leaves cspace slot (Reclaim object) = not (object.0 == cspace)
+leaves cspace slot (FillSlot row) = not (fills cspace slot row)
 leaves cspace slot change = not (sets_slot cspace slot change)
 
 -- how many slots changes set

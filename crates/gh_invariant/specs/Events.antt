@@ -35,7 +35,8 @@ made_by (Make changes reply) = changes
 -- what the act of an event comes to
 abbrev pub judged_by : State → ℕ → Event → Decision
 judged_by s cpu event =
-    decision (has_moved s cpu event.call event.words) s cpu event.call event.bytes (grants_of event.call event.words)
+    decision (has_moved s cpu event.call event.words) s cpu event.call event.bytes
+    (grants_of event.call event.words)
 
 -- the changes of an entry: none where its state doesn't allow it
 abbrev pub entry_changes : State → Event → Entry → List Change
@@ -45,7 +46,8 @@ entry_changes s event (Acted cpu number) =
 entry_changes s event (Part cpu number space slot) =
     if may_part (find (fills space.0 slot) s.caps) then RevokeCapability space slot ∷ [] else []
 entry_changes s event (Retired serial seen) =
-    if is_doomed s serial.0 && is_unretired (object_row s serial.0) then Retire serial seen ∷ [] else []
+    if is_doomed s serial.0 && is_unretired (object_row s serial.0) then Retire serial seen ∷ []
+    else []
 entry_changes s event (Reclaimed serial seen) =
     if is_doomed s serial.0 && is_retired (object_row s serial.0) then Reclaim serial ∷ [] else []
 

@@ -1,5 +1,5 @@
--- What an act is given: a CPU that runs, a call of its shape, and its grants. And when the changes of
--- what it comes to may be made.
+-- What an act is given: a CPU that runs, a call of its shape, and its grants. And when the changes
+-- of what it comes to may be made.
 use Rattle.std.specs.Prelude.{◌≡◌, ◌&&◌, ◌||◌, not, ⊤, ℕ, Bool, true, false, List, [], ◌∷◌, Option, Some, None, IsTrue, nat_le}
 use Rattle.std.specs.List.{list_all}
 use Rattle.gh_base.specs.declared.call.Call.{Call}
@@ -36,8 +36,10 @@ abbrev pub is_running : Option CpuRow → Bool
 is_running None = false
 is_running (Some row) = not row.exited
 
--- an act that a call may make: its CPU runs, its registers have the call's shape, and it has its grants
-pub record MayAct (s : State) (cpu : ℕ) (call : Call) (bytes : ℕ) (grants : List Serial) : Type 0 where
+-- an act that a call may make: its CPU runs, its registers have the call's shape, and it has its
+-- grants
+pub record MayAct (s : State) (cpu : ℕ) (call : Call) (bytes : ℕ)
+    (grants : List Serial) : Type 0 where
   pub running : IsTrue (is_running (cpu_row s cpu))
   pub shape : first_of (shape_refusals call bytes) ≡ None
   pub granted : IsTrue (grants_stand s.objects (needs_of call) grants)

@@ -1,7 +1,9 @@
+pub mod BootChanges
 pub mod Effects
 pub mod Events
 pub mod NamesLiving
 pub mod Grants
 pub mod Lives
 pub mod Premises
+pub mod Taken
 pub mod Valid

@@ -12,8 +12,8 @@ use Rattle.gh_model.specs.declared.rows.ObjectRow.{ObjectRow}
 use Rattle.gh_model.specs.declared.state.State.{State}
 use Rattle.gh_invariant.specs.Lives.{lives_as, space_lives}
 
--- a valid capability's object lives, is of its kind, has a reference and isn't retired; its capability
--- space lives
+-- a valid capability's object lives, is of its kind, has a reference and isn't retired; its
+-- capability space lives
 pub record NamesLiving (s : State) (row : CapabilityRow) : Type 0 where
   pub object : IsTrue (lives_as s.objects row.serial.0 row.kind)
   pub home : IsTrue (lives_as s.objects row.cspace.0 kind.Cspace)

@@ -1,9 +1,9 @@
 -- When a change may be made: what the state before it must have, so that the state after it is
 -- valid and references change as the change tells.
-use Rattle.std.specs.Prelude.{◌≡◌, ◌+◌, ◌≤◌, ◌<◌, ℕ, true, false, List, [], ◌∷◌, length, Some, None, IsTrue, ⊤, find, is_some, count_by}
+use Rattle.std.specs.Prelude.{◌==◌, ◌≡◌, ◌+◌, ◌≤◌, ◌<◌, ℕ, true, false, List, [], ◌∷◌, length, Some, None, IsTrue, ⊤, find, is_some, count_by}
 use Rattle.gh_base.specs.declared.ids.Serial.{Serial}
 use Rattle.gh_base.specs.declared.kind.Kind.TheVariants as kind
-use Rattle.gh_base.specs.declared.limits.TheConstants.{MESSAGE_BYTES, PARTITION_UNITS, QUEUE_DEPTH}
+use Rattle.gh_base.specs.declared.limits.TheConstants.{MACHINE_PAGES, MESSAGE_BYTES, PARTITION_UNITS, QUEUE_DEPTH}
 use Rattle.gh_model.specs.Boot.{is_row_of, is_kind, is_master_of}
 use Rattle.gh_model.specs.Decisions.{is_init_stage}
 use Rattle.gh_model.specs.Changes.{changed, is_mapping}
@@ -11,19 +11,21 @@ use Rattle.gh_model.specs.History.{is_unretired, is_retired}
 use Rattle.gh_model.specs.MemoryCalls.{is_within_span}
 use Rattle.gh_model.specs.ObjectCalls.{is_full}
 use Rattle.gh_model.specs.References.{references}
-use Rattle.gh_model.specs.Rows.{object_row, is_partition, is_extent, is_queue, fills}
+use Rattle.gh_model.specs.Rows.{cpu_row, object_row, is_partition, is_extent, is_queue, fills}
 use Rattle.gh_model.specs.Units.{free_units}
 use Rattle.gh_model.specs.Word.{is_slot}
 use Rattle.gh_model.specs.declared.change.Change.{Change}
-use Rattle.gh_model.specs.declared.change.Change.TheVariants.{PutCapability, DropCapability, RevokeCapability, AddObject, SetStage, Retire, Reclaim, GiveQuota, AddExtent, MovePages, PutMapping, DropMapping, SetBell, ConfigureQueue, PutMessage, DropMessage, EmptyQueue, Exit, Ring}
+use Rattle.gh_model.specs.declared.change.Change.TheVariants.{PutCapability, DropCapability, RevokeCapability, AddObject, SetStage, Retire, Reclaim, GiveQuota, AddExtent, MovePages, PutMapping, DropMapping, SetBell, ConfigureQueue, PutMessage, DropMessage, EmptyQueue, Exit, Ring, SetPages, AddPartition, AddRoot, SetRoom, FillSlot, AddCpu, AddLink}
 use Rattle.gh_model.specs.declared.rows.ObjectRow.{ObjectRow}
 use Rattle.gh_model.specs.declared.rows.PartitionRow.{PartitionRow}
 use Rattle.gh_model.specs.declared.rows.ExtentRow.{ExtentRow}
 use Rattle.gh_model.specs.declared.rows.CapabilityRow.{CapabilityRow}
+use Rattle.gh_model.specs.declared.rows.CpuRow.{CpuRow}
+use Rattle.gh_model.specs.declared.rows.LinkRow.{LinkRow}
 use Rattle.gh_model.specs.declared.rows.MappingRow.{MappingRow}
 use Rattle.gh_model.specs.declared.rows.QueueRow.{QueueRow}
 use Rattle.gh_model.specs.declared.state.State.{State}
-use Rattle.gh_invariant.specs.Lives.{has_kind_rights, span_fits, mapping_stands, meets}
+use Rattle.gh_invariant.specs.Lives.{has_kind_rights, is_root, link_stands, mapping_stands, meets, span_fits}
 
 -- a reference may come to the object: it isn't retired
 abbrev pub MayRefer : State → ℕ → Type 0
@@ -132,6 +134,54 @@ pub record MayConfigure (s : State) (queue depth size cost : ℕ) : Type 0 where
   pub deep : depth ≤ QUEUE_DEPTH
   pub wide : size ≤ MESSAGE_BYTES
 
+-- there is no extent yet, and the pages are few
+pub record MaySetPages (s : State) (count : ℕ) : Type 0 where
+  pub none : s.extents ≡ []
+  pub few : count ≤ MACHINE_PAGES
+
+-- there is room for a partition, and its quota holds its own unit
+pub record MayAddPartition (s : State) (quota : ℕ) : Type 0 where
+  pub room : is_full s kind.Partition ≡ false
+  pub some : 1 ≤ quota
+  pub small : quota ≤ PARTITION_UNITS
+
+-- the extent lives and is no longer new, the machine has pages, and no extent has a span yet; the
+-- span is all pages
+pub record MayAddRoot (s : State) (row : ExtentRow) : Type 0 where
+  pub object : ObjectRow
+  pub lives : object_row s row.serial.0 ≡ Some object
+  pub kind : IsTrue (is_kind s row.serial.0 kind.Extent)
+  pub stage : is_init_stage object.stage ≡ false
+  pub pages : 0 < length s.holders
+  pub first : s.extents ≡ []
+  pub whole : IsTrue (is_root (length s.holders) row)
+  pub from_itself : MayRefer s row.serial.0
+
+-- the room is within a queue's limits
+pub record MaySetRoom (depth size : ℕ) : Type 0 where
+  pub deep : depth ≤ QUEUE_DEPTH
+  pub wide : size ≤ MESSAGE_BYTES
+
+-- the CPU is new and hasn't exited, and its spaces live
+pub record MayAttach (s : State) (row : CpuRow) : Type 0 where
+  pub new : cpu_row s row.cpu.0 ≡ None
+  pub runs : row.exited ≡ false
+  pub cspace : IsTrue (is_kind s row.cspace.0 kind.Cspace)
+  pub space : IsTrue (is_kind s row.space.0 kind.Space)
+  pub from_cspace : MayRefer s row.cspace.0
+  pub from_space : MayRefer s row.space.0
+
+-- what the link names lives, and its queues are two
+pub record MayLink (s : State) (row : LinkRow) : Type 0 where
+  pub cpu : CpuRow
+  pub found : cpu_row s row.vm.0 ≡ Some cpu
+  pub stands : IsTrue (link_stands s.objects s.cpus row)
+  pub apart : (row.request.0 == row.reply.0) ≡ false
+  pub from_space : MayRefer s cpu.space.0
+  pub from_extent : MayRefer s row.extent.0
+  pub from_request : MayRefer s row.request.0
+  pub from_reply : MayRefer s row.reply.0
+
 -- when a change may be made
 abbrev pub MayChange : State → Change → Type 0
 MayChange s (PutCapability row) = MayPut s row
@@ -153,6 +203,13 @@ MayChange s (DropMessage queue) = ⊤
 MayChange s (EmptyQueue queue) = ⊤
 MayChange s (Exit cpu) = ⊤
 MayChange s Ring = ⊤
+MayChange s (SetPages count) = MaySetPages s count
+MayChange s (AddPartition quota) = MayAddPartition s quota
+MayChange s (AddRoot row) = MayAddRoot s row
+MayChange s (SetRoom queue depth size) = MaySetRoom depth size
+MayChange s (FillSlot row) = MayPut s row
+MayChange s (AddCpu row) = MayAttach s row
+MayChange s (AddLink row) = MayLink s row
 
 -- changes in order, each in the state that those before it made
 pub record Together (First Others : Type 0) : Type 0 where

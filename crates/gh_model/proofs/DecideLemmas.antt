@@ -359,7 +359,7 @@ pub decided_room : (s : State) (moved : Bool) (cpu : ℕ) (call : Call) (bytes :
 decided_room s moved cpu call bytes grants made changes reply kept room is makes =
     let may : MayMake s changes = decided_changes s moved cpu call bytes grants made changes reply kept is makes in
     record {
-      entries = room;
+      entries = omega (arith, room);
       serials = omega (arith, may.serials, kept.serials, room);
       rings = omega (arith, may.rings, kept.rings, room);
     }

@@ -1,10 +1,10 @@
 -- Lines that fit keep the state fitting, and what follows for the code.
 use Rattle.std.proofs.Common.{◌≡◌, ◌==◌, ◌+◌, ◌-◌, ◌*◌, ◌<◌, ◌≤◌, ◌∙◌, ℕ, suc, get_or, drop-cons, Bool, true, false, List, [], ◌∷◌, ◌++◌, length, take, drop, filter, find, map, fold, refl, subst, sym, ap, arith, inl, inr, IsTrue, IsSome, Option, Some, None, cond, eqb, if◌then◌else◌}
-use Rattle.std.specs.Prelude.{count_by, sum_by, is_some, nat_lt, replicate}
+use Rattle.std.specs.Prelude.{count_by, sum_by, is_some, nat_le, nat_lt, replicate}
 use Rattle.std.specs.Option.{option_map_or, option_or}
-use Rattle.std.proofs.lemmas.Bool.{cases_Bool, cases_lt, eqb-true}
+use Rattle.std.proofs.lemmas.Bool.{cases_Bool, cases_lt, eqb-true, leb-true}
 use Rattle.std.proofs.lemmas.Bool.Decides.{nat_tests}
-use Rattle.std.proofs.lemmas.List.{length-append, length-take, length-drop, length-replicate, map-append}
+use Rattle.std.proofs.lemmas.List.{append-nil, length-append, length-take, length-drop, length-replicate, map-append}
 use Rattle.std.proofs.lemmas.List.Elements.{filter-append}
 use Rattle.std.proofs.lemmas.List.Folds.{find-append}
 use Rattle.std.proofs.lemmas.List.Sums.{sum_by-append, sum_by-cons}
@@ -22,7 +22,8 @@ use Rattle.gh_model.specs.declared.rows.ExtentRow.{ExtentRow}
 use Rattle.gh_model.specs.declared.rows.ObjectRow.{ObjectRow}
 use Rattle.gh_model.specs.declared.rows.PartitionRow.{PartitionRow}
 use Rattle.gh_model.specs.declared.state.State.{State}
-use Rattle.gh_model.specs.Boot.{after_line, boot_fits, boot_object, boot_state, empty_state, extent_fits, first_page, has_units, is_complete, is_vm, kind_count, line_fits, lines_fit, link_fits, move_pages, queue_cost, serial_of, vm_count, with_object}
+use Rattle.gh_model.specs.Boot.{after_line, boot_fits, boot_object, boot_state, empty_state, extent_fits, first_page, has_units, is_complete, is_vm, kind_count, line_fits, lines_fit, link_fits, move_pages, queue_cost, serial_of, vm_count}
+use Rattle.gh_model.specs.Changes.{moved_run}
 use Rattle.gh_model.specs.Fitting.{FitObjects, IsFitting, left_by, left_in, object_units, partitions_among, span_end}
 use Rattle.gh_model.specs.Rows.{cpu_row, is_cpu, is_extent, is_partition}
 use Rattle.gh_model.specs.Units.{free_units, given_by, is_given_by, lives_in, object_cost, partition_quota, row_quota, used_by}
@@ -156,13 +157,13 @@ module _ (s : State) (h : IsFitting s) where
         omega (arith, more, h.objects.left, h.objects.few, h.objects.serials)
 
     -- an object of another kind than a partition
-    object_more : (k : Kind) → cost ≤ object_units → kind_count (with_object s k partition cost) kind.Partition ≡ kind_count s kind.Partition + 0 → FitObjects (s.next_serial + 1) (s.objects ++ boot_object s k partition cost ∷ []) s.partitions
+    object_more : (k : Kind) → cost ≤ object_units → partitions_among (s.objects ++ boot_object s k partition cost ∷ []) ≡ partitions_among s.objects + 0 → FitObjects (s.next_serial + 1) (s.objects ++ boot_object s k partition cost ∷ []) (s.partitions ++ [])
     object_more k small other =
         let row : ObjectRow = boot_object s k partition cost in
         let longer : length (s.objects ++ boot_object s k partition cost ∷ []) ≡ length s.objects + 1 = length-append s.objects (row ∷ []) in
         let less : left_in (s.objects ++ boot_object s k partition cost ∷ []) s.partitions + 1 ≤ left_in s.objects s.partitions =
         sum_fewer (left_by (s.objects ++ boot_object s k partition cost ∷ [])) (left_by s.objects) (is_partition partition) s.partitions home.0 home.1 (left_less s.objects row) (λ one is. left_fewer s.objects row one some (omega (arith, units_within, some)) is) in
-        record {
+        subst (λ (partitions : List PartitionRow). FitObjects (s.next_serial + 1) (s.objects ++ boot_object s k partition cost ∷ []) partitions) (sym (append-nil s.partitions)) (record {
           serials = omega (arith, longer, h.objects.serials);
           rows = omega (arith, other, h.objects.rows);
           few = h.objects.few;
@@ -170,7 +171,7 @@ module _ (s : State) (h : IsFitting s) where
           given = h.objects.given;
           used = λ p. used_few s.objects row p small (h.objects.used p);
           left = omega (arith, longer, less, h.objects.left);
-        }
+        })
 
   -- a partition, which lives in itself
   partition_more : (quota : ℕ) → quota ≤ PARTITION_UNITS → kind_count s kind.Partition < PARTITIONS → FitObjects (s.next_serial + 1) (s.objects ++ boot_object s kind.Partition s.next_serial 1 ∷ []) (s.partitions ++ record { serial = serial_of s.next_serial; parent = serial_of 0; quota = quota } ∷ [])
@@ -217,6 +218,11 @@ moved_length first count holder holders within =
     let both : length (take first holders ++ replicate count holder) ≡ length (take first holders) + length (replicate count holder) = length-append (take first holders) (replicate count holder) in
     let all : length (move_pages first count holder holders) ≡ length (take first holders ++ replicate count holder) + length (drop (first + count) holders) = length-append (take first holders ++ replicate count holder) (drop (first + count) holders) in
     omega arith
+
+-- whether it is one of the machine or none
+pub moved_pages : (fits : Bool) (first count : ℕ) (holder : Serial) (holders : List Serial) → nat_le (first + count) (length holders) ≡ fits → length (if fits then move_pages first count holder holders else holders) ≡ length holders
+moved_pages true first count holder holders is = moved_length first count holder holders (leb-true (first + count) (length holders) is)
+moved_pages false first count holder holders is = refl
 
 -- a queue costs at most 17 units
 small_queue : (depth size : ℕ) → depth ≤ QUEUE_DEPTH → size ≤ MESSAGE_BYTES → queue_cost depth size ≤ object_units
@@ -308,8 +314,7 @@ line_fitting s (RootExtent partition) fits h =
     }
 line_fitting s (Extent partition parent offset count access held_offset held_count) fits h =
     let within : first_page s parent.0 + offset + count ≤ length s.holders = extent_within s partition parent offset count access held_offset held_count fits h in
-    let held : held_offset + held_count ≤ count = extent_held s partition parent offset count access held_offset held_count fits in
-    let same : length (move_pages (first_page s parent.0 + offset + held_offset) held_count (serial_of s.next_serial) s.holders) ≡ length s.holders = moved_length (first_page s parent.0 + offset + held_offset) held_count (serial_of s.next_serial) s.holders (omega (arith, within, held)) in
+    let same : length (moved_run (first_page s parent.0 + offset + held_offset) held_count (serial_of s.next_serial) s.holders) ≡ length s.holders = moved_pages (nat_le (first_page s parent.0 + offset + held_offset + held_count) (length s.holders)) (first_page s parent.0 + offset + held_offset) held_count (serial_of s.next_serial) s.holders refl in
     record {
       pages = omega (arith, same, h.pages);
       objects = object_more s h partition.0 1 (and-first _ _ (and-first _ _ fits)) (omega arith) kind.Extent (omega arith) (count_snoc (λ (row : ObjectRow). kind_number row.kind == kind_number kind.Partition) s.objects (boot_object s kind.Extent partition.0 1));

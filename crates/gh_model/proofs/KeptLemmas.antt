@@ -2,7 +2,7 @@
 use Rattle.std.proofs.Common.{◌≡◌, ◌+◌, ◌-◌, ◌<◌, ◌≤◌, ◌∙◌, ℕ, Bool, true, false, List, [], ◌∷◌, ◌++◌, Option, Some, None, find, length, nat_le, if◌then◌else◌, refl, subst, sym, arith, All}
 use Rattle.std.specs.Bool.{⊤}
 use Rattle.std.proofs.lemmas.Bool.{eqb-true, leb-true}
-use Rattle.std.proofs.lemmas.List.{append-nil, length-map}
+use Rattle.std.proofs.lemmas.List.{append-nil, length-map, length-replicate}
 use Rattle.std.proofs.lemmas.List.Elements.{All-append, All-cons, All-nil, All-push}
 use Rattle.std.proofs.lemmas.Option.{none-some, same_Some}
 use Rattle.gh_base.specs.declared.ids.Serial.{Serial}
@@ -10,16 +10,15 @@ use Rattle.gh_base.specs.declared.kind.Kind.{Kind}
 use Rattle.gh_base.specs.declared.kind.Kind.TheVariants as kind
 use Rattle.gh_base.specs.declared.limits.TheConstants.{PARTITION_UNITS}
 use Rattle.gh_model.specs.declared.change.Change.{Change}
-use Rattle.gh_model.specs.declared.change.Change.TheVariants.{PutCapability, DropCapability, RevokeCapability, AddObject, SetStage, Retire, Reclaim, GiveQuota, AddExtent, MovePages, PutMapping, DropMapping, SetBell, ConfigureQueue, PutMessage, DropMessage, EmptyQueue, Exit, Ring}
+use Rattle.gh_model.specs.declared.change.Change.TheVariants.{PutCapability, DropCapability, RevokeCapability, AddObject, SetStage, Retire, Reclaim, GiveQuota, AddExtent, MovePages, PutMapping, DropMapping, SetBell, ConfigureQueue, PutMessage, DropMessage, EmptyQueue, Exit, Ring, SetPages, AddPartition, AddRoot, SetRoom, FillSlot, AddCpu, AddLink}
 use Rattle.gh_model.specs.declared.rows.ObjectRow.{ObjectRow}
 use Rattle.gh_model.specs.declared.rows.PartitionRow.{PartitionRow}
 use Rattle.gh_model.specs.declared.state.State.{State}
-use Rattle.gh_model.specs.Boot.{move_pages}
-use Rattle.gh_model.specs.Changes.{changed, changed_all, given_back, extent_parent, new_partitions, with_cost, with_counters, with_quota, with_stage}
+use Rattle.gh_model.specs.Changes.{boot_object, boot_partition, changed, changed_all, given_back, serial_of, extent_parent, new_partitions, with_cost, with_counters, with_quota, with_stage}
 use Rattle.gh_model.specs.Rows.{change_row, is_object, is_partition, object_row}
 use Rattle.gh_model.specs.Small.{HasCost, IsSmall, IsSmallQuota}
 use Rattle.gh_model.specs.Units.{given_by, given_units, is_given_by, lives_in, object_cost, partition_quota, used_by, used_units}
-use Rattle.gh_model.proofs.FittingLemmas.{given_more, moved_length, used_more}
+use Rattle.gh_model.proofs.FittingLemmas.{given_more, moved_pages, used_more}
 use Rattle.gh_model.proofs.SumLemmas.{all_change, all_found, all_without, given_change, given_without, part, used_change, used_without}
 
 -- small sums and pages, small quotas, and objects that cost units
@@ -28,10 +27,13 @@ pub record AreSmall (s : State) : Type 0 where
   pub quotas : All IsSmallQuota s.partitions
   pub costs : All HasCost s.objects
 
--- what a change needs so that the sums stay small: only a new object, a quota and a queue's room
--- raise them
+-- what a change needs so that the sums stay small: only pages, a new object, a quota and a queue's
+-- room raise them
 abbrev pub IsModest : State → Change → Type 0
 IsModest s (AddObject row) = (used_units s row.partition.0 + row.cost < 65536) × (1 ≤ row.cost)
+IsModest s (SetPages count) = count < 65536
+IsModest s (AddPartition quota) =
+    (used_units s s.next_serial + 1 < 65536) × (quota ≤ PARTITION_UNITS) × ((p : ℕ) → given_units s p + quota < 65536)
 IsModest s (GiveQuota partition quota) =
     (quota ≤ PARTITION_UNITS)
     × ((row : PartitionRow) → find (is_partition partition.0) s.partitions ≡ Some row → given_units s row.parent.0 + quota < 65536)
@@ -181,10 +183,28 @@ reclaim_small s object h = record {
   costs = all_without HasCost (is_object object.0) s.objects h.costs;
 }
 
--- pages move
-moved_pages : (fits : Bool) (first count : ℕ) (holder : Serial) (holders : List Serial) → nat_le (first + count) (length holders) ≡ fits → length (if fits then move_pages first count holder holders else holders) ≡ length holders
-moved_pages true first count holder holders is = moved_length first count holder holders (leb-true (first + count) (length holders) is)
-moved_pages false first count holder holders is = refl
+-- the machine gets its pages
+pages_small : (s : State) (count : ℕ) → IsModest s (SetPages count) → AreSmall s → AreSmall (changed s (SetPages count))
+pages_small s count modest h = record {
+  small = record { used = h.small.used; given = h.small.given; pages = omega (arith, length-replicate count (serial_of 0), modest) };
+  quotas = h.quotas;
+  costs = h.costs;
+}
+
+-- a partition of the boot
+partition_small : (s : State) (quota : ℕ) → IsModest s (AddPartition quota) → AreSmall s → AreSmall (changed s (AddPartition quota))
+partition_small s quota modest h =
+    let object : ObjectRow = boot_object s kind.Partition s.next_serial 1 in
+    let row : PartitionRow = boot_partition s.next_serial quota in
+    record {
+      small = record {
+        used = λ p. omega (arith, used_more s.objects object p, used_here (lives_in p object) s.objects object p refl modest.0 (h.small.used p));
+        given = λ p. omega (arith, given_more s.partitions row p, modest.2 p);
+        pages = h.small.pages;
+      };
+      quotas = All-push IsSmallQuota s.partitions row h.quotas modest.1;
+      costs = All-push HasCost s.objects object h.costs (omega arith);
+    }
 
 -- a modest change keeps the sums small
 pub change_small : (s : State) (change : Change) → IsModest s change → AreSmall s → AreSmall (changed s change)
@@ -210,6 +230,14 @@ change_small s (DropMessage queue) modest h = same_small s (changed s (DropMessa
 change_small s (EmptyQueue queue) modest h = same_small s (changed s (EmptyQueue queue)) refl refl refl h
 change_small s (Exit cpu) modest h = same_small s (changed s (Exit cpu)) refl refl refl h
 change_small s Ring modest h = same_small s (changed s Ring) refl refl refl h
+change_small s (SetPages count) modest h = pages_small s count modest h
+change_small s (AddPartition quota) modest h = partition_small s quota modest h
+change_small s (AddRoot row) modest h =
+    same_small s (changed s (AddRoot row)) refl refl (length-replicate (length s.holders) row.serial) h
+change_small s (SetRoom queue depth size) modest h = same_small s (changed s (SetRoom queue depth size)) refl refl refl h
+change_small s (FillSlot row) modest h = same_small s (changed s (FillSlot row)) refl refl refl h
+change_small s (AddCpu row) modest h = same_small s (changed s (AddCpu row)) refl refl refl h
+change_small s (AddLink row) modest h = same_small s (changed s (AddLink row)) refl refl refl h
 
 -- each of the changes is modest when its turn comes
 abbrev pub AreModest : State → List Change → Type 0

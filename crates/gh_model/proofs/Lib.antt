@@ -9,6 +9,7 @@ pub mod Ends
 pub mod EntryLemmas
 pub mod FittingLemmas
 pub mod KeptLemmas
+pub mod LineRoom
 pub mod Looks
 pub mod NumeralLemmas
 pub mod PieceLemmas

@@ -1,5 +1,6 @@
 -- The states of boot files have few objects and partitions, and so small sums of units.
 use Rattle.std.proofs.Common.{◌≡◌, ◌+◌, ◌≤◌, List, [], ◌∷◌, IsTrue, All, fold, subst, sym, arith}
+use Rattle.std.proofs.lemmas.List.{append-nil}
 use Rattle.std.proofs.lemmas.List.Elements.{All-nil, All-push}
 use Rattle.gh_base.specs.declared.kind.Kind.TheVariants as kind
 use Rattle.gh_base.specs.declared.limits.TheConstants.{OBJECT_INDICES, PARTITION_UNITS}
@@ -32,12 +33,12 @@ line_units s (Partition quota) fits h = record {
   quotas = All-push IsSmallQuota s.partitions (record { serial = serial_of s.next_serial; parent = serial_of 0; quota = quota }) h.quotas (at_most quota PARTITION_UNITS (and-second _ _ (and-first _ _ fits)));
   costs = All-push HasCost s.objects (boot_object s kind.Partition s.next_serial 1) h.costs (omega arith);
 }
-line_units s (Cspace partition) fits h = record { quotas = h.quotas; costs = All-push HasCost s.objects (boot_object s kind.Cspace partition.0 4) h.costs (omega arith) }
-line_units s (Addrspace partition) fits h = record { quotas = h.quotas; costs = All-push HasCost s.objects (boot_object s kind.Space partition.0 4) h.costs (omega arith) }
-line_units s (Doorbell partition) fits h = record { quotas = h.quotas; costs = All-push HasCost s.objects (boot_object s kind.Bell partition.0 1) h.costs (omega arith) }
-line_units s (RootExtent partition) fits h = record { quotas = h.quotas; costs = All-push HasCost s.objects (boot_object s kind.Extent partition.0 1) h.costs (omega arith) }
-line_units s (Extent partition parent offset count access held_offset held_count) fits h = record { quotas = h.quotas; costs = All-push HasCost s.objects (boot_object s kind.Extent partition.0 1) h.costs (omega arith) }
-line_units s (Msgqueue partition depth size) fits h = record { quotas = h.quotas; costs = All-push HasCost s.objects (boot_object s kind.Queue partition.0 (queue_cost depth size)) h.costs (queue_some depth size) }
+line_units s (Cspace partition) fits h = record { quotas = rw append-nil h.quotas; costs = All-push HasCost s.objects (boot_object s kind.Cspace partition.0 4) h.costs (omega arith) }
+line_units s (Addrspace partition) fits h = record { quotas = rw append-nil h.quotas; costs = All-push HasCost s.objects (boot_object s kind.Space partition.0 4) h.costs (omega arith) }
+line_units s (Doorbell partition) fits h = record { quotas = rw append-nil h.quotas; costs = All-push HasCost s.objects (boot_object s kind.Bell partition.0 1) h.costs (omega arith) }
+line_units s (RootExtent partition) fits h = record { quotas = rw append-nil h.quotas; costs = All-push HasCost s.objects (boot_object s kind.Extent partition.0 1) h.costs (omega arith) }
+line_units s (Extent partition parent offset count access held_offset held_count) fits h = record { quotas = rw append-nil h.quotas; costs = All-push HasCost s.objects (boot_object s kind.Extent partition.0 1) h.costs (omega arith) }
+line_units s (Msgqueue partition depth size) fits h = record { quotas = rw append-nil h.quotas; costs = All-push HasCost s.objects (boot_object s kind.Queue partition.0 (queue_cost depth size)) h.costs (queue_some depth size) }
 line_units s (Map space extent base offset count access) fits h = record { quotas = h.quotas; costs = h.costs }
 line_units s (Cap cspace slot object rights master) fits h = record { quotas = h.quotas; costs = h.costs }
 line_units s (Vm cspace space) fits h = record { quotas = h.quotas; costs = h.costs }

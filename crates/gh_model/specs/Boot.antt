@@ -1,26 +1,28 @@
--- What a boot file makes: the state after its lines, and what each line must meet in the state
--- before it.
-use Rattle.std.specs.Prelude.{◌==◌, ◌&&◌, ◌||◌, ◌+◌, ◌*◌, ◌/◌, ℕ, Bool, true, false, not, List, [], ◌∷◌, ◌++◌, length, take, drop, Option, Some, None, find, fold, count_by, bit_and, nat_lt, nat_le, is_some}
+-- What a boot file makes: the changes that each line makes, the state after its lines, and what
+-- each line must meet in the state before it.
+use Rattle.std.specs.Prelude.{◌==◌, ◌&&◌, ◌||◌, ◌+◌, ◌*◌, ◌/◌, ℕ, Bool, true, false, not, List, [], ◌∷◌, length, take, drop, Option, Some, None, find, fold, count_by, bit_and, nat_lt, nat_le, is_some}
 use Rattle.std.specs.List.{list_any, list_all}
-use Rattle.std.specs.Prelude.{replicate}
 use Rattle.std.specs.Option.{option_map_or}
 use Rattle.gh_base.specs.Kind.{kind_number, kind_rights}
+use Rattle.gh_base.specs.declared.access.Access.{Access}
 use Rattle.gh_base.specs.declared.ids.Serial.{Serial}
-use Rattle.gh_base.specs.declared.limits.TheConstants.{CSPACES, FRAGMENT_BYTES, MACHINE_PAGES, MESSAGE_BYTES, NEW_BELL_ACK, NEW_BELL_ENABLE, NEW_BELL_FLAGS, PARTITIONS, PARTITION_UNITS, QUEUE_DEPTH, VMS}
+use Rattle.gh_base.specs.declared.limits.TheConstants.{CSPACES, FRAGMENT_BYTES, MACHINE_PAGES, MESSAGE_BYTES, PARTITIONS, PARTITION_UNITS, QUEUE_DEPTH, VMS}
 use Rattle.gh_base.specs.declared.kind.Kind.{Kind}
 use Rattle.gh_base.specs.declared.kind.Kind.TheVariants as kind
-use Rattle.gh_base.specs.declared.kind.Stage.TheVariants.{Active}
+use Rattle.gh_model.specs.declared.change.Change.{Change}
+use Rattle.gh_model.specs.declared.change.Change.TheVariants.{AddCpu, AddExtent, AddLink, AddObject, AddPartition, AddRoot, FillSlot, MovePages, PutMapping, SetPages, SetRoom}
 use Rattle.gh_model.specs.declared.boot_line.BootLine.{BootLine}
 use Rattle.gh_model.specs.declared.boot_line.BootLine.TheVariants.{Pages, Partition, Cspace, Addrspace, Doorbell, RootExtent, Extent, Msgqueue, Map, Cap, Vm, Rm, Link}
 use Rattle.gh_model.specs.declared.rows.ObjectRow.{ObjectRow}
 use Rattle.gh_model.specs.declared.rows.ExtentRow.{ExtentRow}
-use Rattle.gh_model.specs.declared.rows.BellRow.{BellRow}
 use Rattle.gh_model.specs.declared.rows.CapabilityRow.{CapabilityRow}
 use Rattle.gh_model.specs.declared.rows.MappingRow.{MappingRow}
 use Rattle.gh_model.specs.declared.rows.QueueRow.{QueueRow}
 use Rattle.gh_model.specs.declared.rows.CpuRow.{CpuRow}
 use Rattle.gh_model.specs.declared.rows.LinkRow.{LinkRow}
 use Rattle.gh_model.specs.declared.state.State.{State}
+pub use Rattle.gh_model.specs.Changes.{boot_object, move_pages, new_bell, serial_of}
+use Rattle.gh_model.specs.Changes.{changed_all}
 use Rattle.gh_model.specs.Rows.{object_row, is_object, is_extent, is_cpu, cpu_row, fills}
 use Rattle.gh_model.specs.Units.{free_units}
 
@@ -46,59 +48,7 @@ empty_state = record {
   taken = [];
 }
 
-abbrev pub serial_of : ℕ → Serial
-serial_of n = record { 0 = n }
-
--- what each line makes
-
--- an active object with the next serial
-abbrev pub boot_object : State → Kind → ℕ → ℕ → ObjectRow
-boot_object s k partition cost = record {
-  serial = serial_of s.next_serial;
-  kind = k;
-  partition = serial_of partition;
-  stage = Active;
-  cost = cost;
-  retired = None;
-}
-
-abbrev pub with_object : State → Kind → ℕ → ℕ → State
-with_object s k partition cost = record s {
-  objects = s.objects ++ boot_object s k partition cost ∷ [];
-  next_serial = s.next_serial + 1;
-}
-
--- a partition lives in itself, and its quota came from no other
-abbrev pub with_partition : State → ℕ → State
-with_partition s quota = record (with_object s kind.Partition s.next_serial 1) {
-  partitions = s.partitions ++ record { serial = serial_of s.next_serial; parent = serial_of 0; quota = quota } ∷ [];
-}
-
--- a doorbell begins without flags, with all of them enabled and none acknowledged by itself
-abbrev pub new_bell : Serial → BellRow
-new_bell serial = record {
-  serial = serial;
-  flags = NEW_BELL_FLAGS;
-  enable = NEW_BELL_ENABLE;
-  ack = NEW_BELL_ACK;
-}
-
-abbrev pub with_bell : State → ℕ → State
-with_bell s partition = record (with_object s kind.Bell partition 1) {
-  bells = s.bells ++ new_bell (serial_of s.next_serial) ∷ [];
-}
-
--- the root extent spans and holds all pages
-abbrev pub with_root : State → ℕ → State
-with_root s partition = record (with_object s kind.Extent partition 1) {
-  extents = s.extents ++ record { serial = serial_of s.next_serial; parent = serial_of 0; first = record { 0 = 0 }; count = length s.holders; access = record { 0 = 7 }; parcel = false } ∷ [];
-  holders = replicate (length s.holders) (serial_of s.next_serial);
-}
-
--- pages from a first one on change their holder
-abbrev pub move_pages : ℕ → ℕ → Serial → List Serial → List Serial
-move_pages first count holder holders =
-    take first holders ++ replicate count holder ++ drop (first + count) holders
+-- what each line reads of the state
 
 -- the first machine page of an extent's span
 abbrev pub span_first : List ExtentRow → ℕ → ℕ
@@ -108,25 +58,9 @@ span_first extents extent =
 abbrev pub first_page : State → ℕ → ℕ
 first_page s extent = span_first s.extents extent
 
-abbrev pub with_extent : State → ℕ → ℕ → ℕ → ℕ → ℕ → ℕ → ℕ → State
-with_extent s partition parent offset count access held_offset held_count =
-    record (with_object s kind.Extent partition 1) {
-      extents = s.extents ++ record { serial = serial_of s.next_serial; parent = serial_of parent; first = record { 0 = first_page s parent + offset }; count = count; access = record { 0 = access }; parcel = false } ∷ [];
-      holders = move_pages (first_page s parent + offset + held_offset) held_count (serial_of s.next_serial) s.holders;
-    }
-
 -- the units of a queue: one, and its messages' room in pages, rounded up
 abbrev pub queue_cost : ℕ → ℕ → ℕ
 queue_cost depth size = 1 + (depth * size + 4095) / 4096
-
-abbrev pub with_queue : State → ℕ → ℕ → ℕ → State
-with_queue s partition depth size =
-    record (with_object s kind.Queue partition (queue_cost depth size)) {
-      queues = s.queues ++ record { serial = serial_of s.next_serial; depth = depth; size = size; messages = [] } ∷ [];
-    }
-
-abbrev pub with_mapping : State → MappingRow → State
-with_mapping s row = record s { mappings = s.mappings ++ row ∷ [] }
 
 -- the kind of an object; a partition where there is none
 abbrev pub object_kind : List ObjectRow → ℕ → Kind
@@ -135,16 +69,6 @@ object_kind objects serial =
 
 abbrev pub kind_at : State → ℕ → Kind
 kind_at s serial = object_kind s.objects serial
-
-abbrev pub with_capability : State → ℕ → ℕ → ℕ → ℕ → Bool → State
-with_capability s cspace slot object rights master = record s {
-  caps = s.caps ++ record { cspace = serial_of cspace; slot = slot; serial = serial_of object; kind = kind_at s object; rights = record { 0 = rights }; master = master; valid = true } ∷ [];
-}
-
-abbrev pub with_cpu : State → ℕ → ℕ → ℕ → State
-with_cpu s cpu cspace space = record s {
-  cpus = s.cpus ++ record { cpu = record { 0 = cpu }; cspace = serial_of cspace; space = serial_of space; exited = false } ∷ [];
-}
 
 -- a CPU of a VM, and not the resource manager's
 abbrev pub is_vm : CpuRow → Bool
@@ -164,33 +88,118 @@ cpu_cspace cpus cpu = option_map_or (λ (row : CpuRow). row.cspace.0) (find (is_
 abbrev pub manager_cspace : State → ℕ
 manager_cspace s = cpu_cspace s.cpus 0
 
--- a link gives the resource manager the request queue to receive from, and the reply queue to send
--- to
-abbrev pub with_link : State → ℕ → ℕ → ℕ → ℕ → State
-with_link s vm extent request reply =
-    record (with_capability (with_capability s (manager_cspace s) (2 * vm) request 2 false) (manager_cspace s) (2 * vm + 1) reply 1 false) {
-      links = s.links ++ record { vm = record { 0 = vm }; extent = serial_of extent; request = serial_of request; reply = serial_of reply } ∷ [];
-    }
+-- what each line makes: the changes of the state, in order
 
--- the state after one more line
+-- the root extent spans all pages
+abbrev pub root_span : State → ExtentRow
+root_span s = record {
+  serial = serial_of s.next_serial;
+  parent = serial_of 0;
+  first = record { 0 = 0 };
+  count = length s.holders;
+  access = record { 0 = 7 };
+  parcel = false;
+}
+
+-- another extent spans pages of its parent's span
+abbrev pub child_span : State → ℕ → ℕ → ℕ → ℕ → ExtentRow
+child_span s parent offset count access = record {
+  serial = serial_of s.next_serial;
+  parent = serial_of parent;
+  first = record { 0 = first_page s parent + offset };
+  count = count;
+  access = record { 0 = access };
+  parcel = false;
+}
+
+-- a valid capability of an object's kind
+abbrev pub boot_capability : State → ℕ → ℕ → ℕ → ℕ → Bool → CapabilityRow
+boot_capability s cspace slot object rights master = record {
+  cspace = serial_of cspace;
+  slot = slot;
+  serial = serial_of object;
+  kind = kind_at s object;
+  rights = record { 0 = rights };
+  master = master;
+  valid = true;
+}
+
+-- a CPU that hasn't exited
+abbrev pub boot_cpu : ℕ → Serial → Serial → CpuRow
+boot_cpu cpu cspace space =
+    record { cpu = record { 0 = cpu }; cspace = cspace; space = space; exited = false }
+
+-- a row of the map call
+abbrev pub boot_mapping : Serial → Serial → ℕ → ℕ → ℕ → Access → MappingRow
+boot_mapping space extent base offset count access = record {
+  space = space;
+  extent = extent;
+  base = base;
+  offset = offset;
+  count = count;
+  access = access;
+  handle = 0;
+}
+
+-- an extent that isn't the root gets its span, and the pages that its parent hands over. A queue
+-- has its room at once. The resource manager's slot 1 names a partition. A link gives the manager
+-- the request queue to receive from, and the reply queue to send to
+abbrev pub changes_of_line : State → BootLine → List Change
+changes_of_line s (Pages count) = SetPages count ∷ []
+changes_of_line s (Partition quota) = AddPartition quota ∷ []
+changes_of_line s (Cspace partition) = AddObject (boot_object s kind.Cspace partition.0 4) ∷ []
+changes_of_line s (Addrspace partition) = AddObject (boot_object s kind.Space partition.0 4) ∷ []
+changes_of_line s (Doorbell partition) = AddObject (boot_object s kind.Bell partition.0 1) ∷ []
+changes_of_line s (RootExtent partition) =
+    AddObject (boot_object s kind.Extent partition.0 1) ∷ AddRoot (root_span s) ∷ []
+changes_of_line s (Extent partition parent offset count access held_offset held_count) =
+    AddObject (boot_object s kind.Extent partition.0 1)
+    ∷ AddExtent (child_span s parent.0 offset count access.0)
+    ∷ MovePages (first_page s parent.0 + offset + held_offset) held_count (serial_of s.next_serial)
+    ∷ []
+changes_of_line s (Msgqueue partition depth size) =
+    AddObject (boot_object s kind.Queue partition.0 (queue_cost depth size))
+    ∷ SetRoom (serial_of s.next_serial) depth size ∷ []
+changes_of_line s (Map space extent base offset count access) =
+    PutMapping (boot_mapping space extent base offset count access) ∷ []
+changes_of_line s (Cap cspace slot object rights master) =
+    FillSlot (boot_capability s cspace.0 slot object.0 rights.0 master) ∷ []
+changes_of_line s (Vm cspace space) = AddCpu (boot_cpu (vm_count s + 1) cspace space) ∷ []
+changes_of_line s (Rm cspace space partition) =
+    AddCpu (boot_cpu 0 cspace space)
+    ∷ FillSlot (boot_capability s cspace.0 1 partition.0 128 false) ∷ []
+changes_of_line s (Link vm extent request reply) =
+    FillSlot (boot_capability s (manager_cspace s) (2 * vm.0) request.0 2 false)
+    ∷ FillSlot (boot_capability s (manager_cspace s) (2 * vm.0 + 1) reply.0 1 false)
+    ∷ AddLink (record { vm = vm; extent = extent; request = request; reply = reply }) ∷ []
+
+-- the line makes an object
+abbrev pub makes_object : BootLine → Bool
+makes_object (Partition quota) = true
+makes_object (Cspace partition) = true
+makes_object (Addrspace partition) = true
+makes_object (Doorbell partition) = true
+makes_object (RootExtent partition) = true
+makes_object (Extent partition parent offset count access held_offset held_count) = true
+makes_object (Msgqueue partition depth size) = true
+makes_object _ = false
+
+-- the object is an extent
+abbrev pub makes_extent : BootLine → Bool
+makes_extent (RootExtent partition) = true
+makes_extent (Extent partition parent offset count access held_offset held_count) = true
+makes_extent _ = false
+
+-- the line attaches a CPU or links a VM
+abbrev pub makes_cpu : BootLine → Bool
+makes_cpu (Vm cspace space) = true
+makes_cpu (Rm cspace space partition) = true
+makes_cpu (Link vm extent request reply) = true
+makes_cpu _ = false
+
+-- the state after one more line: its changes are made, in order
 abbrev pub after_line : State → BootLine → State
-after_line s (Pages count) = record s { holders = replicate count (serial_of 0) }
-after_line s (Partition quota) = with_partition s quota
-after_line s (Cspace partition) = with_object s kind.Cspace partition.0 4
-after_line s (Addrspace partition) = with_object s kind.Space partition.0 4
-after_line s (Doorbell partition) = with_bell s partition.0
-after_line s (RootExtent partition) = with_root s partition.0
-after_line s (Extent partition parent offset count access held_offset held_count) =
-    with_extent s partition.0 parent.0 offset count access.0 held_offset held_count
-after_line s (Msgqueue partition depth size) = with_queue s partition.0 depth size
-after_line s (Map space extent base offset count access) =
-    with_mapping s (record { space = space; extent = extent; base = base; offset = offset; count = count; access = access; handle = 0 })
-after_line s (Cap cspace slot object rights master) =
-    with_capability s cspace.0 slot object.0 rights.0 master
-after_line s (Vm cspace space) = with_cpu s (vm_count s + 1) cspace.0 space.0
-after_line s (Rm cspace space partition) =
-    with_capability (with_cpu s 0 cspace.0 space.0) cspace.0 1 partition.0 128 false
-after_line s (Link vm extent request reply) = with_link s vm.0 extent.0 request.0 reply.0
+after_line s line = changed_all s (changes_of_line s line)
 
 -- the line of the resource manager
 abbrev pub is_manager_line : BootLine → Bool
@@ -238,7 +247,8 @@ all_held s extent first count =
 abbrev pub extent_fits : State → ℕ → ℕ → ℕ → ℕ → ℕ → ℕ → Option ExtentRow → Bool
 extent_fits s parent offset count access held_offset held_count None = false
 extent_fits s parent offset count access held_offset held_count (Some row) =
-    nat_le 1 count && nat_le (offset + count) row.count && is_access access && access_fits access row.access.0
+    nat_le 1 count && nat_le (offset + count) row.count && is_access access
+    && access_fits access row.access.0
     && all_held s parent (row.first.0 + offset + held_offset) held_count
 
 -- two runs of pages of one address space have a page in common
@@ -252,7 +262,8 @@ is_row_of space row = row.space.0 == space
 abbrev pub mapping_fits : State → ℕ → ℕ → ℕ → ℕ → ℕ → Option ExtentRow → Bool
 mapping_fits s space base offset count access None = false
 mapping_fits s space base offset count access (Some row) =
-    nat_le 1 count && is_access access && nat_le (base + count) 4096 && nat_le (offset + count) row.count
+    nat_le 1 count && is_access access && nat_le (base + count) 4096
+    && nat_le (offset + count) row.count
     && access_fits access row.access.0 && not (list_any (overlaps space base count) s.mappings)
     && nat_lt (count_by (is_row_of space) s.mappings) 64
 
@@ -294,7 +305,8 @@ vm_may_link s vm =
 abbrev pub queues_may_link : State → ℕ → ℕ → Bool
 queues_may_link s request reply =
     is_kind s request kind.Queue && is_kind s reply kind.Queue && not (request == reply)
-    && not (list_any (is_linked_queue request) s.links) && not (list_any (is_linked_queue reply) s.links)
+    && not (list_any (is_linked_queue request) s.links)
+    && not (list_any (is_linked_queue reply) s.links)
     && list_any (is_small_queue request) s.queues
 
 -- and the resource manager has two free slots for them
@@ -307,7 +319,8 @@ link_fits s vm extent request reply =
 abbrev pub line_fits : State → BootLine → Bool
 line_fits s (Pages count) = false
 line_fits s (Partition quota) =
-    nat_le 1 quota && nat_le quota PARTITION_UNITS && nat_lt (kind_count s kind.Partition) PARTITIONS
+    nat_le 1 quota && nat_le quota PARTITION_UNITS
+    && nat_lt (kind_count s kind.Partition) PARTITIONS
 line_fits s (Cspace partition) =
     has_units s partition.0 4 && nat_lt (kind_count s kind.Cspace) CSPACES
 line_fits s (Addrspace partition) = has_units s partition.0 4
@@ -315,14 +328,17 @@ line_fits s (Doorbell partition) = has_units s partition.0 1
 line_fits s (RootExtent partition) = has_units s partition.0 1 && (length s.extents == 0)
 line_fits s (Extent partition parent offset count access held_offset held_count) =
     has_units s partition.0 1 && nat_le (held_offset + held_count) count
-    && extent_fits s parent.0 offset count access.0 held_offset held_count (find (is_extent parent.0) s.extents)
+    && extent_fits s parent.0 offset count access.0 held_offset held_count
+    (find (is_extent parent.0) s.extents)
 line_fits s (Msgqueue partition depth size) =
     nat_le 1 depth && nat_le depth QUEUE_DEPTH && nat_le 1 size && nat_le size MESSAGE_BYTES
     && has_units s partition.0 (queue_cost depth size)
 line_fits s (Map space extent base offset count access) =
-    is_kind s space.0 kind.Space && mapping_fits s space.0 base offset count access.0 (find (is_extent extent.0) s.extents)
+    is_kind s space.0 kind.Space
+    && mapping_fits s space.0 base offset count access.0 (find (is_extent extent.0) s.extents)
 line_fits s (Cap cspace slot object rights master) =
-    is_kind s cspace.0 kind.Cspace && is_free_slot s cspace.0 slot && rights_fit_kind rights.0 (object_row s object.0)
+    is_kind s cspace.0 kind.Cspace && is_free_slot s cspace.0 slot
+    && rights_fit_kind rights.0 (object_row s object.0)
     && not (master && list_any (is_master_of object.0) s.caps)
 line_fits s (Vm cspace space) =
     may_attach s cspace.0 space.0 && nat_lt (vm_count s) VMS

@@ -1,13 +1,15 @@
--- The changes of the state that acts and the history's other entries are made of: what each makes
--- of the rows. All else stays.
-use Rattle.std.specs.Prelude.{◌==◌, ◌&&◌, ◌+◌, not, ℕ, Bool, true, false, List, [], ◌∷◌, ◌++◌, length, drop, Option, Some, None, fold, find, position, filter, map, nat_le, if◌then◌else◌}
+-- The changes of the state that boot lines, acts and the history's other entries are made of: what
+-- each makes of the rows. All else stays.
+use Rattle.std.specs.Prelude.{◌==◌, ◌&&◌, ◌+◌, not, ℕ, Bool, true, false, List, [], ◌∷◌, ◌++◌, length, take, drop, replicate, Option, Some, None, fold, find, position, filter, map, nat_le, if◌then◌else◌}
 use Rattle.std.specs.Option.{option_map_or}
 use Rattle.gh_base.specs.declared.ids.Serial.{Serial}
 use Rattle.gh_base.specs.declared.kind.Kind.{Kind}
 use Rattle.gh_base.specs.declared.kind.Kind.TheVariants as kind
 use Rattle.gh_base.specs.declared.kind.Stage.{Stage}
+use Rattle.gh_base.specs.declared.kind.Stage.TheVariants.{Active}
+use Rattle.gh_base.specs.declared.limits.TheConstants.{NEW_BELL_ACK, NEW_BELL_ENABLE, NEW_BELL_FLAGS}
 use Rattle.gh_model.specs.declared.change.Change.{Change}
-use Rattle.gh_model.specs.declared.change.Change.TheVariants.{PutCapability, DropCapability, RevokeCapability, AddObject, SetStage, Retire, Reclaim, GiveQuota, AddExtent, MovePages, PutMapping, DropMapping, SetBell, ConfigureQueue, PutMessage, DropMessage, EmptyQueue, Exit, Ring}
+use Rattle.gh_model.specs.declared.change.Change.TheVariants.{PutCapability, DropCapability, RevokeCapability, AddObject, SetStage, Retire, Reclaim, GiveQuota, AddExtent, MovePages, PutMapping, DropMapping, SetBell, ConfigureQueue, PutMessage, DropMessage, EmptyQueue, Exit, Ring, SetPages, AddPartition, AddRoot, SetRoom, FillSlot, AddCpu, AddLink}
 use Rattle.gh_model.specs.declared.rows.ObjectRow.{ObjectRow}
 use Rattle.gh_model.specs.declared.rows.PartitionRow.{PartitionRow}
 use Rattle.gh_model.specs.declared.rows.ExtentRow.{ExtentRow}
@@ -17,10 +19,13 @@ use Rattle.gh_model.specs.declared.rows.MappingRow.{MappingRow}
 use Rattle.gh_model.specs.declared.rows.BellRow.{BellRow}
 use Rattle.gh_model.specs.declared.rows.QueueRow.{QueueRow}
 use Rattle.gh_model.specs.declared.rows.CpuRow.{CpuRow}
+use Rattle.gh_model.specs.declared.rows.LinkRow.{LinkRow}
 use Rattle.gh_model.specs.declared.state.State.{State}
-use Rattle.gh_model.specs.Boot.{move_pages, new_bell}
 use Rattle.gh_model.specs.References.{is_mapping_of}
 use Rattle.gh_model.specs.Rows.{change_row, is_object, is_partition, is_extent, is_bell, is_queue, is_cpu, fills, tells_setting}
+
+abbrev pub serial_of : ℕ → Serial
+serial_of n = record { 0 = n }
 
 -- the rows that don't pass the test
 abbrev pub without : {R : Type 0} → (R → Bool) → List R → List R
@@ -33,8 +38,10 @@ abbrev pub with_number : ℕ → SetAtRow → SetAtRow
 with_number number row = record row { number = number }
 
 abbrev pub put_setting : List SetAtRow → Serial → ℕ → ℕ → Option ℕ → List SetAtRow
-put_setting rows cspace slot number None = rows ++ record { cspace = cspace; slot = slot; number = number } ∷ []
-put_setting rows cspace slot number (Some at) = change_row (tells_setting cspace.0 slot) (with_number number) rows
+put_setting rows cspace slot number None =
+    rows ++ record { cspace = cspace; slot = slot; number = number } ∷ []
+put_setting rows cspace slot number (Some at) =
+    change_row (tells_setting cspace.0 slot) (with_number number) rows
 
 abbrev pub with_setting : List SetAtRow → Serial → ℕ → ℕ → List SetAtRow
 with_setting rows cspace slot number =
@@ -64,12 +71,26 @@ revoke_capability cspace slot s = record s {
   set_at = with_setting s.set_at cspace slot (s.entries + 1);
 }
 
+-- a slot is filled before the first entry, and so without a setting
+abbrev pub fill_slot : CapabilityRow → State → State
+fill_slot row s = record s { caps = s.caps ++ row ∷ [] }
+
 -- objects
 
 -- a partition begins without a quota, one that its partition may give
 abbrev pub new_partitions : Kind → Serial → Serial → List PartitionRow
-new_partitions kind.Partition serial parent = record { serial = serial; parent = parent; quota = 0 } ∷ []
+new_partitions kind.Partition serial parent =
+    record { serial = serial; parent = parent; quota = 0 } ∷ []
 new_partitions _ serial parent = []
+
+-- a doorbell begins without flags, with all of them enabled and none acknowledged by itself
+abbrev pub new_bell : Serial → BellRow
+new_bell serial = record {
+  serial = serial;
+  flags = NEW_BELL_FLAGS;
+  enable = NEW_BELL_ENABLE;
+  ack = NEW_BELL_ACK;
+}
 
 abbrev pub new_bells : Kind → Serial → List BellRow
 new_bells kind.Bell serial = new_bell serial ∷ []
@@ -90,23 +111,49 @@ add_object row s = record s {
   next_serial = s.next_serial + 1;
 }
 
+-- an active object of the next serial
+abbrev pub boot_object : State → Kind → ℕ → ℕ → ObjectRow
+boot_object s k partition cost = record {
+  serial = serial_of s.next_serial;
+  kind = k;
+  partition = serial_of partition;
+  stage = Active;
+  cost = cost;
+  retired = None;
+}
+
+-- a boot partition lives in itself, and its quota came from no other
+abbrev pub boot_partition : ℕ → ℕ → PartitionRow
+boot_partition serial quota =
+    record { serial = serial_of serial; parent = serial_of 0; quota = quota }
+
+abbrev pub add_partition : ℕ → State → State
+add_partition quota s = record s {
+  objects = s.objects ++ boot_object s kind.Partition s.next_serial 1 ∷ [];
+  partitions = s.partitions ++ boot_partition s.next_serial quota ∷ [];
+  next_serial = s.next_serial + 1;
+}
+
 -- an object comes to another stage
 abbrev pub with_stage : Stage → ObjectRow → ObjectRow
 with_stage stage row = record row { stage = stage }
 
 abbrev pub set_stage : Serial → Stage → State → State
-set_stage object stage s = record s { objects = change_row (is_object object.0) (with_stage stage) s.objects }
+set_stage object stage s =
+    record s { objects = change_row (is_object object.0) (with_stage stage) s.objects }
 
 -- an object's row gets the counters of its retirement
 abbrev pub with_counters : List ℕ → ObjectRow → ObjectRow
 with_counters seen row = record row { retired = Some seen }
 
 abbrev pub retire_object : Serial → List ℕ → State → State
-retire_object object seen s = record s { objects = change_row (is_object object.0) (with_counters seen) s.objects }
+retire_object object seen s =
+    record s { objects = change_row (is_object object.0) (with_counters seen) s.objects }
 
 -- an extent's pages go to its parent
 abbrev pub extent_parent : List ExtentRow → ℕ → Serial
-extent_parent extents extent = option_map_or (λ (row : ExtentRow). row.parent) (find (is_extent extent) extents) (record { 0 = 0 })
+extent_parent extents extent =
+    option_map_or (λ (row : ExtentRow). row.parent) (find (is_extent extent) extents) (serial_of 0)
 
 abbrev pub given_back : ℕ → Serial → Serial → Serial
 given_back extent parent holder = if holder.0 == extent then parent else holder
@@ -145,10 +192,27 @@ give_quota partition quota s =
 abbrev pub add_extent : ExtentRow → State → State
 add_extent row s = record s { extents = s.extents ++ row ∷ [] }
 
+-- the machine gets its pages, which no extent holds yet
+abbrev pub set_pages : ℕ → State → State
+set_pages count s = record s { holders = replicate count (serial_of 0) }
+
+-- the root extent gets its span, and holds all pages
+abbrev pub add_root : ExtentRow → State → State
+add_root row s = record s {
+  extents = s.extents ++ row ∷ [];
+  holders = replicate (length s.holders) row.serial;
+}
+
+-- pages from a first one on change their holder
+abbrev pub move_pages : ℕ → ℕ → Serial → List Serial → List Serial
+move_pages first count holder holders =
+    take first holders ++ replicate count holder ++ drop (first + count) holders
+
 -- a run of pages of the machine changes its holder; there is no other run
 abbrev pub moved_run : ℕ → ℕ → Serial → List Serial → List Serial
 moved_run first count holder holders =
-    if nat_le (first + count) (length holders) then move_pages first count holder holders else holders
+    if nat_le (first + count) (length holders) then move_pages first count holder holders
+    else holders
 
 abbrev pub move_run : ℕ → ℕ → Serial → State → State
 move_run first count holder s = record s { holders = moved_run first count holder s.holders }
@@ -164,7 +228,10 @@ is_mapping space extent base offset count row =
 
 abbrev pub drop_mapping : MappingRow → State → State
 drop_mapping row s =
-    record s { mappings = without (is_mapping row.space.0 row.extent.0 row.base row.offset row.count) s.mappings }
+    record s {
+      mappings = without (is_mapping row.space.0 row.extent.0 row.base row.offset row.count)
+          s.mappings;
+    }
 
 -- doorbells and queues
 
@@ -176,6 +243,11 @@ set_bell row s = record s { bells = change_row (is_bell row.serial.0) (replaced 
 
 abbrev pub with_room : ℕ → ℕ → QueueRow → QueueRow
 with_room depth size row = record row { depth = depth; size = size; messages = [] }
+
+-- a queue gets its room, which its object's cost holds already
+abbrev pub set_room : Serial → ℕ → ℕ → State → State
+set_room queue depth size s =
+    record s { queues = change_row (is_queue queue.0) (with_room depth size) s.queues }
 
 abbrev pub with_cost : ℕ → ObjectRow → ObjectRow
 with_cost cost row = record row { cost = cost }
@@ -191,7 +263,8 @@ abbrev pub with_message : List ℕ → QueueRow → QueueRow
 with_message message row = record row { messages = row.messages ++ message ∷ [] }
 
 abbrev pub put_message : Serial → List ℕ → State → State
-put_message queue message s = record s { queues = change_row (is_queue queue.0) (with_message message) s.queues }
+put_message queue message s =
+    record s { queues = change_row (is_queue queue.0) (with_message message) s.queues }
 
 abbrev pub without_first : QueueRow → QueueRow
 without_first row = record row { messages = drop 1 row.messages }
@@ -213,6 +286,15 @@ as_exited row = record row { exited = true }
 abbrev pub exit_cpu : ℕ → State → State
 exit_cpu cpu s = record s { cpus = change_row (is_cpu cpu) as_exited s.cpus }
 
+-- a CPU is attached to its spaces
+abbrev pub add_cpu : CpuRow → State → State
+add_cpu row s = record s { cpus = s.cpus ++ row ∷ [] }
+
+-- a VM is linked to the resource manager
+abbrev pub add_link : LinkRow → State → State
+add_link row s = record s { links = s.links ++ row ∷ [] }
+
+-- the resource manager's bell rings once more
 abbrev pub ring : State → State
 ring s = record s { rings = s.rings + 1 }
 
@@ -237,6 +319,13 @@ changed s (DropMessage queue) = drop_message queue s
 changed s (EmptyQueue queue) = empty_queue queue s
 changed s (Exit cpu) = exit_cpu cpu.0 s
 changed s Ring = ring s
+changed s (SetPages count) = set_pages count s
+changed s (AddPartition quota) = add_partition quota s
+changed s (AddRoot row) = add_root row s
+changed s (SetRoom queue depth size) = set_room queue depth size s
+changed s (FillSlot row) = fill_slot row s
+changed s (AddCpu row) = add_cpu row s
+changed s (AddLink row) = add_link row s
 
 -- changes in order
 abbrev pub changed_all : State → List Change → State

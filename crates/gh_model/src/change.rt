@@ -1,6 +1,6 @@
-//! The changes of the state that acts and the history's other entries are made of.
+//! The changes of the state that boot lines, acts and the history's other entries are made of.
 
-use crate::rows::{BellRow, CapabilityRow, ExtentRow, MappingRow, ObjectRow};
+use crate::rows::{BellRow, CapabilityRow, CpuRow, ExtentRow, LinkRow, MappingRow, ObjectRow};
 use gh_base::{CpuNo, Errno, Reply, Sequence, Serial, Stage};
 
 /// One change of the rows. Pages, depths and units are numbers of them, sizes are in bytes.
@@ -91,6 +91,36 @@ pub enum Change {
     },
     /// The resource manager's bell rings.
     Ring,
+    /// The machine gets its pages, which no extent holds yet.
+    SetPages {
+        count: u16,
+    },
+    /// A partition of the next serial, which lives in itself, with a quota that no other gives.
+    AddPartition {
+        quota: u16,
+    },
+    /// The root extent gets its span, and holds all pages.
+    AddRoot {
+        row: ExtentRow,
+    },
+    /// A queue gets its depth and its size, which its cost holds already.
+    SetRoom {
+        queue: Serial,
+        depth: u16,
+        size: u16,
+    },
+    /// A free slot is filled before the first entry, so that no entry has set it.
+    FillSlot {
+        row: CapabilityRow,
+    },
+    /// A CPU is attached to its capability space and its address space.
+    AddCpu {
+        row: CpuRow,
+    },
+    /// A VM is linked to the resource manager.
+    AddLink {
+        row: LinkRow,
+    },
 }
 
 /// What an act comes to.

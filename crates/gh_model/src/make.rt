@@ -1,15 +1,16 @@
-//! The changes of an act, made on the rows in order.
+//! Changes of the state, made on the rows in order.
 
 ghost use Rattle.std.specs.Prelude.{◌≡◌, ◌∷◌, [], drop, false, true, OnOk, OnErr};
 ghost use Rattle.std.specs.List.{list_any};
 ghost use Rattle.gh_model.specs.Changes.{changed, changed_all};
 ghost use Rattle.gh_model.specs.Room.{HasRoom, takes_memory};
 
+use crate::boot_changes::{add_cpu, add_link, add_partition, add_root, fill_slot, set_pages};
 use crate::change::Change;
 use crate::object_changes::{add_object, give_quota, reclaim_object, retire_object, set_stage};
 use crate::page_changes::{add_extent, drop_mapping, move_pages, put_mapping};
 use crate::queue_changes::{
-    configure_queue, drop_message, empty_queue, exit_cpu, put_message, ring, set_bell,
+    configure_queue, drop_message, empty_queue, exit_cpu, put_message, ring, set_bell, set_room,
 };
 use crate::slots::{drop_capability, put_capability, revoke_capability};
 use crate::state::State;
@@ -27,7 +28,13 @@ fn takes_memory(change: &Change) -> bool
         | Change::AddObject { .. }
         | Change::AddExtent { .. }
         | Change::PutMapping { .. }
-        | Change::PutMessage { .. } => true,
+        | Change::PutMessage { .. }
+        | Change::SetPages { .. }
+        | Change::AddPartition { .. }
+        | Change::AddRoot { .. }
+        | Change::FillSlot { .. }
+        | Change::AddCpu { .. }
+        | Change::AddLink { .. } => true,
         _ => false,
     }
 }
@@ -60,6 +67,9 @@ fn make_free(alloc: Global, state: &mut State, change: Change)
         Change::EmptyQueue { queue } => empty_queue(alloc, &mut state.queues, queue),
         Change::Exit { cpu } => exit_cpu(state, cpu),
         Change::Ring => ring(state),
+        Change::SetRoom { queue, depth, size } => {
+            set_room(alloc, &mut state.queues, queue, depth, size)
+        }
         _ => unreachable!(),
     }
 }
@@ -79,6 +89,12 @@ pub(crate) fn make(alloc: Global, state: &mut State, change: Change) -> Result<(
         Change::AddExtent { row } => add_extent(state, row),
         Change::PutMapping { row } => put_mapping(state, row),
         Change::PutMessage { queue, message } => put_message(&mut state.queues, queue, message),
+        Change::SetPages { count } => set_pages(alloc, state, count),
+        Change::AddPartition { quota } => add_partition(state, quota),
+        Change::AddRoot { row } => add_root(state, row),
+        Change::FillSlot { row } => fill_slot(state, row),
+        Change::AddCpu { row } => add_cpu(state, row),
+        Change::AddLink { row } => add_link(state, row),
         other => {
             make_free(alloc, state, other);
             Ok(())
@@ -87,7 +103,11 @@ pub(crate) fn make(alloc: Global, state: &mut State, change: Change) -> Result<(
 }
 
 /// Changes in order. Without memory those before are made.
-fn make_each(alloc: Global, state: &mut State, changes: Sequence<Change>) -> Result<(), NoMemory>
+pub(crate) fn make_each(
+    alloc: Global,
+    state: &mut State,
+    changes: Sequence<Change>,
+) -> Result<(), NoMemory>
     requires { HasRoom state.old changes }
     ensures ok { OnOk result (state.new ≡ changed_all state.old changes) }
     ensures memory { OnErr result (list_any takes_memory changes ≡ true) }

@@ -1,13 +1,12 @@
 //! What the changes of extents, pages and mapping rows make of the rows.
 
-ghost use Rattle.std.specs.Prelude.{◌≡◌, OnOk, OnErr};
-ghost use Rattle.gh_model.specs.Changes.{add_extent as add_extent_of, drop_mapping as drop_mapping_of, move_run as move_run_of, put_mapping as put_mapping_of};
+ghost use Rattle.std.specs.Prelude.{◌≡◌, ◌+◌, ◌≤◌, length, OnOk, OnErr};
+ghost use Rattle.gh_model.specs.Changes.{add_extent as add_extent_of, drop_mapping as drop_mapping_of, move_pages as move_pages_of, move_run as move_run_of, put_mapping as put_mapping_of};
 
-use crate::boot::move_run;
 use crate::row_filter::unmap_row;
 use crate::rows::{ExtentRow, MappingRow};
 use crate::state::State;
-use gh_base::{NoMemory, Serial};
+use gh_base::{NoMemory, Sequence, Serial};
 use std::alloc::Global;
 
 /// An extent gets its span.
@@ -16,6 +15,16 @@ pub(crate) fn add_extent(state: &mut State, row: ExtentRow) -> Result<(), NoMemo
     ensures err { OnErr result (state.new ≡ state.old) }
 {
     state.extents.push(row)
+}
+
+/// Pages from a first one on change their holder.
+fn move_run(holders: &mut Sequence<Serial>, first: usize, count: usize, holder: Serial)
+    requires { first + count ≤ length holders.old }
+    ensures { holders.new ≡ move_pages_of first count holder holders.old }
+{
+    let pages = holders.as_mut_slice();
+    let run = &mut pages[first..first + count];
+    run.fill(holder);
 }
 
 /// A run of pages of the machine gets another holder.

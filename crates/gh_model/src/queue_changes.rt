@@ -40,7 +40,13 @@ fn give_room(alloc: Global, row: &mut QueueRow, depth: u16, size: u16)
 }
 
 /// A message queue gets its depth and its size.
-fn set_room(alloc: Global, queues: &mut Sequence<QueueRow>, queue: Serial, depth: u16, size: u16)
+pub(crate) fn set_room(
+    alloc: Global,
+    queues: &mut Sequence<QueueRow>,
+    queue: Serial,
+    depth: u16,
+    size: u16,
+)
     ensures { queues.new ≡ change_row (is_queue queue.0) (with_room depth size) queues.old }
 {
     if let Some(at) = queue_place(queues.as_slice(), queue) {

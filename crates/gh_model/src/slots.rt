@@ -1,7 +1,6 @@
 //! What the changes of slots make of the rows.
 
 ghost use Rattle.std.specs.Prelude.{◌≡◌, ◌+◌, ◌-◌, ◌<◌, ◌++◌, ◌∷◌, [], length, position, take, OnOk, OnErr};
-ghost use Rattle.gh_base.specs.declared.limits.TheConstants.{HISTORY_ENTRIES};
 ghost use Rattle.gh_model.specs.Changes.{as_revoked, drop_capability as drop_capability_of, put_capability as put_capability_of, revoke_capability as revoke_capability_of, with_setting};
 ghost use Rattle.gh_model.specs.Rows.{change_row, fills, tells_setting};
 
@@ -51,7 +50,7 @@ pub(crate) fn drop_last<T: Drop>(rows: &mut Sequence<T>)
 
 /// A slot is filled.
 pub(crate) fn put_capability(state: &mut State, row: CapabilityRow) -> Result<(), NoMemory>
-    requires { state.old.entries < HISTORY_ENTRIES }
+    requires { state.old.entries < 4294967295 }
     ensures ok { OnOk result (state.new ≡ put_capability_of row state.old) }
     ensures err { OnErr result (state.new ≡ state.old) }
 {
@@ -71,7 +70,7 @@ pub(crate) fn drop_capability(
     cspace: Serial,
     slot: u8,
 ) -> Result<(), NoMemory>
-    requires { state.old.entries < HISTORY_ENTRIES }
+    requires { state.old.entries < 4294967295 }
     ensures ok { OnOk result (state.new ≡ drop_capability_of cspace slot state.old) }
     ensures err { OnErr result (state.new ≡ state.old) }
 {
@@ -108,7 +107,7 @@ fn revoke_slot(caps: &mut Sequence<CapabilityRow>, cspace: Serial, slot: u8)
 
 /// A slot's capability is revoked.
 pub(crate) fn revoke_capability(state: &mut State, cspace: Serial, slot: u8) -> Result<(), NoMemory>
-    requires { state.old.entries < HISTORY_ENTRIES }
+    requires { state.old.entries < 4294967295 }
     ensures ok { OnOk result (state.new ≡ revoke_capability_of cspace slot state.old) }
     ensures err { OnErr result (state.new ≡ state.old) }
 {

@@ -1,12 +1,15 @@
--- The span of a fitting extent line lies in the machine, and a link's VM is one of the eight.
-use Rattle.gh_model.proofs.FittingLemmas.{extent_span, link_vm}
+-- A line's changes set no slot by an entry, ring no bell and give one serial at most.
+use Rattle.gh_model.proofs.LineRoom.{line_rings, line_serials, line_settings}
 use Rattle.gh_model.proofs.boot.add_line.Goals as goal
 
-pub add_extent-requires-clause-span : goal.add_extent-requires-clause-span
-add_extent-requires-clause-span c =
-    extent_span c.args.state.now c.args.line c.in-Extent.partition c.in-Extent.parent c.in-Extent.offset c.in-Extent.count
-    c.in-Extent.access c.in-Extent.held_offset c.in-Extent.held_count c.in-Extent.is c.requires.fits c.requires.fitting
+pub make_unnumbered-requires-clause-settings : goal.make_unnumbered-requires-clause-settings
+make_unnumbered-requires-clause-settings c =
+    line_settings c.args.state.now c.args.line _ c.in_ok-changes.ensures
 
-pub add_link-requires : goal.add_link-requires
-add_link-requires c =
-    link_vm c.args.state.now c.args.line c.in-Link.vm c.in-Link.extent c.in-Link.request c.in-Link.reply c.in-Link.is c.requires.fits c.requires.fitting
+pub make_unnumbered-requires-clause-serials : goal.make_unnumbered-requires-clause-serials
+make_unnumbered-requires-clause-serials c =
+    line_serials c.args.state.now c.args.line _ c.requires.fitting c.in_ok-changes.ensures
+
+pub make_unnumbered-requires-clause-rings : goal.make_unnumbered-requires-clause-rings
+make_unnumbered-requires-clause-rings c =
+    line_rings c.args.state.now c.args.line _ c.in_ok-changes.ensures
