@@ -6,6 +6,7 @@ use Rattle.std.proofs.lemmas.Bool.{and_from, eqb-true, or_parts}
 use Rattle.gh_model.specs.Act.{counted, grants_of}
 use Rattle.gh_model.specs.Changes.{changed, without}
 use Rattle.gh_model.specs.Decide.{has_moved}
+use Rattle.gh_model.specs.Decisions.{grant_at}
 use Rattle.gh_model.specs.History.{Event, after_entry, is_retired, is_unretired, may_act, may_part, numbered}
 use Rattle.gh_model.specs.QueueCalls.{one_if}
 use Rattle.gh_model.specs.References.{is_doomed}
@@ -52,11 +53,11 @@ left_all cspace slot (one ∷ others) keep unset =
     both false b is = absurd (let never : ⊥ = cc in never)
 
 -- an act reclaims nothing
-makes_keep : (s : State) (changes : List Change)
-    → IsTrue (list_all keeps_objects changes) ⊎ MakesOne s changes
+makes_keep : (s : State) (home : ℕ) (changes : List Change)
+    → IsTrue (list_all keeps_objects changes) ⊎ MakesOne s home changes
     → IsTrue (list_all keeps_spaces changes)
-makes_keep s changes (inl keep) = all_by keeps_objects keeps_spaces changes keeps_by keep
-makes_keep s changes (inr one) = rw one.is refl
+makes_keep s home changes (inl keep) = all_by keeps_objects keeps_spaces changes keeps_by keep
+makes_keep s home changes (inr one) = rw one.is refl
 
 if_keep : (allowed : Bool) (changes : List Change) → IsTrue (list_all keeps_spaces changes)
     → IsTrue (list_all keeps_spaces (if allowed then changes else []))
@@ -95,7 +96,7 @@ pub entry_left : (s : State) (event : Event) (entry : Entry) (cspace slot : ℕ)
     → IsTrue (list_all (leaves cspace slot) (entry_changes s event entry))
 entry_left s event (Acted cpu number) cspace slot unset alive =
     left_all cspace slot (entry_changes s event (Acted cpu number))
-    (if_keep (may_act s cpu.0 event.call event.words) (made_by (judged_by s cpu.0 event)) (makes_keep s (made_by (judged_by s cpu.0 event))
+    (if_keep (may_act s cpu.0 event.call event.words) (made_by (judged_by s cpu.0 event)) (makes_keep s (grant_at (grants_of event.call event.words) 1).0 (made_by (judged_by s cpu.0 event))
     (decision_sets s (has_moved s cpu.0 event.call event.words) cpu.0 event.call event.bytes (grants_of event.call event.words)).makes)) unset
 entry_left s event (Part cpu number space n) cspace slot unset alive =
     left_all cspace slot (entry_changes s event (Part cpu number space n))
@@ -138,7 +139,7 @@ pub setting_keeps : (s : State) (event : Event) (entry : Entry) (cspace slot : �
     → list_any (sets_slot cspace slot) (entry_changes s event entry) ≡ true
     → IsTrue (list_all keeps_spaces (entry_changes s event entry))
 setting_keeps s event (Acted cpu number) cspace slot set =
-    if_keep (may_act s cpu.0 event.call event.words) (made_by (judged_by s cpu.0 event)) (makes_keep s (made_by (judged_by s cpu.0 event))
+    if_keep (may_act s cpu.0 event.call event.words) (made_by (judged_by s cpu.0 event)) (makes_keep s (grant_at (grants_of event.call event.words) 1).0 (made_by (judged_by s cpu.0 event))
     (decision_sets s (has_moved s cpu.0 event.call event.words) cpu.0 event.call event.bytes (grants_of event.call event.words)).makes)
 setting_keeps s event (Part cpu number space n) cspace slot set =
     if_keep (may_part (find (fills space.0 n) s.caps)) (change.RevokeCapability space n ∷ []) refl
