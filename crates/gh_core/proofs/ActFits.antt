@@ -1,6 +1,6 @@
 -- The act of a call that fits the present state fits it: its CPU runs, its registers have the
--- call's shape, and its grants stand.
-use Rattle.std.proofs.Common.{◌≡◌, ◌==◌, ◌-◌, ◌%◌, ◌^◌, ◌≤◌, ◌∙◌, inl, inr, ℕ, suc, Bool, true, false, not, List, [], ◌∷◌, length, take, refl, subst, sym, ap, arith, Option, Some, None, find, IsTrue, is_some, if◌then◌else◌}
+-- call's shape, and its grants stand. What they name was made.
+use Rattle.std.proofs.Common.{◌≡◌, ◌==◌, ◌-◌, ◌%◌, ◌^◌, ◌≤◌, ◌<◌, ◌∙◌, inl, inr, ℕ, zero, suc, Bool, true, false, not, List, [], ◌∷◌, length, take, refl, subst, sym, ap, arith, Option, Some, None, find, IsTrue, is_some, if◌then◌else◌}
 use Rattle.std.specs.Prelude.{◌&&◌, ◌||◌, Result, Ok, Err, map, slice_get, slice_index, option_map}
 use Rattle.std.specs.List.{list_all, list_any}
 use Rattle.std.proofs.lemmas.Bool.{and_from, eqb-true}
@@ -20,6 +20,7 @@ use Rattle.gh_invariant.proofs.KindsStay.{KindStays}
 use Rattle.gh_invariant.proofs.SetsOne.{may_exit}
 use Rattle.gh_model.specs.Act.{granted}
 use Rattle.gh_model.specs.Boot.{is_of_kind}
+use Rattle.gh_model.specs.Decisions.{grant_at}
 use Rattle.gh_model.specs.Marks.{Grants, Outcome, Seen, on_grant, outcome, word_of}
 use Rattle.gh_model.specs.Program.{is_exit}
 use Rattle.gh_model.specs.Registers.{Function, breaks_zero, built, call_of, first_of, function_number, functions, read_function, shape_of, shape_refusals, shaped}
@@ -172,6 +173,27 @@ grants_fit_all s (need ∷ needs) (one ∷ seen) came found =
     and_from (grant_fits s.objects (granted one.word) need.1.kind) (grants_stand s.objects needs (map granted (take (length needs) (map word_of seen))))
     (grant_stands s one.word need.1 parts.0 (found 0 one refl))
     (grants_fit_all s needs seen parts.1 (λ i other there. found (suc i) other there))
+
+-- what the looks granted was made
+
+granted_made : (s : State) (word : Word) (need : Need) → IsGrant word need → IsFound s word
+    → (granted word).0 < s.next_serial
+granted_made s word need grant found =
+    let names : StillNames s grant.row = found grant.row grant.holds grant.valid in
+    subst (λ (row : Option CapabilityRow). (granted (record { row = row; set_at = word.set_at })).0 < s.next_serial) (sym grant.holds) names.made
+
+pub grants_made : (s : State) (needs : List (ℕ × Need)) (seen : List Seen)
+    → outcome needs (map word_of seen) ≡ Grants
+    → ((i : ℕ) (one : Seen) → slice_get seen i ≡ Some one → IsFound s one.word)
+    → 0 < s.next_serial → (place : ℕ)
+    → (grant_at (map granted (take (length needs) (map word_of seen))) place).0 < s.next_serial
+grants_made s [] seen came found some place = some
+grants_made s (need ∷ needs) [] came found some place = absurd (let never : ⊥ = cc in never)
+grants_made s (need ∷ needs) (one ∷ seen) came found some zero =
+    granted_made s one.word need.1 (grants_on (look_reply one.word need.1) (outcome needs (map word_of seen)) one.word need.1 refl came).0 (found 0 one refl)
+grants_made s (need ∷ needs) (one ∷ seen) came found some (suc place) =
+    grants_made s needs seen (grants_on (look_reply one.word need.1) (outcome needs (map word_of seen)) one.word need.1 refl came).1
+    (λ i other there. found (suc i) other there) some place
 
 -- what a grant names behind an event
 

@@ -8,6 +8,7 @@ use Rattle.std.proofs.lemmas.Bool.Decides.{nat_tests}
 use Rattle.gh_model.specs.Act.{counted}
 use Rattle.gh_model.specs.Changes.{changed, changed_all, with_cost, with_counters, with_stage, without}
 use Rattle.gh_model.specs.Decide.{verdict}
+use Rattle.gh_model.specs.Decisions.{grant_at}
 use Rattle.gh_model.specs.History.{Event, after_entry, after_event, after_verdict, is_retired, is_unretired, may_act, may_part, numbered}
 use Rattle.gh_model.specs.References.{is_doomed}
 use Rattle.gh_model.specs.Rows.{change_row, fills, is_object, object_row}
@@ -74,7 +75,7 @@ recast : (test : ObjectRow → Bool) (one : ObjectRow → ObjectRow) (objects : 
 recast test one objects serial serials counters =
     find_change_seen (option_map counters_of) (is_object serial) test one objects serials (λ row. ap Some (counters row))
 
-change_life : (s : State) (one : Change) (serial : ℕ) → keeps_objects one ≡ true
+pub change_life : (s : State) (one : Change) (serial : ℕ) → keeps_objects one ≡ true
     → life (changed s one).objects serial ≡ life s.objects serial
 change_life s (change.AddObject row) serial keeps = absurd (let never : ⊥ = cc in never)
 change_life s (change.Retire object seen) serial keeps = absurd (let never : ⊥ = cc in never)
@@ -141,10 +142,10 @@ one_goes s row cap serial (inl same) = inl same
 one_goes s row cap serial (inr new) =
     inr (record { next = new.0; born = new.1; rises = refl; one_slot = refl })
 
-made_goes : (s : State) (changes : List Change) (serial : ℕ)
-    → IsTrue (list_all keeps_objects changes) ⊎ MakesOne s changes → MadeBy s changes serial
-made_goes s changes serial (inl keep) = inl (changes_life s changes serial keep)
-made_goes s changes serial (inr one) =
+made_goes : (s : State) (changes : List Change) (home serial : ℕ)
+    → IsTrue (list_all keeps_objects changes) ⊎ MakesOne s home changes → MadeBy s changes serial
+made_goes s changes home serial (inl keep) = inl (changes_life s changes serial keep)
+made_goes s changes home serial (inr one) =
     subst (λ (made : List Change). MadeBy s made serial) (sym one.is) (one_goes s one.row one.cap serial
     (push_by s one.row serial one.serial one.unretired (one.row.serial.0 == serial) refl (find (is_object serial) s.objects) refl))
 
@@ -155,14 +156,14 @@ behind s allowed decision =
 abbrev allowed_changes : Bool → Decision → List Change
 allowed_changes allowed decision = if allowed then made_by decision else []
 
-acted_goes : (s : State) (allowed : Bool) (decision : Decision) (serial : ℕ)
-    → IsTrue (list_all keeps_objects (made_by decision)) ⊎ MakesOne s (made_by decision)
+acted_goes : (s : State) (allowed : Bool) (decision : Decision) (home serial : ℕ)
+    → IsTrue (list_all keeps_objects (made_by decision)) ⊎ MakesOne s home (made_by decision)
     → (life (behind s allowed decision).objects serial ≡ life s.objects serial)
     ⊎ IsMade s (behind s allowed decision) (allowed_changes allowed decision) serial
-acted_goes s false decision serial makes = inl refl
-acted_goes s true (Refuse errno) serial makes = inl refl
-acted_goes s true Unfinished serial makes = inl refl
-acted_goes s true (Make changes reply) serial makes = made_goes s changes serial makes
+acted_goes s false decision home serial makes = inl refl
+acted_goes s true (Refuse errno) home serial makes = inl refl
+acted_goes s true Unfinished home serial makes = inl refl
+acted_goes s true (Make changes reply) home serial makes = made_goes s changes home serial makes
 
 -- other entries
 
@@ -224,8 +225,8 @@ reclaimed_goes s new true true gone serial is (inr that) =
 entry_goes : (s : State) (event : Event) (entry : Entry) (serial : ℕ)
     → Goes s (after_entry s event entry) event entry serial
 entry_goes s event (Acted cpu number) serial =
-    acted_goes s (may_act s cpu.0 event.call event.words) (judged_by s cpu.0 event) serial
-    (judged_sets s cpu.0 event).makes
+    acted_goes s (may_act s cpu.0 event.call event.words) (judged_by s cpu.0 event)
+    (grant_at (grants_of event.call event.words) 1).0 serial (judged_sets s cpu.0 event).makes
 entry_goes s event (Part cpu number space slot) serial =
     inl (parted_goes s _ (may_part (find (fills space.0 slot) s.caps)) serial refl)
 entry_goes s event (Retired retired seen) serial =

@@ -47,6 +47,7 @@ pub mod Places
 pub mod RetiredSince
 pub mod ReviveKeeps
 pub mod SetCapWords
+pub mod SlotHomes
 pub mod SlotsCame
 pub mod SlotsLeft
 pub mod StartCalls

@@ -1,5 +1,4 @@
--- An entry that sets a slot leaves the capability words those of the present state, where the slot's
--- capability space lives.
+-- An entry that sets a slot leaves the capability words those of the present state.
 use Rattle.std.proofs.Common.{◌≡◌, ◌<◌, ◌≤◌, ◌∙◌, ◌⊎◌, inl, inr, ℕ, Bool, true, false, [], ◌∷◌, ◌++◌, refl, subst, sym, ap, arith, Option, Some, None, find, if◌then◌else◌}
 use Rattle.std.specs.Prelude.{◌&&◌, ◌==◌, option_map}
 use Rattle.std.specs.List.{list_any}
@@ -42,6 +41,7 @@ use Rattle.gh_core.proofs.EntryMoves.{indices_of, with_log}
 use Rattle.gh_core.proofs.EventObjects.{Goes, event_goes}
 use Rattle.gh_core.proofs.Finding.{put_here, put_other}
 use Rattle.gh_core.proofs.LookKeeps.{OfSlot, of_slot, set_within}
+use Rattle.gh_core.proofs.SlotHomes.{set_cap_home}
 use Rattle.gh_core.proofs.SlotsCame.{HasCap, entry_came}
 use Rattle.gh_core.proofs.SlotsLeft.{other_set}
 use Rattle.gh_core.proofs.ValidEntries.{event_fits}
@@ -92,8 +92,7 @@ word_row s cspace slot row names is = rw names is
 module _ (conf : Config) (at : ℕ) (entry : Entry) (space slot : ℕ) (word : CapWord)
     (sound : HasReferences conf) (state : HasState conf) (fit : HasValid conf)
     (words : ShowsWords conf) (may : MaySetCap conf at entry space slot word)
-    (room : (next_state conf may.call entry).entries < settings)
-    (home : lives (present conf).objects may.cspace ≡ true) where
+    (room : (next_state conf may.call entry).entries < settings) where
   abbrev Now : State
   Now = next_state conf may.call entry
 
@@ -131,6 +130,9 @@ module _ (conf : Config) (at : ℕ) (entry : Entry) (space slot : ℕ) (word : C
       (indices_of (with_log conf (conf.history ++ Made ∷ []) Later Turn (put_word conf.cap space slot word))
       (entry_keeps conf at entry may.holder may.call Later may.allows (set_fits conf at entry space slot word state may) state (put_word conf.cap space slot word) sound (setting_spares conf Made entry may.one_slot) may.covers)
       behind.within)
+
+  home : lives (present conf).objects may.cspace ≡ true
+  home = set_cap_home conf at entry space slot word fit may
 
   home_on : lives Now.objects may.cspace ≡ true
   home_on =

@@ -5,6 +5,7 @@ use Rattle.std.specs.List.{list_all, list_any}
 use Rattle.std.proofs.lemmas.Bool.{and_from, and_parts, eqb-true, or_parts}
 use Rattle.gh_model.specs.Act.{counted}
 use Rattle.gh_model.specs.Changes.{changed, without}
+use Rattle.gh_model.specs.Decisions.{grant_at}
 use Rattle.gh_model.specs.History.{Event, after_entry, is_retired, is_unretired, may_act, may_part, numbered}
 use Rattle.gh_model.specs.QueueCalls.{one_if}
 use Rattle.gh_model.specs.References.{is_doomed}
@@ -65,17 +66,17 @@ left_all cspace slot (one ∷ others) keep unset =
     both false b is = absurd (let never : ⊥ = cc in never)
 
 -- an act reclaims nothing
-makes_keep : (s : State) (changes : List Change)
-    → IsTrue (list_all keeps_objects changes) ⊎ MakesOne s changes
+makes_keep : (s : State) (home : ℕ) (changes : List Change)
+    → IsTrue (list_all keeps_objects changes) ⊎ MakesOne s home changes
     → IsTrue (list_all is_of_calls changes) → IsTrue (list_all keeps_spaces changes)
-makes_keep s changes (inl keep) calls = called_keep changes keep calls
-makes_keep s changes (inr one) calls = rw one.is refl
+makes_keep s home changes (inl keep) calls = called_keep changes keep calls
+makes_keep s home changes (inr one) calls = rw one.is refl
 
 judged_keep : (s : State) (cpu : ℕ) (event : Event)
     → IsTrue (list_all keeps_spaces (made_by (judged_by s cpu event)))
 judged_keep s cpu event =
-    makes_keep s (made_by (judged_by s cpu event)) (judged_sets s cpu event).makes
-    (judged_sets s cpu event).calls
+    makes_keep s (grant_at (grants_of event.call event.words) 1).0 (made_by (judged_by s cpu event))
+    (judged_sets s cpu event).makes (judged_sets s cpu event).calls
 
 if_keep : (allowed : Bool) (changes : List Change) → IsTrue (list_all keeps_spaces changes)
     → IsTrue (list_all keeps_spaces (if allowed then changes else []))

@@ -13,7 +13,7 @@ use Rattle.gh_core.specs.References.{HasReferences}
 use Rattle.gh_core.specs.Replayed.{HasState}
 use Rattle.gh_core.specs.TurnEvents.{MaySetCap, committed_by, put_word, set_cap}
 use Rattle.gh_core.specs.ValidState.{HasValid}
-use Rattle.gh_core.specs.Words.{HasRoom, SetsLiving, ShowsWords}
+use Rattle.gh_core.specs.Words.{HasRoom, ShowsWords}
 use Rattle.gh_core.specs.declared.event.Event.{Event}
 use Rattle.gh_core.specs.declared.event.Event.TheVariants.{Enter, Leave, Take, Look, Pin, Unpin, Undo, Kill, Commit, SetCap, Free, Scan, Revive, Join, Split}
 use Rattle.gh_core.proofs.SetCapWords.{set_cap_shows}
@@ -29,33 +29,33 @@ room_behind conf at entry space slot word may room =
 
 -- every event
 pub event_shows : (conf : Config) (event : Event) → HasReferences conf → HasState conf → HasValid conf
-    → ShowsWords conf → HasRoom (after conf event) → SetsLiving conf event → Possible conf event
+    → ShowsWords conf → HasRoom (after conf event) → Possible conf event
     → ShowsWords (after conf event)
-event_shows conf (Enter cpu) sound state fit words room living may = same_words conf _ _ _ _ _ words
-event_shows conf (Leave cpu) sound state fit words room living may = same_words conf _ _ _ _ _ words
-event_shows conf (Take cpu) sound state fit words room living may = same_words conf _ _ _ _ _ words
-event_shows conf (Look cpu slot) sound state fit words room living may = same_words conf _ _ _ _ _ words
-event_shows conf (Pin cpu object false) sound state fit words room living may =
+event_shows conf (Enter cpu) sound state fit words room may = same_words conf _ _ _ _ _ words
+event_shows conf (Leave cpu) sound state fit words room may = same_words conf _ _ _ _ _ words
+event_shows conf (Take cpu) sound state fit words room may = same_words conf _ _ _ _ _ words
+event_shows conf (Look cpu slot) sound state fit words room may = same_words conf _ _ _ _ _ words
+event_shows conf (Pin cpu object false) sound state fit words room may =
     same_words conf _ _ _ _ _ words
-event_shows conf (Pin cpu object true) sound state fit words room living may =
+event_shows conf (Pin cpu object true) sound state fit words room may =
     same_words conf _ _ _ _ _ words
-event_shows conf (Unpin cpu object false) sound state fit words room living may =
+event_shows conf (Unpin cpu object false) sound state fit words room may =
     same_words conf _ _ _ _ _ words
-event_shows conf (Unpin cpu object true) sound state fit words room living may =
+event_shows conf (Unpin cpu object true) sound state fit words room may =
     same_words conf _ _ _ _ _ words
-event_shows conf (Undo cpu object) sound state fit words room living may =
+event_shows conf (Undo cpu object) sound state fit words room may =
     same_words conf _ _ _ _ _ words
-event_shows conf (Kill cpu object) sound state fit words room living may =
+event_shows conf (Kill cpu object) sound state fit words room may =
     killed_words conf object.0 (conf.count object.0 == 0) words
-event_shows conf (Commit cpu entry) sound state fit words room living may =
+event_shows conf (Commit cpu entry) sound state fit words room may =
     commit_shows conf cpu.0 entry fit words may
-event_shows conf (SetCap cpu entry space slot word) sound state fit words room living may =
+event_shows conf (SetCap cpu entry space slot word) sound state fit words room may =
     set_cap_shows conf cpu.0 entry space.0 slot word sound state fit words may
-    (room_behind conf cpu.0 entry space.0 slot word may room) (living may.call may.cspace slot may.allows.in_act.is_current may.sets)
-event_shows conf (Free cpu true) sound state fit words room living may = same_words conf _ _ _ _ _ words
-event_shows conf (Free cpu false) sound state fit words room living may = same_words conf _ _ _ _ _ words
-event_shows conf (Scan cpu of_cpu) sound state fit words room living may = same_words conf _ _ _ _ _ words
-event_shows conf (Revive cpu object count) sound state fit words room living may =
+    (room_behind conf cpu.0 entry space.0 slot word may room)
+event_shows conf (Free cpu true) sound state fit words room may = same_words conf _ _ _ _ _ words
+event_shows conf (Free cpu false) sound state fit words room may = same_words conf _ _ _ _ _ words
+event_shows conf (Scan cpu of_cpu) sound state fit words room may = same_words conf _ _ _ _ _ words
+event_shows conf (Revive cpu object count) sound state fit words room may =
     same_words conf _ _ _ _ _ words
-event_shows conf (Join cpu) sound state fit words room living may = words
-event_shows conf (Split cpu) sound state fit words room living may = words
+event_shows conf (Join cpu) sound state fit words room may = words
+event_shows conf (Split cpu) sound state fit words room may = words

@@ -1,17 +1,13 @@
 -- The capability words of a configuration: each slot shows what the present state has in it.
-use Rattle.std.specs.Prelude.{◌≡◌, ◌<◌, ⊤, ℕ, true, false, Some, None}
+use Rattle.std.specs.Prelude.{◌≡◌, ◌<◌, ℕ, false, Some, None}
 use Rattle.gh_base.specs.CapWord.{settings}
 use Rattle.gh_base.specs.declared.limits.TheConstants.{OBJECT_INDICES}
-use Rattle.gh_invariant.specs.Events.{changes_of}
-use Rattle.gh_invariant.specs.Lives.{lives}
 use Rattle.gh_model.specs.Rows.{cpu_row}
 use Rattle.gh_model.specs.Word.{word_at}
 use Rattle.gh_model.specs.declared.rows.CapabilityRow.{CapabilityRow}
 use Rattle.gh_model.specs.declared.rows.CpuRow.{CpuRow}
-use Rattle.gh_core.specs.Config.{Config, Current, present}
-use Rattle.gh_core.specs.Entries.{logged, shown, slot_set}
-use Rattle.gh_core.specs.declared.event.Event.{Event}
-use Rattle.gh_core.specs.declared.event.Event.TheVariants.{SetCap}
+use Rattle.gh_core.specs.Config.{Config, present}
+use Rattle.gh_core.specs.Entries.{shown}
 
 -- a slot's word is the one of the present state, with its object's index
 abbrev pub ShowsSlot : Config → ℕ → ℕ → Type 0
@@ -37,11 +33,3 @@ pub record ShowsWords (conf : Config) : Type 0 where
 -- the number of each entry fits into a word as a setting
 abbrev pub HasRoom : Config → Type 0
 HasRoom conf = (present conf).entries < settings
-
--- the slot that the event sets, if it sets one, is of a capability space that lives
-abbrev pub SetsLiving : Config → Event → Type 0
-SetsLiving conf (SetCap cpu entry space slot word) =
-    (call : Current) (cspace number : ℕ) → (conf.cpu cpu.0).current ≡ Some call
-    → slot_set (changes_of (present conf) (logged entry call)) ≡ Some (cspace, number)
-    → lives (present conf).objects cspace ≡ true
-SetsLiving conf _ = ⊤

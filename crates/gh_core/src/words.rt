@@ -9,7 +9,7 @@ ghost use Rattle.gh_core.specs.References.{HasReferences};
 ghost use Rattle.gh_core.specs.Replayed.{HasState};
 ghost use Rattle.gh_core.specs.Start.{AreIndices, start};
 ghost use Rattle.gh_core.specs.ValidState.{HasValid};
-ghost use Rattle.gh_core.specs.Words.{HasRoom, SetsLiving, ShowsWords};
+ghost use Rattle.gh_core.specs.Words.{HasRoom, ShowsWords};
 ghost use Rattle.gh_core.specs.declared.event.Event.{Event};
 ghost use Rattle.gh_core.specs.declared.event.Event.TheVariants.{Commit};
 ghost use Rattle.gh_model.specs.Boot.{boot_fits, boot_state};
@@ -23,12 +23,11 @@ pub fn start_shows_words()
         → AreIndices (boot_state lines) index → ShowsWords (start (boot_state lines) index) }
 {}
 
-/// Every event keeps them so, where the entries behind it have room in a word, and a slot that it
-/// sets is of a capability space that lives.
+/// Every event keeps them so, where the entries behind it have room in a word.
 pub fn events_keep_words()
     ensures { (conf : Config) (event : Event) → HasReferences conf → HasState conf → HasValid conf
-        → ShowsWords conf → HasRoom (after conf event) → SetsLiving conf event
-        → Possible conf event → ShowsWords (after conf event) }
+        → ShowsWords conf → HasRoom (after conf event) → Possible conf event
+        → ShowsWords (after conf event) }
 {}
 
 /// An entry that sets no slot leaves the words those of the present state, also where it reclaims a

@@ -7,6 +7,7 @@ use Rattle.gh_base.specs.declared.ids.Serial.{Serial}
 use Rattle.gh_model.specs.Act.{grants_of}
 use Rattle.gh_model.specs.Changes.{changed, changed_all}
 use Rattle.gh_model.specs.Decide.{has_moved}
+use Rattle.gh_model.specs.Decisions.{grant_at}
 use Rattle.gh_model.specs.History.{Event, after_event, is_retired, is_unretired, may_act, may_part}
 use Rattle.gh_model.specs.QueueCalls.{one_if}
 use Rattle.gh_model.specs.References.{is_doomed, references}
@@ -107,7 +108,8 @@ entry_holds test s event (Reclaimed serial seen) none acted parted retired recla
     if_holds test (is_doomed s serial.0 && is_retired (object_row s serial.0)) (change.Reclaim serial ∷ []) none (reclaimed serial)
 
 -- what a call comes to
-pub judged_sets : (s : State) (cpu : ℕ) (event : Event) → SetsOne s cpu (may_exit event.call) (judged_by s cpu event)
+pub judged_sets : (s : State) (cpu : ℕ) (event : Event)
+    → SetsOne s cpu (may_exit event.call) (grant_at (grants_of event.call event.words) 1).0 (judged_by s cpu event)
 judged_sets s cpu event =
     decision_sets s (has_moved s cpu event.call event.words) cpu event.call event.bytes (grants_of event.call event.words)
 
