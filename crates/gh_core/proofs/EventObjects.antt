@@ -5,7 +5,7 @@ use Rattle.std.specs.Prelude.{◌&&◌, ◌==◌, option_map}
 use Rattle.std.specs.List.{list_all}
 use Rattle.std.proofs.lemmas.Bool.{and_parts, eqb-true}
 use Rattle.std.proofs.lemmas.Bool.Decides.{nat_tests}
-use Rattle.gh_model.specs.Act.{counted}
+use Rattle.gh_model.specs.Act.{counted, grants_of}
 use Rattle.gh_model.specs.Changes.{changed, changed_all, with_cost, with_counters, with_stage, without}
 use Rattle.gh_model.specs.Decide.{verdict}
 use Rattle.gh_model.specs.Decisions.{grant_at}

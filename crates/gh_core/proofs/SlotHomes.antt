@@ -12,7 +12,7 @@ use Rattle.gh_invariant.specs.Events.{entry_changes, judged_by, made_by}
 use Rattle.gh_invariant.specs.Lives.{lives, slot_fits}
 use Rattle.gh_invariant.specs.Premises.{MayAdd, MayChange, MayChangeAll, MayPut}
 use Rattle.gh_invariant.specs.Valid.{IsValid, IsValidTo}
-use Rattle.gh_invariant.proofs.ChangesInOrder.{entries_stay}
+use Rattle.gh_model.proofs.RoomLemmas.{change_counts}
 use Rattle.gh_invariant.proofs.Counting.{find_push_other, found_all, found_passes}
 use Rattle.gh_invariant.proofs.EntriesKept.{begins}
 use Rattle.gh_invariant.proofs.EventWords.{event_may}
@@ -86,7 +86,7 @@ kept_home last s (one ∷ others) place room valid may keep is =
     let parts = and_parts (keeps_objects one) (list_all keeps_objects others) keep in
     first_home last s one place (sets one) (slot_set others) valid may.first refl is (λ later.
     sym (lives_same (changed s one).objects s.objects place.0 (change_life s one place.0 parts.0))
-    ∙ kept_home last (changed s one) others place (subst (λ (n : ℕ). n + 1 ≤ last) (sym (entries_stay s one)) room) (valid_kept last s one room valid may.first) may.others parts.1 later)
+    ∙ kept_home last (changed s one) others place (subst (λ (n : ℕ). n + 1 ≤ last) (sym (change_counts s one).entries) room) (valid_kept last s one room valid may.first) may.others parts.1 later)
 
 module _ (s : State) (valid : IsValid s) where
   -- a space that was made isn't the object that is added

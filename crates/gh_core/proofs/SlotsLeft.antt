@@ -3,7 +3,7 @@ use Rattle.std.proofs.Common.{◌≡◌, ◌+◌, ◌≤◌, ◌∙◌, ◌⊎�
 use Rattle.std.specs.Prelude.{◌&&◌, ◌||◌, ◌==◌}
 use Rattle.std.specs.List.{list_all, list_any}
 use Rattle.std.proofs.lemmas.Bool.{and_from, and_parts, eqb-true, or_parts}
-use Rattle.gh_model.specs.Act.{counted}
+use Rattle.gh_model.specs.Act.{counted, grants_of}
 use Rattle.gh_model.specs.Changes.{changed, without}
 use Rattle.gh_model.specs.Decisions.{grant_at}
 use Rattle.gh_model.specs.History.{Event, after_entry, is_retired, is_unretired, may_act, may_part, numbered}
