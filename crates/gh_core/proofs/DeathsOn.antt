@@ -32,7 +32,7 @@ pub record IsPlaced (s : State) (index : ℕ → ℕ) : Type 0 where
 
 module _ (s : State) (index : ℕ → ℕ) (dead : ℕ → Bool) (placed : IsPlaced s index) where
   -- what stands at an index is the row of its serial
-  own_row : (at : ℕ) (row : ObjectRow) → object_at s index at ≡ Some row → IsRow s row
+  pub own_row : (at : ℕ) (row : ObjectRow) → object_at s index at ≡ Some row → IsRow s row
   own_row at row there =
       let own : LivesAt s index at row.serial.0 = lives_there s index at row there in
       let found : find (is_object row.serial.0) s.objects ≡ Some own.row = subst (λ (n : ℕ). find (is_object n) s.objects ≡ Some own.row) own.same own.is in

@@ -50,6 +50,12 @@ pub mod SetCapWords
 pub mod SlotHomes
 pub mod SlotsCame
 pub mod SlotsLeft
+pub mod SoundEvents
+pub mod SoundGrants
+pub mod SoundLooks
+pub mod SoundOrder
+pub mod SoundRest
+pub mod SoundRevive
 pub mod StartCalls
 pub mod StartSound
 pub mod StartWords

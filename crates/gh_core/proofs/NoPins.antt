@@ -13,7 +13,7 @@ use Rattle.gh_core.specs.References.{HasReferences, HoldsSoundly, IsPinned, dead
 use Rattle.gh_core.proofs.Finding.{total_none}
 
 -- where none of the items passes, none is counted
-none_counted : {X : Type 0} (p : X → Bool) (items : List X)
+pub none_counted : {X : Type 0} (p : X → Bool) (items : List X)
     → ((i : ℕ) (item : X) → slice_get items i ≡ Some item → p item ≡ false)
     → count_by p items ≡ 0
 none_counted p [] fails = refl
@@ -23,7 +23,7 @@ none_counted p (item ∷ items) fails =
     let others : count_by p items ≡ 0 = none_counted p items (λ i one is. fails (suc i) one is) in
     omega arith
 
-misses : (here : Bool) → (here ≡ true → ⊥) → here ≡ false
+pub misses : (here : Bool) → (here ≡ true → ⊥) → here ≡ false
 misses true never = absurd (never refl)
 misses false never = refl
 

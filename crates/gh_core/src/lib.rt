@@ -7,6 +7,7 @@ mod entries;
 mod event;
 mod grace;
 mod references;
+mod sound;
 mod start;
 mod validity;
 mod words;
@@ -34,6 +35,11 @@ pub use references::{
     pin_keeps_references, quit_keeps_references, revive_keeps_references, scan_keeps_references,
     seats_keep_references, settle_keeps_references, take_keeps_references, undo_keeps_references,
     unpin_keeps_references,
+};
+pub use sound::{
+    events_keep_sound, given_call_keeps_sound, granted_objects_stay, looks_find_present,
+    reclaims_spare_calls, rest_is_graced_in_part, rest_is_legal, revived_index_is_free,
+    runs_are_bounded, runs_are_sound, start_is_sound, words_count_references,
 };
 pub use start::start_has_references;
 pub use validity::{events_keep_validity, given_call_keeps_validity, start_is_valid};

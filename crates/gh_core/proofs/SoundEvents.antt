@@ -1,0 +1,218 @@
+-- Sound configurations: the start of each boot file, every event, every call that is given, and so
+-- every run.
+use Rattle.std.proofs.Common.{◌≡◌, ◌==◌, ◌<◌, ◌∙◌, ℕ, Bool, true, false, Option, Some, None, if◌then◌else◌, List, [], ◌∷◌, refl, subst, sym, ap, arith, fold, IsTrue}
+use Rattle.gh_base.specs.CapWord.{settings}
+use Rattle.gh_base.specs.declared.frame.Frame.{Frame}
+use Rattle.gh_invariant.proofs.BootValid.{boot_fresh}
+use Rattle.gh_model.specs.Boot.{after_line, boot_fits, boot_state, empty_state}
+use Rattle.gh_model.specs.History.{is_retired}
+use Rattle.gh_model.specs.declared.boot_line.BootLine.{BootLine}
+use Rattle.gh_model.specs.declared.boot_line.BootLine.TheVariants.{Pages, Partition, Cspace, Addrspace, Doorbell, RootExtent, Extent, Msgqueue, Map, Cap, Vm, Rm, Link}
+use Rattle.gh_model.specs.declared.entry.Entry.{Entry}
+use Rattle.gh_model.specs.declared.rows.ObjectRow.{ObjectRow}
+use Rattle.gh_model.specs.declared.state.State.{State}
+use Rattle.gh_core.specs.Bounded.{IsBounded}
+use Rattle.gh_core.specs.Calls.{HasCalls}
+use Rattle.gh_core.specs.Config.{Config, Current, object_at, present, put}
+use Rattle.gh_core.specs.Entries.{index_after}
+use Rattle.gh_core.specs.Events.{Possible, after}
+use Rattle.gh_core.specs.HolderEvents.{kill_failed, with_turn, without_scans}
+use Rattle.gh_core.specs.Sound.{Does, HasUnits, Gives, Goes, IsSound, MayStep, Runs, Step, after_step, after_steps}
+use Rattle.gh_core.specs.Start.{AreIndices, MayGive, given, start}
+use Rattle.gh_core.specs.TurnEvents.{committed_by}
+use Rattle.gh_core.specs.declared.event.Event.{Event}
+use Rattle.gh_core.specs.declared.event.Event.TheVariants.{Enter, Leave, Take, Look, Pin, Unpin, Undo, Kill, Commit, SetCap, Free, Scan, Revive, Join, Split}
+use Rattle.gh_core.proofs.BoundKeeps.{event_bounded}
+use Rattle.gh_core.proofs.CallsEnd.{leave_keeps_calls}
+use Rattle.gh_core.proofs.CallsGoOn.{enter_keeps_calls, undo_keeps_calls, unpin_keeps_calls}
+use Rattle.gh_core.proofs.EventsKeep.{event_graced, event_sound}
+use Rattle.gh_core.proofs.FreeCalls.{free_keeps_calls}
+use Rattle.gh_core.proofs.GivenCalls.{given_keeps_calls}
+use Rattle.gh_core.proofs.GivenKeeps.{given_keeps}
+use Rattle.gh_core.proofs.GraceGiven.{given_graced}
+use Rattle.gh_core.proofs.GraceTurn.{start_graced}
+use Rattle.gh_core.proofs.HolderCalls.{kill_keeps_calls, owe_keeps_calls, quit_keeps_calls, revive_keeps_calls, scan_keeps_calls, settle_keeps_calls}
+use Rattle.gh_core.proofs.LookCalls.{look_keeps_calls}
+use Rattle.gh_core.proofs.PartCalls.{commit_keeps_calls, set_cap_keeps_calls}
+use Rattle.gh_core.proofs.PinCalls.{pin_keeps_calls}
+use Rattle.gh_core.proofs.SoundOrder.{event_in_order, start_in_order}
+use Rattle.gh_core.proofs.StartCalls.{file_calls}
+use Rattle.gh_core.proofs.StartWords.{start_shows}
+use Rattle.gh_core.proofs.StateKeeps.{event_keeps_state, file_sound, start_keeps_state}
+use Rattle.gh_core.proofs.TakeCalls.{take_keeps_calls}
+use Rattle.gh_core.proofs.ValidEvents.{given_valid, start_valid}
+use Rattle.gh_core.proofs.ValidLaw.{event_keeps_valid}
+use Rattle.gh_core.proofs.WordsLaw.{event_shows}
+
+-- the boot
+
+-- no line of a boot file counts an entry
+line_counts : (s : State) (line : BootLine) → (after_line s line).entries ≡ s.entries
+line_counts s (Pages count) = refl
+line_counts s (Partition quota) = refl
+line_counts s (Cspace partition) = refl
+line_counts s (Addrspace partition) = refl
+line_counts s (Doorbell partition) = refl
+line_counts s (RootExtent partition) = refl
+line_counts s (Extent partition parent offset count access first pages) = refl
+line_counts s (Msgqueue partition depth size) = refl
+line_counts s (Map space extent base offset count access) = refl
+line_counts s (Cap cspace slot object rights master) = refl
+line_counts s (Vm cspace space) = refl
+line_counts s (Rm cspace space partition) = refl
+line_counts s (Link vm extent request reply) = refl
+
+lines_count : (s : State) (lines : List BootLine) → (fold after_line s lines).entries ≡ s.entries
+lines_count s [] = refl
+lines_count s (line ∷ lines) = lines_count (after_line s line) lines ∙ line_counts s line
+
+-- so no entry was counted before it
+begins_there : (lines : List BootLine) → (boot_state lines).entries ≡ 0
+begins_there lines = lines_count empty_state lines
+
+-- the start of each boot file is sound
+pub start_is_sound : (lines : List BootLine) (index : ℕ → ℕ) → IsTrue (boot_fits lines)
+    → AreIndices (boot_state lines) index → IsSound (start (boot_state lines) index)
+start_is_sound lines index fits indices =
+    let none : (boot_state lines).entries ≡ 0 = begins_there lines in
+    record {
+      references = file_sound lines index fits indices;
+      grace = start_graced (boot_state lines) index indices (λ row is. sym (ap is_retired is) ∙ boot_fresh lines row.serial.0 fits);
+      state = start_keeps_state lines index fits indices;
+      valid = start_valid lines index fits;
+      calls = file_calls lines index;
+      order = start_in_order (boot_state lines);
+      words = start_shows lines index fits indices;
+      begins = none;
+      room = subst (λ (n : ℕ). n < settings) (sym none) (omega arith);
+    }
+
+-- events
+
+-- every event keeps sound calls, but for an end for want of units
+event_calls : (conf : Config) (event : Event) → IsSound conf → Possible conf event
+    → HasUnits conf event → HasCalls (after conf event)
+event_calls conf (Enter cpu) sound may units = enter_keeps_calls conf cpu.0 sound.calls may
+event_calls conf (Leave cpu) sound may units = leave_keeps_calls conf cpu.0 sound.calls may
+event_calls conf (Take cpu) sound may units = take_keeps_calls conf cpu.0 sound.calls may
+event_calls conf (Look cpu slot) sound may units =
+    look_keeps_calls conf cpu.0 slot sound.calls sound.valid sound.words sound.room may sound.begins
+event_calls conf (Pin cpu object false) sound may units =
+    pin_keeps_calls conf cpu.0 object.0 sound.calls sound.references sound.valid may
+event_calls conf (Pin cpu object true) sound may units = owe_keeps_calls conf object.0 sound.calls
+event_calls conf (Unpin cpu object false) sound may units = unpin_keeps_calls conf cpu.0 object.0 sound.calls may
+event_calls conf (Unpin cpu object true) sound may units = settle_keeps_calls conf object.0 sound.calls
+event_calls conf (Undo cpu object) sound may units = undo_keeps_calls conf cpu.0 object.0 sound.calls may
+event_calls conf (Kill cpu object) sound may units = kill_keeps_calls conf object.0 sound.calls
+event_calls conf (Commit cpu entry) sound may units =
+    commit_keeps_calls conf cpu.0 entry record { sound = sound.calls; refs = sound.references; graced = sound.grace; state = sound.state; fit = sound.valid } may
+event_calls conf (SetCap cpu entry space slot word) sound may units =
+    set_cap_keeps_calls conf cpu.0 entry space.0 slot word record { sound = sound.calls; refs = sound.references; graced = sound.grace; state = sound.state; fit = sound.valid } may
+event_calls conf (Free cpu true) sound may units =
+    free_keeps_calls conf cpu.0 sound.calls sound.references sound.valid may units
+event_calls conf (Free cpu false) sound may units = quit_keeps_calls conf cpu.0 sound.calls may
+event_calls conf (Scan cpu of_cpu) sound may units = scan_keeps_calls conf of_cpu.0 sound.calls
+event_calls conf (Revive cpu object count) sound may units =
+    revive_keeps_calls conf cpu.0 object.0 count sound.calls may
+event_calls conf (Join cpu) sound may units = sound.calls
+event_calls conf (Split cpu) sound may units = sound.calls
+
+failed_boot : (conf : Config) (object : ℕ) (found : Option ObjectRow)
+    → (kill_failed conf object found).boot ≡ conf.boot
+failed_boot conf object None = refl
+failed_boot conf object (Some row) = refl
+
+killed_boot : (conf : Config) (object : ℕ) (none : Bool)
+    → (if none then record (with_turn without_scans conf) { dead = put conf.dead object true }
+    else kill_failed conf object (object_at (present conf) conf.index object)).boot ≡ conf.boot
+killed_boot conf object true = refl
+killed_boot conf object false = failed_boot conf object (object_at (present conf) conf.index object)
+
+committed_boot : (conf : Config) (entry : Entry) (index : State → ℕ → ℕ) (current : Option Current)
+    → (committed_by conf entry index current).boot ≡ conf.boot
+committed_boot conf entry index None = refl
+committed_boot conf entry index (Some call) = refl
+
+-- no event changes the boot state
+boot_stays : (conf : Config) (event : Event) → (after conf event).boot ≡ conf.boot
+boot_stays conf (Enter cpu) = refl
+boot_stays conf (Leave cpu) = refl
+boot_stays conf (Take cpu) = refl
+boot_stays conf (Look cpu slot) = refl
+boot_stays conf (Pin cpu object false) = refl
+boot_stays conf (Pin cpu object true) = refl
+boot_stays conf (Unpin cpu object false) = refl
+boot_stays conf (Unpin cpu object true) = refl
+boot_stays conf (Undo cpu object) = refl
+boot_stays conf (Kill cpu object) = killed_boot conf object.0 (conf.count object.0 == 0)
+boot_stays conf (Commit cpu entry) = committed_boot conf entry (λ new. conf.index) (conf.cpu cpu.0).current
+boot_stays conf (SetCap cpu entry space slot word) =
+    committed_boot conf entry (λ new. index_after conf new word) (conf.cpu cpu.0).current
+boot_stays conf (Free cpu true) = refl
+boot_stays conf (Free cpu false) = refl
+boot_stays conf (Scan cpu of_cpu) = refl
+boot_stays conf (Revive cpu object count) = refl
+boot_stays conf (Join cpu) = refl
+boot_stays conf (Split cpu) = refl
+
+-- every event that goes keeps a sound configuration
+pub event_keeps_sound : (conf : Config) (event : Event) → IsSound conf → Possible conf event
+    → Goes conf event → IsSound (after conf event)
+event_keeps_sound conf event sound may goes = record {
+  references = event_sound conf event sound.references sound.grace sound.state sound.valid.valid sound.words sound.room may;
+  grace = event_graced conf event sound.references sound.grace sound.state sound.valid.valid may;
+  state = event_keeps_state conf event sound.state may;
+  valid = event_keeps_valid conf event sound.valid may;
+  calls = event_calls conf event sound may goes.units;
+  order = event_in_order conf event sound.order sound.grace may;
+  words = event_shows conf event sound.references sound.state sound.valid sound.words goes.room may;
+  begins = ap (λ (boot : State). boot.entries) (boot_stays conf event) ∙ sound.begins;
+  room = goes.room;
+}
+
+-- runs
+
+-- a call that a CPU is given keeps it too
+pub given_keeps_sound : (conf : Config) (at number : ℕ) (frame : Frame) → IsSound conf
+    → MayGive conf at number → IsSound (given conf at number frame)
+given_keeps_sound conf at number frame sound may = record {
+  references = given_keeps conf at number frame sound.references;
+  grace = given_graced conf at number frame sound.grace;
+  state = record { given = sound.state.given; within = sound.state.within };
+  valid = given_valid conf sound.valid at number frame may;
+  calls = given_keeps_calls conf at number frame sound.calls may;
+  order = sound.order;
+  words = record { filled = sound.words.filled; attached = sound.words.attached; empty = sound.words.empty; within = sound.words.within };
+  begins = sound.begins;
+  room = sound.room;
+}
+
+step_keeps_sound : (conf : Config) (step : Step) → IsSound conf → MayStep conf step
+    → IsSound (after_step conf step)
+step_keeps_sound conf (Gives at number frame) sound may = given_keeps_sound conf at number frame sound may
+step_keeps_sound conf (Does event) sound may = event_keeps_sound conf event sound may.may may.goes
+
+steps_keep_sound : (conf : Config) (steps : List Step) → IsSound conf → Runs conf steps
+    → IsSound (after_steps conf steps)
+steps_keep_sound conf [] sound runs = sound
+steps_keep_sound conf (step ∷ steps) sound runs =
+    steps_keep_sound (after_step conf step) steps (step_keeps_sound conf step sound runs.0) runs.1
+
+-- so every run from a boot file leaves the configuration sound
+pub run_is_sound : (lines : List BootLine) (index : ℕ → ℕ) (steps : List Step) → IsTrue (boot_fits lines)
+    → AreIndices (boot_state lines) index → Runs (start (boot_state lines) index) steps
+    → IsSound (after_steps (start (boot_state lines) index) steps)
+run_is_sound lines index steps fits indices runs =
+    steps_keep_sound (start (boot_state lines) index) steps (start_is_sound lines index fits indices) runs
+
+step_keeps_bound : (conf : Config) (step : Step) → IsBounded conf → MayStep conf step
+    → IsBounded (after_step conf step)
+step_keeps_bound conf (Gives at number frame) bounded may = bounded
+step_keeps_bound conf (Does event) bounded may = event_bounded conf event bounded may.may
+
+-- and what is owed stays within its bound
+pub steps_keep_bound : (conf : Config) (steps : List Step) → IsBounded conf → Runs conf steps
+    → IsBounded (after_steps conf steps)
+steps_keep_bound conf [] bounded runs = bounded
+steps_keep_bound conf (step ∷ steps) bounded runs =
+    steps_keep_bound (after_step conf step) steps (step_keeps_bound conf step bounded runs.0) runs.1

@@ -1,0 +1,127 @@
+-- Sound configurations: all that every event keeps, as one record, and the runs over which it
+-- stands.
+use Rattle.std.specs.Prelude.{◌≡◌, ◌*◌, ◌<◌, ◌≤◌, ⊤, ℕ, true, false, List, [], ◌∷◌, Some, None, count_by, fold, slice_get, slice_index}
+use Rattle.gh_base.specs.declared.frame.Frame.{Frame}
+use Rattle.gh_base.specs.declared.limits.TheConstants.{CPUS}
+use Rattle.gh_model.specs.Graced.{GoesUnread, GoesUnreferenced}
+use Rattle.gh_model.specs.History as history
+use Rattle.gh_model.specs.Marks.{Made, has_looks}
+use Rattle.gh_model.specs.declared.state.State.{State}
+use Rattle.gh_core.specs.Calls.{BeginsAtBoot, HasCalls, is_short_now}
+use Rattle.gh_core.specs.Config.{Config, IsBetween}
+use Rattle.gh_core.specs.Events.{Possible, after}
+use Rattle.gh_core.specs.Grace.{HasGrace}
+use Rattle.gh_core.specs.References.{HasReferences}
+use Rattle.gh_core.specs.Replayed.{HasState}
+use Rattle.gh_core.specs.Start.{MayGive, given}
+use Rattle.gh_core.specs.ValidState.{HasValid}
+use Rattle.gh_core.specs.Words.{HasRoom, ShowsWords}
+use Rattle.gh_core.specs.declared.event.Event.{Event}
+use Rattle.gh_core.specs.declared.event.Event.TheVariants.{Free}
+
+-- the counters that entries keep are in order
+pub record AreInOrder (boot : State) (events : List history.Event) : Type 0 where
+  -- no counter falls from an entry to a later one
+  pub rising : (n m cpu : ℕ) (first second : history.Event) (before now : List ℕ)
+      → slice_get events n ≡ Some first → slice_get events m ≡ Some second → n < m
+      → history.counters first.entry ≡ Some before → history.counters second.entry ≡ Some now
+      → cpu < CPUS → slice_index before cpu ≤ slice_index now cpu
+  -- every CPU that was reading at an object's retirement has left when it is reclaimed
+  pub unread : (n : ℕ) (event : history.Event) → slice_get events n ≡ Some event
+      → GoesUnread (history.state_at boot events n) event.entry
+
+-- a configuration is sound
+pub record IsSound (conf : Config) : Type 0 where
+  -- words of objects and indices count what they should, and each pin is on what its look granted
+  pub references : HasReferences conf
+  -- each CPU's counter, sections and kept counters are in order: no object goes while it is read
+  pub grace : HasGrace conf
+  -- each object that lives has a serial that was given, and an index that there is
+  pub state : HasState conf
+  -- the present state is valid, and each CPU fits it
+  pub valid : HasValid conf
+  -- the finished calls, the looks of those in progress and the entries are legal so far
+  pub calls : HasCalls conf
+  -- the counters that entries keep never fall, and no object went while a CPU was reading
+  pub order : AreInOrder conf.boot conf.history
+  -- each slot's word is the one of the present state
+  pub words : ShowsWords conf
+  -- no entry was counted before the boot
+  pub begins : BeginsAtBoot conf
+  -- and the number of each fits into a word
+  pub room : HasRoom conf
+
+-- a turn that is given back behind its act is none whose call ends for want of units
+abbrev pub HasUnits : Config → Event → Type 0
+HasUnits conf (Free cpu true) = is_short_now conf cpu.0 ≡ false
+HasUnits conf _ = ⊤
+
+-- what is asked of an event beside that it is possible
+pub record Goes (conf : Config) (event : Event) : Type 0 where
+  -- an entry's number fits into a word: a bound on the length of histories is to give it
+  pub room : HasRoom (after conf event)
+  -- and no call ends for want of units: a legal history names no object yet that holds them
+  pub units : HasUnits conf event
+
+-- a step of a run: a CPU is given its call of this number, or an event
+pub data Step : Type 0 where
+  Gives : ℕ → ℕ → Frame → Step
+  Does : Event → Step
+
+-- the event is possible and goes
+pub record MayGo (conf : Config) (event : Event) : Type 0 where
+  pub may : Possible conf event
+  pub goes : Goes conf event
+
+-- the step may come next
+abbrev pub MayStep : Config → Step → Type 0
+MayStep conf (Gives at number frame) = MayGive conf at number
+MayStep conf (Does event) = MayGo conf event
+
+-- the configuration behind a step
+abbrev pub after_step : Config → Step → Config
+after_step conf (Gives at number frame) = given conf at number frame
+after_step conf (Does event) = after conf event
+
+-- the configuration behind these steps
+abbrev pub after_steps : Config → List Step → Config
+after_steps conf steps = fold after_step conf steps
+
+-- each step may come where it comes
+abbrev pub Runs : Config → List Step → Type 0
+Runs conf [] = ⊤
+Runs conf (step ∷ steps) = MayStep conf step × Runs (after_step conf step) steps
+
+-- places
+
+-- the object is reclaimed by an entry behind this place
+pub record IsReclaimedBehind (events : List history.Event) (place serial : ℕ) : Type 0 where
+  pub at : ℕ
+  pub event : history.Event
+  pub is : slice_get events at ≡ Some event
+  pub reclaims : history.reclaims event.entry ≡ Some serial
+  pub behind : place ≤ at
+
+-- rest
+
+-- the finished calls of a CPU
+abbrev pub made_by : Config → ℕ → List Made
+made_by conf cpu = (conf.cpu cpu).made
+
+-- the turn is free, and every CPU is between calls
+pub record IsAtRest (conf : Config) : Type 0 where
+  pub free : conf.turn ≡ None
+  pub between : (cpu : ℕ) → IsBetween (conf.cpu cpu)
+
+-- what a history and finished calls have of grace, beside that each counter stands between the
+-- sections of its CPU's calls
+pub record HasRestGrace (conf : Config) : Type 0 where
+  -- what an entry retires or reclaims has no references just before it
+  pub unreferenced : (n : ℕ) (event : history.Event) → slice_get conf.history n ≡ Some event
+      → GoesUnreferenced (history.state_at conf.boot conf.history n) event.entry
+  -- counters never fall, and those who were reading have left
+  pub order : AreInOrder conf.boot conf.history
+  -- no counter on an entry is above twice the number of the CPU's calls that have looks
+  pub bounded : (n cpu : ℕ) (event : history.Event) (seen : List ℕ)
+      → slice_get conf.history n ≡ Some event → history.counters event.entry ≡ Some seen
+      → cpu < CPUS → slice_index seen cpu ≤ 2 * count_by has_looks (made_by conf cpu)

@@ -1,0 +1,160 @@
+//! Every run from a boot file is sound, and what that means for objects, words and calls. The
+//! functions do nothing; their clauses are laws.
+
+ghost use Rattle.std.specs.Prelude.{◌≡◌, ◌+◌, ◌<◌, ◌≤◌, ℕ, List, [], Some, None, IsSome, IsTrue, false, length, slice_get, true};
+ghost use Rattle.std.specs.List.{last_or};
+ghost use Rattle.gh_base.specs.declared.errno.Errno.TheVariants.{CapNull, CapRevoked};
+ghost use Rattle.gh_base.specs.declared.frame.Frame.{Frame};
+ghost use Rattle.gh_base.specs.declared.ids.CpuNo.{CpuNo};
+ghost use Rattle.gh_base.specs.declared.ids.ObjIndex.{ObjIndex};
+ghost use Rattle.gh_base.specs.declared.ids.Serial.{Serial};
+ghost use Rattle.gh_base.specs.declared.limits.TheConstants.{OBJECT_INDICES};
+ghost use Rattle.gh_core.specs.Bounded.{FewReferences, IsBounded};
+ghost use Rattle.gh_core.specs.Calls.{pinned_looks};
+ghost use Rattle.gh_core.specs.Config.{Config, Current, came_to, pin_of, present};
+ghost use Rattle.gh_core.specs.Events.{Possible, after};
+ghost use Rattle.gh_core.specs.Grace.{granting_at, holds_grant};
+ghost use Rattle.gh_core.specs.References.{IsGranted, IsPinned, IsRow, owed_at, pins_at};
+ghost use Rattle.gh_core.specs.Sound.{Goes, HasRestGrace, IsAtRest, IsReclaimedBehind, IsSound, Runs, Step, after_steps, made_by};
+ghost use Rattle.gh_core.specs.Start.{AreIndices, MayGive, given, start};
+ghost use Rattle.gh_core.specs.declared.event.Event.{Event};
+ghost use Rattle.gh_core.specs.declared.event.Event.TheVariants.{Commit, Look, Revive};
+ghost use Rattle.gh_invariant.specs.Lives.{lives};
+ghost use Rattle.gh_model.specs.Boot.{boot_fits, boot_state};
+ghost use Rattle.gh_model.specs.History.{state_at};
+ghost use Rattle.gh_model.specs.Legal.{Agree, IsLegal, IsNumbered, is_exit_call};
+ghost use Rattle.gh_model.specs.Marks.{Fails, InTurn, Seen, cspace_of};
+ghost use Rattle.gh_model.specs.References.{references};
+ghost use Rattle.gh_model.specs.Rows.{cpu_row};
+ghost use Rattle.gh_model.specs.Word.{word_at};
+ghost use Rattle.gh_model.specs.declared.boot_line.BootLine.{BootLine};
+ghost use Rattle.gh_model.specs.declared.entry.Entry.TheVariants.{Reclaimed};
+ghost use Rattle.gh_model.specs.declared.rows.CapabilityRow.{CapabilityRow};
+ghost use Rattle.gh_model.specs.declared.rows.ObjectRow.{ObjectRow};
+ghost use Rattle.gh_model.specs.declared.state.State.{State};
+
+/// Of each boot file whose objects have indices, each its own, the configuration before any event
+/// is sound.
+pub fn start_is_sound()
+    ensures { (lines : List BootLine) (index : ℕ → ℕ) → IsTrue (boot_fits lines)
+        → AreIndices (boot_state lines) index → IsSound (start (boot_state lines) index) }
+{}
+
+/// Every possible event keeps a sound configuration, where the premises that are left hold of it.
+pub fn events_keep_sound()
+    ensures { (conf : Config) (event : Event) → IsSound conf → Possible conf event
+        → Goes conf event → IsSound (after conf event) }
+{}
+
+/// So does a call that a CPU is given.
+pub fn given_call_keeps_sound()
+    ensures { (conf : Config) (at number : ℕ) (frame : Frame) → IsSound conf
+        → MayGive conf at number → IsSound (given conf at number frame) }
+{}
+
+/// So every list of such steps, from a boot file on, leaves the configuration sound.
+pub fn runs_are_sound()
+    ensures { (lines : List BootLine) (index : ℕ → ℕ) (steps : List Step)
+        → IsTrue (boot_fits lines) → AreIndices (boot_state lines) index
+        → Runs (start (boot_state lines) index) steps
+        → IsSound (after_steps (start (boot_state lines) index) steps) }
+{}
+
+/// And where no object of the boot has more than 2^62 references, every such list leaves the
+/// references of an object and what is owed at its index within that together.
+pub fn runs_are_bounded()
+    ensures { (boot : State) (index : ℕ → ℕ) (steps : List Step) → FewReferences boot index
+        → Runs (start boot index) steps → IsBounded (after_steps (start boot index) steps) }
+{}
+
+/// The word of a live object that isn't dead is its references, all pins on it and what the holder
+/// owes there; a dead word counts the pins on it that aren't undone.
+pub fn words_count_references()
+    ensures alive { (conf : Config) (row : ObjectRow) → IsSound conf → IsRow (present conf) row
+        → conf.dead (conf.index row.serial.0) ≡ false
+        → conf.count (conf.index row.serial.0)
+        ≡ references (present conf) row.serial.0
+        + (pins_at conf.cpu (conf.index row.serial.0)
+        + owed_at conf.turn (conf.index row.serial.0)) }
+    ensures dead { (conf : Config) (at : ℕ) → IsSound conf → at < OBJECT_INDICES
+        → conf.dead at ≡ true → conf.count at ≡ pins_at conf.cpu at }
+{}
+
+/// An index is revived only where its word is dead and counts nothing, no call has a pin there, and
+/// each object that ever lived there was reclaimed since.
+pub fn revived_index_is_free()
+    ensures dead { (conf : Config) (cpu : CpuNo) (object : ObjIndex) (count : ℕ) → IsSound conf
+        → Possible conf (Revive cpu object count) → conf.dead object.0 ≡ true }
+    ensures zero { (conf : Config) (cpu : CpuNo) (object : ObjIndex) (count : ℕ) → IsSound conf
+        → Possible conf (Revive cpu object count) → conf.count object.0 ≡ 0 }
+    ensures unpinned { (conf : Config) (cpu : CpuNo) (object : ObjIndex) (count : ℕ) → IsSound conf
+        → Possible conf (Revive cpu object count) → pins_at conf.cpu object.0 ≡ 0 }
+    ensures reclaimed { (conf : Config) (cpu : CpuNo) (object : ObjIndex) (count place serial : ℕ)
+        → IsSound conf → Possible conf (Revive cpu object count) → place ≤ length conf.history
+        → lives (state_at conf.boot conf.history place).objects serial ≡ true
+        → conf.index serial ≡ object.0 → IsReclaimedBehind conf.history place serial }
+{}
+
+/// The object that a look granted a call lives at the looked index until the call's end, and where
+/// the call has its pin on it the word there isn't dead.
+pub fn granted_objects_stay()
+    ensures granted { (conf : Config) (cpu i : ℕ) (call : Current) (seen : Seen) → IsSound conf
+        → (conf.cpu cpu).current ≡ Some call
+        → slice_get (granting_at call.stage (came_to call) call.seen) i ≡ Some seen
+        → IsGranted conf seen }
+    ensures pinned { (conf : Config) (cpu i : ℕ) (call : Current) (seen : Seen) → IsSound conf
+        → (conf.cpu cpu).current ≡ Some call
+        → slice_get (pinned_looks call.stage call.seen) i ≡ Some seen
+        → IsPinned conf (pin_of seen) }
+{}
+
+/// No call in progress was granted what an entry reclaims, be it in its section or at its act.
+pub fn reclaims_spare_calls()
+    ensures { (conf : Config) (cpu : CpuNo) (serial : Serial) (seen : List ℕ) (at : ℕ)
+        (call : Current) → IsSound conf → Possible conf (Commit cpu (Reclaimed serial seen))
+        → (conf.cpu at).current ≡ Some call → holds_grant serial.0 call ≡ false }
+{}
+
+/// A look finds what its slot has in the present state, so an empty slot and a revoked capability
+/// fail the call. What was removed serves only a call that had looked it up before, and a CPU has
+/// one call in progress at most.
+pub fn looks_find_present()
+    ensures present { (conf : Config) (cpu : CpuNo) (slot : ℕ) (call : Current) (seen : Seen)
+        → Possible conf (Look cpu slot)
+        → ((after conf (Look cpu slot)).cpu cpu.0).current ≡ Some call
+        → last_or None call.seen ≡ Some seen
+        → seen.word ≡ word_at (present conf) (cspace_of conf.boot cpu.0) slot }
+    ensures empty { (conf : Config) (cpu : CpuNo) (slot : ℕ) (call : Current)
+        → Possible conf (Look cpu slot)
+        → ((after conf (Look cpu slot)).cpu cpu.0).current ≡ Some call
+        → (word_at (present conf) (cspace_of conf.boot cpu.0) slot).row ≡ None
+        → came_to call ≡ Fails CapNull }
+    ensures revoked { (conf : Config) (cpu : CpuNo) (slot : ℕ) (call : Current)
+        (row : CapabilityRow) → Possible conf (Look cpu slot)
+        → ((after conf (Look cpu slot)).cpu cpu.0).current ≡ Some call
+        → (word_at (present conf) (cspace_of conf.boot cpu.0) slot).row ≡ Some row
+        → row.valid ≡ false → came_to call ≡ Fails CapRevoked }
+{}
+
+/// At rest, with the turn free and every CPU between calls, the history and the finished calls of
+/// all CPUs agree. They are numbered, no call follows an exit call, and only CPUs of the boot made
+/// calls. So where each CPU's last call is its exit call, they are legal.
+pub fn rest_is_legal()
+    ensures agree { (conf : Config) → IsSound conf → IsAtRest conf
+        → Agree conf.boot conf.history (made_by conf) }
+    ensures numbered { (conf : Config) (cpu : ℕ) → IsSound conf → IsAtRest conf
+        → InTurn IsNumbered (made_by conf cpu) }
+    ensures idle { (conf : Config) (cpu : ℕ) → IsSound conf → IsAtRest conf
+        → cpu_row conf.boot cpu ≡ None → made_by conf cpu ≡ [] }
+    ensures legal { (conf : Config) → IsSound conf → IsAtRest conf
+        → ((cpu : ℕ) → IsSome (cpu_row conf.boot cpu)
+        → IsTrue (is_exit_call (last_or None (made_by conf cpu))))
+        → IsLegal conf.boot conf.history (made_by conf) }
+{}
+
+/// What an entry retires or reclaims has no references just before it. No counter falls from an
+/// entry to a later one, and none is above twice the number of its CPU's calls with looks; and every
+/// CPU that was reading at an object's retirement has left when it is reclaimed.
+pub fn rest_is_graced_in_part()
+    ensures { (conf : Config) → IsSound conf → IsAtRest conf → HasRestGrace conf }
+{}
