@@ -3,7 +3,7 @@
 use Rattle.std.proofs.Common.{◌≡◌, ◌==◌, ◌<◌, ◌∙◌, ℕ, Bool, true, false, Option, Some, None, if◌then◌else◌, List, [], ◌∷◌, refl, subst, sym, ap, arith, fold, IsTrue}
 use Rattle.gh_base.specs.CapWord.{settings}
 use Rattle.gh_base.specs.declared.frame.Frame.{Frame}
-use Rattle.gh_invariant.proofs.BootValid.{boot_fresh}
+use Rattle.gh_invariant.proofs.BootValid.{boot_unretired}
 use Rattle.gh_model.specs.Boot.{after_line, boot_fits, boot_state, empty_state}
 use Rattle.gh_model.specs.History.{is_retired}
 use Rattle.gh_model.specs.declared.boot_line.BootLine.{BootLine}
@@ -77,7 +77,7 @@ start_is_sound lines index fits indices =
     let none : (boot_state lines).entries ≡ 0 = begins_there lines in
     record {
       references = file_sound lines index fits indices;
-      grace = start_graced (boot_state lines) index indices (λ row is. sym (ap is_retired is) ∙ boot_fresh lines row.serial.0 fits);
+      grace = start_graced (boot_state lines) index indices (λ row is. sym (ap is_retired is) ∙ boot_unretired lines row.serial.0 fits);
       state = start_keeps_state lines index fits indices;
       valid = start_valid lines index fits;
       calls = file_calls lines index;
