@@ -15,3 +15,5 @@ mod objects;
 mod queues;
 #[cfg(test)]
 mod session;
+#[cfg(test)]
+mod walk;
