@@ -50,6 +50,7 @@ pub mod SetCapWords
 pub mod SlotHomes
 pub mod SlotsCame
 pub mod SlotsLeft
+pub mod SoundBetween
 pub mod SoundEvents
 pub mod SoundGrants
 pub mod SoundLooks

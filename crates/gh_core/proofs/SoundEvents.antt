@@ -18,7 +18,7 @@ use Rattle.gh_core.specs.Entries.{index_after}
 use Rattle.gh_core.specs.Events.{Possible, after}
 use Rattle.gh_core.specs.HolderEvents.{kill_failed, with_turn, without_scans}
 use Rattle.gh_core.specs.Sound.{Does, HasUnits, Gives, Goes, IsSound, MayStep, Runs, Step, after_step, after_steps}
-use Rattle.gh_core.specs.Start.{AreIndices, MayGive, given, start}
+use Rattle.gh_core.specs.Start.{AreIndices, MayGive, given, new_cpu, start}
 use Rattle.gh_core.specs.TurnEvents.{committed_by}
 use Rattle.gh_core.specs.declared.event.Event.{Event}
 use Rattle.gh_core.specs.declared.event.Event.TheVariants.{Enter, Leave, Take, Look, Pin, Unpin, Undo, Kill, Commit, SetCap, Free, Scan, Revive, Join, Split}
@@ -35,6 +35,7 @@ use Rattle.gh_core.proofs.HolderCalls.{kill_keeps_calls, owe_keeps_calls, quit_k
 use Rattle.gh_core.proofs.LookCalls.{look_keeps_calls}
 use Rattle.gh_core.proofs.PartCalls.{commit_keeps_calls, set_cap_keeps_calls}
 use Rattle.gh_core.proofs.PinCalls.{pin_keeps_calls}
+use Rattle.gh_core.proofs.SoundBetween.{event_between, given_between, start_between}
 use Rattle.gh_core.proofs.SoundOrder.{event_in_order, start_in_order}
 use Rattle.gh_core.proofs.StartCalls.{file_calls}
 use Rattle.gh_core.proofs.StartWords.{start_shows}
@@ -82,6 +83,7 @@ start_is_sound lines index fits indices =
       valid = start_valid lines index fits;
       calls = file_calls lines index;
       order = start_in_order (boot_state lines);
+      between = start_between (λ _. new_cpu);
       words = start_shows lines index fits indices;
       begins = none;
       room = subst (λ (n : ℕ). n < settings) (sym none) (omega arith);
@@ -165,6 +167,7 @@ event_keeps_sound conf event sound may goes = record {
   valid = event_keeps_valid conf event sound.valid may;
   calls = event_calls conf event sound may goes.units;
   order = event_in_order conf event sound.order sound.grace may;
+  between = event_between conf event sound may;
   words = event_shows conf event sound.references sound.state sound.valid sound.words goes.room may;
   begins = ap (λ (boot : State). boot.entries) (boot_stays conf event) ∙ sound.begins;
   room = goes.room;
@@ -182,6 +185,7 @@ given_keeps_sound conf at number frame sound may = record {
   valid = given_valid conf sound.valid at number frame may;
   calls = given_keeps_calls conf at number frame sound.calls may;
   order = sound.order;
+  between = given_between conf at number frame may sound.between;
   words = record { filled = sound.words.filled; attached = sound.words.attached; empty = sound.words.empty; within = sound.words.within };
   begins = sound.begins;
   room = sound.room;
