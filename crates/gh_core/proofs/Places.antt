@@ -30,7 +30,7 @@ module _ (boot : State) (history : List Event) where
   end_within last call made ends.Refused is ended looks = rw is looks
   end_within last call made ends.Dead is ended looks = rw is looks
   end_within last call made (ends.Act at) is ended looks = rw is ended.0.within
-  end_within last call made (ends.Short at held) is ended looks = rw is ended.0.within
+  end_within last call made (ends.Short at held) is ended looks = rw is ended.refused.within
   end_within last call made (ends.Entry number) is ended looks =
       let before : ended.before < length history = slice_get_within history ended.before _ ended.event in
       let counts : number ≡ ended.before + 1 = ended.counts in

@@ -1,6 +1,6 @@
 -- The turn: how it is taken, what its holder commits, and how it is given back. When each event is
 -- possible, and what it changes.
-use Rattle.std.specs.Prelude.{◌≡◌, ◌==◌, ◌&&◌, ◌||◌, ◌+◌, ◌-◌, ◌^◌, ◌<◌, ◌≤◌, not, ℕ, Bool, true, false, List, [], ◌∷◌, ◌++◌, Option, Some, None, filter, flat_map, map, is_some, option_map, slice_index, if◌then◌else◌}
+use Rattle.std.specs.Prelude.{◌≡◌, ◌==◌, ◌&&◌, ◌+◌, ◌-◌, ◌^◌, ◌<◌, ◌≤◌, not, ℕ, Bool, true, false, List, [], ◌∷◌, ◌++◌, Option, Some, None, filter, flat_map, map, is_some, option_map, slice_index, if◌then◌else◌}
 use Rattle.std.specs.List.{list_all, list_any}
 use Rattle.gh_base.specs.CapWord.{object_of}
 use Rattle.gh_base.specs.Counters.{is_odd}
@@ -15,10 +15,10 @@ use Rattle.gh_base.specs.declared.mark.Held.TheVariants as held
 use Rattle.gh_invariant.specs.Effects.{slots_set}
 use Rattle.gh_invariant.specs.Events.{changes_of}
 use Rattle.gh_model.specs.Act.{Verdict, Done, Refused}
+use Rattle.gh_model.specs.Held.{held_rows}
 use Rattle.gh_model.specs.History.{state_at}
 use Rattle.gh_model.specs.Legal.{is_short}
 use Rattle.gh_model.specs.Marks.{Grants}
-use Rattle.gh_model.specs.References.{is_doomed}
 use Rattle.gh_model.specs.Word.{word_at}
 use Rattle.gh_model.specs.declared.entry.Entry.{Entry}
 use Rattle.gh_model.specs.declared.rows.ObjectRow.{ObjectRow}
@@ -181,18 +181,11 @@ cause holder row (Some counters) = option_map (reading row) (first_reader holder
 abbrev pub cause_of : Holder → ObjectRow → Option Held
 cause_of holder row = cause holder row row.retired
 
--- the objects that are retired or without references
-abbrev pub is_held : State → ObjectRow → Bool
-is_held s row = is_some row.retired || is_doomed s row.serial.0
-
-abbrev pub held_rows : State → List ObjectRow
-held_rows s = filter (is_held s) s.objects
-
 abbrev pub as_list : Option Held → List Held
 as_list None = []
 as_list (Some cause) = cause ∷ []
 
--- the cause of each of these objects
+-- the cause of each object that is retired or without references
 abbrev pub causes : Holder → State → List Held
 causes holder s = flat_map (λ (row : ObjectRow). as_list (cause_of holder row)) (held_rows s)
 

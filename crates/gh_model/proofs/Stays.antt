@@ -6,6 +6,7 @@ use Rattle.gh_base.specs.declared.call.Call.{Call}
 use Rattle.gh_base.specs.declared.cap_word.Need.{Need}
 use Rattle.gh_base.specs.declared.errno.Errno.{Errno}
 use Rattle.gh_base.specs.declared.mark.End.{End}
+use Rattle.gh_base.specs.declared.mark.Held.{Held}
 use Rattle.gh_base.specs.declared.mark.End.TheVariants as ends
 use Rattle.gh_model.specs.declared.entry.Entry.{Entry}
 use Rattle.gh_model.specs.declared.entry.Entry.TheVariants.{Acted, Part, Retired, Reclaimed}
@@ -15,7 +16,8 @@ use Rattle.gh_model.specs.Registers.{call_of, needs_of}
 use Rattle.gh_model.specs.Act.{Done}
 use Rattle.gh_model.specs.Marks.{Seen, Made, InTurn, place_after, cspace_of}
 use Rattle.gh_model.specs.History.{Event, replay, state_at}
-use Rattle.gh_model.specs.Legal.{verdict_in, LookIs, KeepsGrants, IsRefusedIn, IsRefusedAt, IsEntry, EndIs, FrameIs, CallIs, IsPart, IsRetiredBehind, GoesOn, EntryIs}
+use Rattle.gh_model.specs.Held.{AreHeld}
+use Rattle.gh_model.specs.Legal.{verdict_in, LookIs, KeepsGrants, IsRefusedIn, IsRefusedAt, IsShortAt, IsEntry, EndIs, FrameIs, CallIs, IsPart, IsRetiredBehind, GoesOn, EntryIs}
 use Rattle.gh_model.proofs.RunLists.{slice_get_left}
 
 -- the history is the front of another
@@ -100,12 +102,19 @@ module _ (front whole : List Event) (is_front : IsFront front whole) where
           keeps = keeps_stays number made within is.keeps;
         }
 
+    pub short_stays : (last at : ℕ) (call : Call) (made : Made) (held : List Held) → IsShortAt boot front last at call made held → IsShortAt boot whole last at call made held
+    short_stays last at call made held is = record {
+      refused = refused_stays last at call made is.refused;
+      short = is.short;
+      are_held = subst (λ (s : State). AreHeld s held) (sym (front_state boot at is.refused.within)) is.are_held;
+    }
+
     pub end_stays : (last : ℕ) (call : Call) (made : Made) (end : End) → EndIs boot front last call made end → EndIs boot whole last call made end
     end_stays last call made ends.Frame is = is
     end_stays last call made ends.Refused is = is
     end_stays last call made ends.Dead is = is
     end_stays last call made (ends.Act at) is = (refused_stays last at call made is.0, is.1)
-    end_stays last call made (ends.Short at held) is = (refused_stays last at call made is.0, is.1, is.2)
+    end_stays last call made (ends.Short at held) is = short_stays last at call made held is
     end_stays last call made (ends.Entry number) is = entry_stays last number call made is
 
     pub frame_stays : (cspace last : ℕ) (made : Made) (shape : Result Call Errno) → FrameIs boot front cspace last made shape → FrameIs boot whole cspace last made shape

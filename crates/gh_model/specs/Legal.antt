@@ -16,12 +16,14 @@ use Rattle.gh_base.specs.declared.errno.Errno.{Errno}
 use Rattle.gh_base.specs.declared.errno.Errno.TheVariants.{CapRevoked}
 use Rattle.gh_base.specs.declared.frame.Reply.{Reply}
 use Rattle.gh_base.specs.declared.mark.End.{End}
+use Rattle.gh_base.specs.declared.mark.Held.{Held}
 use Rattle.gh_base.specs.declared.mark.End.TheVariants as ends
 use Rattle.gh_model.specs.declared.entry.Entry.{Entry}
 use Rattle.gh_model.specs.declared.entry.Entry.TheVariants.{Acted, Part, Retired, Reclaimed}
 use Rattle.gh_model.specs.declared.rows.CapabilityRow.{CapabilityRow}
 use Rattle.gh_model.specs.declared.state.State.{State}
 use Rattle.gh_model.specs.declared.word.Word.{Word}
+use Rattle.gh_model.specs.Held.{AreHeld}
 use Rattle.gh_model.specs.Rows.{cpu_row, fills}
 use Rattle.gh_model.specs.Word.{word_at, Shows}
 use Rattle.gh_model.specs.Registers.{call_of, needs_of}
@@ -172,16 +174,20 @@ module _ (boot : State) (history : List Event) where
         ≡ Done (state_at boot history number) made.mark.reply
     pub keeps : KeepsGrants number made
 
-  -- how a call ended whose frame is well formed. Nothing is held yet where units are short: no
-  -- object goes
+  -- the act was refused at this place for want of units, and these objects were held there
+  pub record IsShortAt (last at : ℕ) (call : Call) (made : Made) (held : List Held) : Type 0 where
+    pub refused : IsRefusedAt last at call made
+    pub short : is_short call made.mark.reply ≡ true
+    pub are_held : AreHeld (state_at boot history at) held
+
+  -- how a call ended whose frame is well formed
   abbrev pub EndIs : ℕ → Call → Made → End → Type 0
   EndIs last call made ends.Frame = ⊥
   EndIs last call made ends.Refused = IsRefusedLook call made
   EndIs last call made ends.Dead = IsDead call made
   EndIs last call made (ends.Act at) =
       IsRefusedAt last at call made × (is_short call made.mark.reply ≡ false)
-  EndIs last call made (ends.Short at held) =
-      IsRefusedAt last at call made × (is_short call made.mark.reply ≡ true) × (held ≡ [])
+  EndIs last call made (ends.Short at held) = IsShortAt last at call made held
   EndIs last call made (ends.Entry number) = IsEntry last number call made
 
   -- a frame that is refused ends the call; else its looks follow, and then its end

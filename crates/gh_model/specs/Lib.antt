@@ -9,6 +9,7 @@ pub mod Decide
 pub mod Decisions
 pub mod Fitting
 pub mod Graced
+pub mod Held
 pub mod History
 pub mod Legal
 pub mod ManagerCalls
