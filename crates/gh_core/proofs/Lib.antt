@@ -5,6 +5,7 @@ pub mod CallMoves
 pub mod CallsEnd
 pub mod CallsGoOn
 pub mod CallsKeep
+pub mod CausesHeld
 pub mod CpuMoves
 pub mod CpusRun
 pub mod DeathsOn
@@ -46,6 +47,7 @@ pub mod PinKeeps
 pub mod Places
 pub mod RetiredSince
 pub mod ReviveKeeps
+pub mod SawPins
 pub mod SetCapWords
 pub mod SlotHomes
 pub mod SlotsCame
