@@ -1,20 +1,18 @@
--- A turn that is given back behind its act keeps sound calls, but for want of units.
-use Rattle.std.proofs.Common.{◌≡◌, ◌≢◌, ◌==◌, ◌+◌, ◌*◌, ◌-◌, ◌<◌, ◌≤◌, ◌∙◌, ◌⊎◌, inl, inr, ℕ, Bool, true, false, not, List, [], ◌∷◌, ◌++◌, length, take, refl, subst, sym, ap, arith, Option, Some, None, count_by, find, is_some, map, option_map, slice_get, slice_index, if◌then◌else◌}
-use Rattle.std.specs.Prelude.{◌&&◌, nat_lt}
-use Rattle.std.specs.List.{last_or}
-use Rattle.std.proofs.lemmas.Bool.{eqb-true}
+-- A turn that is given back behind its act keeps sound calls.
+use Rattle.std.proofs.Common.{◌≡◌, ◌==◌, ◌+◌, ◌*◌, ◌-◌, ◌≤◌, ◌∙◌, ◌⊎◌, inl, inr, ℕ, Bool, true, false, not, List, [], ◌∷◌, ◌++◌, length, refl, subst, sym, ap, arith, Option, Some, None, count_by, find, is_some, option_map, slice_get, slice_index, if◌then◌else◌}
+use Rattle.std.specs.Prelude.{◌&&◌}
 use Rattle.std.proofs.lemmas.Bool.Decides.{eqb_tells, nat_tests}
 use Rattle.std.proofs.lemmas.List.{append-nil}
 use Rattle.std.proofs.lemmas.Option.{slice_get-map}
 use Rattle.gh_base.specs.declared.frame.Reply.{Reply}
 use Rattle.gh_base.specs.declared.mark.End.{End}
 use Rattle.gh_base.specs.declared.mark.End.TheVariants as ends
-use Rattle.gh_base.specs.declared.mark.Held.{Held}
 use Rattle.gh_model.proofs.RunLists.{count_snoc, in_turn_snoc, snoc_cases, take_all}
 use Rattle.gh_model.specs.Act.{Verdict, Done, Refused, granted}
 use Rattle.gh_model.specs.History as history
 use Rattle.gh_model.specs.History.{state_at}
-use Rattle.gh_model.specs.Legal.{CallIs, EndIs, EntryIs, GoesOn, IsEndOf, IsNumbered, is_short}
+use Rattle.gh_model.specs.Held.{AreHeld}
+use Rattle.gh_model.specs.Legal.{CallIs, EndIs, EntryIs, GoesOn, IsEndOf, IsNumbered, IsRefusedAt, is_short}
 use Rattle.gh_model.specs.Marks.{Grants, InTurn, Made, Seen, cspace_of, has_looks, place_after, place_after_looks}
 use Rattle.gh_model.specs.Registers.{needs_of}
 use Rattle.gh_model.specs.Rows.{is_object}
@@ -22,7 +20,7 @@ use Rattle.gh_model.specs.declared.entry.Entry.{Entry}
 use Rattle.gh_model.specs.declared.entry.Entry.TheVariants.{Acted, Part, Retired, Reclaimed}
 use Rattle.gh_model.specs.declared.state.State.{State}
 use Rattle.gh_core.specs.CallEvents.{finished, has_needs, with_end}
-use Rattle.gh_core.specs.Calls.{CpuCalls, CurrentIs, DeathIs, HasCalls, Waits, acted_call, as_made, calls_in, calls_of, counted, ends_short, is_short_end, is_short_now, last_ending, short_by, stands_open, steps_at}
+use Rattle.gh_core.specs.Calls.{CpuCalls, CurrentIs, DeathIs, HasCalls, Waits, acted_call, as_made, calls_in, SawPins, calls_of, counted, last_ending, stands_open, steps_at}
 use Rattle.gh_core.specs.Config.{AtAct, Config, Cpu, Current, Holder, Pin, came_to, has_acted, has_part, judged, pin_of, present, put, seen_index}
 use Rattle.gh_core.specs.References.{HasReferences, IsPinned}
 use Rattle.gh_core.specs.TurnEvents.{Ending, MayEnd, acted_ending, causes, end_call, ended, ending, has_causes, refused_ending, short_ending, with_ending}
@@ -31,6 +29,7 @@ use Rattle.gh_core.proofs.ActCalls.{looks_for_needs}
 use Rattle.gh_core.proofs.CallMoves.{DeathsAre, IsNotHolder, only_made}
 use Rattle.gh_core.proofs.CallsEnd.{EndsSoundly, end_is_call, end_is_numbered, ends_stay}
 use Rattle.gh_core.proofs.CallsGoOn.{its_counter, its_pinned, none_acts}
+use Rattle.gh_core.proofs.CausesHeld.{causes_are_held}
 use Rattle.gh_core.proofs.EntryKeeps.{none_of}
 use Rattle.gh_core.proofs.EntryMoves.{there_lives}
 use Rattle.gh_core.proofs.EventObjects.{life}
@@ -39,7 +38,7 @@ use Rattle.gh_core.proofs.GoneBehind.{gone_behind}
 use Rattle.gh_core.proofs.HolderCalls.{none_committed}
 use Rattle.gh_core.proofs.Places.{calls_within, looks_within}
 
-zero_differs : (n : ℕ) → (n == 0) ≡ false → n ≡ 0 → ⊥
+pub zero_differs : (n : ℕ) → (n == 0) ≡ false → n ≡ 0 → ⊥
 zero_differs n differs zero =
     let same : (n == 0) ≡ true = ap (λ (k : ℕ). k == 0) zero in let never : ⊥ = cc in never
 
@@ -294,11 +293,8 @@ module _ (conf : Config) (at : ℕ) (sound : HasCalls conf) (refs : HasReference
   -- an act that is refused at the history's end
   module _ (reply : Reply) (not_acted : has_acted may.holder ≡ false) (no_part : has_part may.holder ≡ false)
       (refused : judged (present conf) at may.call ≡ Refused reply)
-      (number : (slice_index reply.x 0 == 0) ≡ false) (full : is_short may.call.given.call reply ≡ false)
+      (number : (slice_index reply.x 0 == 0) ≡ false)
     where
-      abbrev end_now : End
-      end_now = ends.Act (length conf.history)
-
       place_below : place_after_looks (place_after (conf.cpu at).made) may.call.seen ≤ length conf.history
       place_below =
           looks_within (length conf.history) (place_after (conf.cpu at).made) may.call.seen
@@ -310,47 +306,69 @@ module _ (conf : Config) (at : ℕ) (sound : HasCalls conf) (refs : HasReference
       none_taken =
           sound.entries.untaken (ap stands_open may.has_turn.turn ∙ and_shut (has_part may.holder) (not (has_acted may.holder)) no_part)
 
-      refused_end : EndIs conf.boot conf.history (place_after (conf.cpu at).made) may.call.given.call (finished at may.call end_now reply) end_now
-      refused_end = (
-        record {
-          within = omega arith;
-          not_before = place_below;
-          refused = record {
-            grants = came;
-            judged = ap (λ (s : State). judged s at may.call) at_end ∙ refused;
-            is_refusal = λ zero. zero_differs (slice_index reply.x 0) number zero;
-            no_parts = ap (λ (s : State). s.taken) at_end ∙ none_taken;
-          };
-          keeps = λ i n seen event looked is behind below reclaimed.
-              pinned_lives i seen looked
-              (gone_behind conf.boot conf.history n event (granted seen.word).0 valid.boot_valid valid.events_fit is (sound.entries.unreferenced n event is) reclaimed);
-        },
-        full,
-      )
-
-      soundly : EndsSoundly conf at may.call end_now reply
-      soundly = record {
-        is_current = may.in_act.is_current;
-        looked = looks_are_needs end_now reply;
-        ended = refused_end;
-        death = λ seen dead last. absurd (let never : ⊥ = cc in never);
+      refused_at : (end : End) → IsRefusedAt conf.boot conf.history (place_after (conf.cpu at).made) (length conf.history) may.call.given.call (finished at may.call end reply)
+      refused_at end = record {
+        within = omega arith;
+        not_before = place_below;
+        refused = record {
+          grants = came;
+          judged = ap (λ (s : State). judged s at may.call) at_end ∙ refused;
+          is_refusal = λ zero. zero_differs (slice_index reply.x 0) number zero;
+          no_parts = ap (λ (s : State). s.taken) at_end ∙ none_taken;
+        };
+        keeps = λ i n seen event looked is behind below reclaimed.
+            pinned_lives i seen looked
+            (gone_behind conf.boot conf.history n event (granted seen.word).0 valid.boot_valid valid.events_fit is (sound.entries.unreferenced n event is) reclaimed);
       }
 
-      refused_well : EndsWell conf at may.call end_now reply
-      refused_well = record {
-        finished_is = in_turn_snoc (CallIs conf.boot conf.history at) (conf.cpu at).made (finished at may.call end_now reply)
-            (subst (λ (calls : List Made). InTurn (CallIs conf.boot conf.history at) calls) (none_acted_now not_acted) (sound.calls at).finished)
-            (end_is_call conf at may.call end_now reply soundly sound);
-        numbered_is = in_turn_snoc IsNumbered (conf.cpu at).made (finished at may.call end_now reply)
-            (subst (λ (calls : List Made). InTurn IsNumbered calls) (none_acted_now not_acted) (sound.calls at).numbered)
-            (end_is_numbered conf at may.call end_now reply soundly sound);
-        ends_stay = λ number_of entry is.
-            ends_stay conf at may.call end_now reply soundly sound number_of entry
-            (subst (λ (calls : List Made). IsEndOf calls number_of entry) (none_acted_now not_acted) is);
-        lives = λ dead. let never : ⊥ = cc in never;
-        looked = looks_are_needs end_now reply;
-        closed = λ holder held. and_shut (has_part holder) (not (has_acted holder)) (ap has_part (sym (its_holder holder held)) ∙ no_part);
-      }
+      -- with this end
+      module _ (end : End)
+          (ended : EndIs conf.boot conf.history (place_after (conf.cpu at).made) may.call.given.call (finished at may.call end reply) end)
+          (lives : end ≡ ends.Dead → ⊥)
+        where
+          soundly : EndsSoundly conf at may.call end reply
+          soundly = record {
+            is_current = may.in_act.is_current;
+            looked = looks_are_needs end reply;
+            ended = ended;
+            death = λ seen dead last. absurd (lives dead);
+          }
+
+          refused_well : EndsWell conf at may.call end reply
+          refused_well = record {
+            finished_is = in_turn_snoc (CallIs conf.boot conf.history at) (conf.cpu at).made (finished at may.call end reply)
+                (subst (λ (calls : List Made). InTurn (CallIs conf.boot conf.history at) calls) (none_acted_now not_acted) (sound.calls at).finished)
+                (end_is_call conf at may.call end reply soundly sound);
+            numbered_is = in_turn_snoc IsNumbered (conf.cpu at).made (finished at may.call end reply)
+                (subst (λ (calls : List Made). InTurn IsNumbered calls) (none_acted_now not_acted) (sound.calls at).numbered)
+                (end_is_numbered conf at may.call end reply soundly sound);
+            ends_stay = λ number_of entry is.
+                ends_stay conf at may.call end reply soundly sound number_of entry
+                (subst (λ (calls : List Made). IsEndOf calls number_of entry) (none_acted_now not_acted) is);
+            lives = lives;
+            looked = looks_are_needs end reply;
+            closed = λ holder held. and_shut (has_part holder) (not (has_acted holder)) (ap has_part (sym (its_holder holder held)) ∙ no_part);
+          }
+
+      -- for another cause than want of units
+      act_well : is_short may.call.given.call reply ≡ false
+          → EndsWell conf at may.call (ends.Act (length conf.history)) reply
+      act_well full =
+          refused_well (ends.Act (length conf.history)) (refused_at (ends.Act (length conf.history)), full) (λ dead. let never : ⊥ = cc in never)
+
+      -- for want of units, where each object that is held has its cause
+      short_well : is_short may.call.given.call reply ≡ true → SawPins conf.turn
+          → has_causes may.holder (present conf) ≡ true
+          → EndsWell conf at may.call (ends.Short (length conf.history) (causes may.holder (present conf))) reply
+      short_well short saw all =
+          refused_well short_end record {
+            refused = refused_at short_end;
+            short = short;
+            are_held = subst (λ (s : State). AreHeld s (causes may.holder (present conf))) (sym at_end) (causes_are_held may.holder (present conf) valid.valid (λ serial count failed. saw may.holder serial count may.has_turn.turn failed) all);
+          } (λ dead. let never : ⊥ = cc in never)
+        where
+          short_end : End
+          short_end = ends.Short (length conf.history) (causes may.holder (present conf))
 
 acted_lives : (number : ℕ) (verdict : Verdict) (one : Ending) → acted_ending number verdict ≡ Some one
     → one.end ≡ ends.Dead → ⊥
@@ -360,65 +378,67 @@ acted_lives number (Done new reply) one is dead =
     let never : ⊥ = cc in never
 acted_lives number (Refused reply) one is dead = let never : ⊥ = cc in never
 
-shorts_end : (causes_there : Bool) (place : ℕ) (held : List Held) (reply : Reply) (one : Ending)
-    → (if causes_there then Some (record { end = ends.Short place held; reply = reply }) else None) ≡ Some one
-    → is_short_end one.end ≡ true
-shorts_end true place held reply one is =
-    let same : record { end = ends.Short place held; reply = reply } ≡ one = cc in
-    ap (λ (e : Ending). is_short_end e.end) (sym same)
-shorts_end false place held reply one is = absurd (let never : ⊥ = cc in never)
-
 module _ (conf : Config) (at : ℕ) (sound : HasCalls conf) (refs : HasReferences conf)
-    (valid : HasValid conf) (may : MayEnd conf at) where
+    (valid : HasValid conf) (saw : SawPins conf.turn) (may : MayEnd conf at) where
   abbrev Well : Ending → Type 0
   Well one = EndsWell conf at may.call one.end one.reply
+
+  shorts_by : (one : Ending) (reply : Reply) (all : Bool) → has_acted may.holder ≡ false
+      → has_part may.holder ≡ false → judged (present conf) at may.call ≡ Refused reply
+      → (slice_index reply.x 0 == 0) ≡ false → is_short may.call.given.call reply ≡ true
+      → has_causes may.holder (present conf) ≡ all
+      → (if all then Some (record { end = ends.Short (length conf.history) (causes may.holder (present conf)); reply = reply }) else None) ≡ Some one
+      → Well one
+  shorts_by one reply true not_acted no_part refused zero short all is =
+      let same : record { end = ends.Short (length conf.history) (causes may.holder (present conf)); reply = reply } ≡ one = cc in
+      subst Well same (short_well conf at sound refs valid may reply not_acted no_part refused zero short saw all)
+  shorts_by one reply false not_acted no_part refused zero short all is =
+      absurd (let never : ⊥ = cc in never)
 
   refused_by : (one : Ending) (reply : Reply) (zero short : Bool) → has_acted may.holder ≡ false
       → has_part may.holder ≡ false → judged (present conf) at may.call ≡ Refused reply
       → (slice_index reply.x 0 == 0) ≡ zero → is_short may.call.given.call reply ≡ short
       → (if zero then None else (if short then short_ending may.holder (present conf) (length conf.history) reply
       else Some (record { end = ends.Act (length conf.history); reply = reply }))) ≡ Some one
-      → is_short_end one.end ≡ false → Well one
-  refused_by one reply true short not_acted no_part refused zero full is enough =
+      → Well one
+  refused_by one reply true short not_acted no_part refused zero full is =
       absurd (let never : ⊥ = cc in never)
-  refused_by one reply false true not_acted no_part refused zero full is enough =
-      let short : is_short_end one.end ≡ true = shorts_end (has_causes may.holder (present conf)) (length conf.history) (causes may.holder (present conf)) reply one is in
-      absurd (let never : ⊥ = cc in never)
-  refused_by one reply false false not_acted no_part refused zero full is enough =
+  refused_by one reply false true not_acted no_part refused zero short is =
+      shorts_by one reply (has_causes may.holder (present conf)) not_acted no_part refused zero short refl is
+  refused_by one reply false false not_acted no_part refused zero full is =
       let same : record { end = ends.Act (length conf.history); reply = reply } ≡ one = cc in
-      subst Well same (refused_well conf at sound refs valid may reply not_acted no_part refused zero full)
+      subst Well same (act_well conf at sound refs valid may reply not_acted no_part refused zero full)
 
   verdict_by : (one : Ending) (verdict : Verdict) → has_acted may.holder ≡ false
       → has_part may.holder ≡ false → judged (present conf) at may.call ≡ verdict
       → refused_ending may.holder (present conf) (length conf.history) may.call.given.call verdict ≡ Some one
-      → is_short_end one.end ≡ false → Well one
-  verdict_by one (Done new reply) not_acted no_part done is enough =
-      absurd (let never : ⊥ = cc in never)
-  verdict_by one (Refused reply) not_acted no_part refused is enough =
-      refused_by one reply (slice_index reply.x 0 == 0) (is_short may.call.given.call reply) not_acted no_part refused refl refl is enough
+      → Well one
+  verdict_by one (Done new reply) not_acted no_part done is = absurd (let never : ⊥ = cc in never)
+  verdict_by one (Refused reply) not_acted no_part refused is =
+      refused_by one reply (slice_index reply.x 0 == 0) (is_short may.call.given.call reply) not_acted no_part refused refl refl is
 
   well_by : (one : Ending) (acted part : Bool) → has_acted may.holder ≡ acted
       → has_part may.holder ≡ part
       → (if acted then last_ending conf.boot conf.history at may.call
       else (if part then None
       else refused_ending may.holder (present conf) (length conf.history) may.call.given.call (judged (present conf) at may.call))) ≡ Some one
-      → is_short_end one.end ≡ false → Well one
-  well_by one true part acted parts is enough =
+      → Well one
+  well_by one true part acted parts is =
       acted_well conf at sound refs valid may one acted is
       (acted_lives (length conf.history) (judged (state_at conf.boot conf.history (length conf.history - 1)) at may.call) one is)
-  well_by one false true acted parts is enough = absurd (let never : ⊥ = cc in never)
-  well_by one false false acted parts is enough =
-      verdict_by one (judged (present conf) at may.call) acted parts refl is enough
+  well_by one false true acted parts is = absurd (let never : ⊥ = cc in never)
+  well_by one false false acted parts is =
+      verdict_by one (judged (present conf) at may.call) acted parts refl is
 
   abbrev Freed : Option Ending → Config
   Freed ended = record conf { turn = None; cpu = put conf.cpu at (with_ending at (conf.cpu at) may.call ended) }
 
   free_by : (ended : Option Ending) → ending conf at may.holder may.call ≡ ended
-      → is_some ended ≡ true → ends_short ended ≡ false → HasCalls (Freed ended)
-  free_by None is some enough = absurd (let never : ⊥ = cc in never)
-  free_by (Some one) is some enough =
+      → is_some ended ≡ true → HasCalls (Freed ended)
+  free_by None is some = absurd (let never : ⊥ = cc in never)
+  free_by (Some one) is some =
       free_sound conf at sound may one.end one.reply
-      (well_by one (has_acted may.holder) (has_part may.holder) refl refl is enough)
+      (well_by one (has_acted may.holder) (has_part may.holder) refl refl is)
 
   end_is : end_call conf at conf.turn (conf.cpu at).current
       ≡ with_ending at (conf.cpu at) may.call (ending conf at may.holder may.call)
@@ -426,14 +446,8 @@ module _ (conf : Config) (at : ℕ) (sound : HasCalls conf) (refs : HasReference
       ap (λ (turn : Option Holder). end_call conf at turn (conf.cpu at).current) may.has_turn.turn
       ∙ ap (end_call conf at (Some may.holder)) may.in_act.is_current
 
-  short_is : short_by conf at conf.turn (conf.cpu at).current ≡ ends_short (ending conf at may.holder may.call)
-  short_is =
-      ap (λ (turn : Option Holder). short_by conf at turn (conf.cpu at).current) may.has_turn.turn
-      ∙ ap (short_by conf at (Some may.holder)) may.in_act.is_current
-
-  -- a turn that is given back behind its act keeps sound calls, where the call doesn't end for want
-  -- of units
-  pub free_keeps_calls : is_short_now conf at ≡ false → HasCalls (ended conf at)
-  free_keeps_calls enough =
+  -- a turn that is given back behind its act keeps sound calls
+  pub free_keeps_calls : HasCalls (ended conf at)
+  free_keeps_calls =
       subst (λ (cpu : Cpu). HasCalls (record conf { turn = None; cpu = put conf.cpu at cpu })) (sym end_is)
-      (free_by (ending conf at may.holder may.call) refl may.has_ended (sym short_is ∙ enough))
+      (free_by (ending conf at may.holder may.call) refl may.has_ended)

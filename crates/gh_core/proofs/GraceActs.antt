@@ -222,3 +222,13 @@ module _ (conf : Config) (at space slot : ℕ) (word : CapWord) (graced : HasGra
         absurd (sets_none (is_doomed (present conf) serial.0 && is_unretired (object_row (present conf) serial.0)) (change.Retire serial seen) refl may.one_slot)
     set_graced (Reclaimed serial seen) may =
         absurd (sets_none (is_doomed (present conf) serial.0 && is_retired (object_row (present conf) serial.0)) (change.Reclaim serial) refl may.one_slot)
+
+-- such an entry keeps no counters
+pub set_keeps_none : (conf : Config) (at : ℕ) (entry : Entry) (space slot : ℕ) (word : CapWord)
+    → MaySetCap conf at entry space slot word → counters entry ≡ None
+set_keeps_none conf at (Acted cpu number) space slot word may = refl
+set_keeps_none conf at (Part cpu number cspace n) space slot word may = refl
+set_keeps_none conf at (Retired serial seen) space slot word may =
+    absurd (sets_none (is_doomed (present conf) serial.0 && is_unretired (object_row (present conf) serial.0)) (change.Retire serial seen) refl may.one_slot)
+set_keeps_none conf at (Reclaimed serial seen) space slot word may =
+    absurd (sets_none (is_doomed (present conf) serial.0 && is_retired (object_row (present conf) serial.0)) (change.Reclaim serial) refl may.one_slot)

@@ -5,13 +5,14 @@ use Rattle.std.specs.List.{list_any}
 use Rattle.gh_base.specs.declared.call.Call.{Call}
 use Rattle.gh_base.specs.declared.frame.Reply.{Reply}
 use Rattle.gh_base.specs.declared.limits.TheConstants.{CPUS}
+use Rattle.gh_base.specs.declared.mark.End.{End}
 use Rattle.gh_base.specs.declared.mark.End.TheVariants as finish
 use Rattle.gh_base.specs.declared.mark.Held.{Held}
 use Rattle.gh_model.specs.Act.{Verdict, Done, Refused}
 use Rattle.gh_model.specs.Graced.{finds, granting}
 use Rattle.gh_model.specs.History.{state_at}
 use Rattle.gh_model.specs.Legal.{is_short}
-use Rattle.gh_model.specs.Marks.{Seen}
+use Rattle.gh_model.specs.Marks.{Seen, place}
 use Rattle.gh_model.specs.declared.state.State.{State}
 use Rattle.gh_core.specs.CallEvents.{begun, finished, has_needs}
 use Rattle.gh_core.specs.Config.{AtAct, Config, Cpu, Current, Given, Holder, Pin, Stage, came_to, entries, has_acted, has_part, judged, present}
@@ -44,7 +45,7 @@ next_new None call is = absurd (no_call call is)
 next_new (Some given) call is =
     record { given = given; none = refl; is = lookless_new (has_needs given) given call is }
 
-ready_new : (current : Option Current) (pins : List Pin) (next : Option Given) (call : Current)
+pub ready_new : (current : Option Current) (pins : List Pin) (next : Option Given) (call : Current)
     → call_at_act current pins next ≡ Some call → (current ≡ Some call) ⊎ IsNewCall current call
 ready_new (Some before) pins next call is =
     let at : before.stage ≡ AtAct = stage_ready before.stage before call refl is in
@@ -111,50 +112,65 @@ module _ (conf : Config) (at : ℕ) (graced : HasGrace conf) where
 
 -- Free behind the act
 
--- a call that ends with its act was granted the objects of all its looks
-acts_end : (number : ℕ) (verdict : Verdict) (ending : Ending) (seen : List Seen)
-    → acted_ending number verdict ≡ Some ending → granting ending.end seen ≡ seen
-acts_end number (Done new reply) ending seen is =
+acts_end : (number : ℕ) (verdict : Verdict) (ending : Ending) → acted_ending number verdict ≡ Some ending
+    → place ending.end ≡ Some number
+acts_end number (Done new reply) ending is =
     let same : record { end = finish.Entry number; reply = reply } ≡ ending = cc in
-    sym (ap (λ (one : Ending). granting one.end seen) same)
-acts_end number (Refused reply) ending seen is = absurd (let never : ⊥ = cc in never)
+    sym (ap (λ (one : Ending). place one.end) same)
+acts_end number (Refused reply) ending is = absurd (let never : ⊥ = cc in never)
 
-shorts_end : (short : Bool) (place : ℕ) (held : List Held) (reply : Reply) (ending : Ending) (seen : List Seen)
-    → (if short then Some (record { end = finish.Short place held; reply = reply }) else None) ≡ Some ending
-    → granting ending.end seen ≡ seen
-shorts_end true place held reply ending seen is =
-    let same : record { end = finish.Short place held; reply = reply } ≡ ending = cc in
-    sym (ap (λ (one : Ending). granting one.end seen) same)
-shorts_end false place held reply ending seen is = absurd (let never : ⊥ = cc in never)
+shorts_end : (short : Bool) (number : ℕ) (held : List Held) (reply : Reply) (ending : Ending)
+    → (if short then Some (record { end = finish.Short number held; reply = reply }) else None) ≡ Some ending
+    → place ending.end ≡ Some number
+shorts_end true number held reply ending is =
+    let same : record { end = finish.Short number held; reply = reply } ≡ ending = cc in
+    sym (ap (λ (one : Ending). place one.end) same)
+shorts_end false number held reply ending is = absurd (let never : ⊥ = cc in never)
 
-refused_by : (none short : Bool) (holder : Holder) (s : State) (place : ℕ) (reply : Reply) (ending : Ending) (seen : List Seen)
-    → (if none then None else (if short then short_ending holder s place reply else Some (record { end = finish.Act place; reply = reply }))) ≡ Some ending
-    → granting ending.end seen ≡ seen
-refused_by true short holder s place reply ending seen is = absurd (let never : ⊥ = cc in never)
-refused_by false true holder s place reply ending seen is = shorts_end (has_causes holder s) place (causes holder s) reply ending seen is
-refused_by false false holder s place reply ending seen is =
-    let same : record { end = finish.Act place; reply = reply } ≡ ending = cc in
-    sym (ap (λ (one : Ending). granting one.end seen) same)
+refused_by : (none short : Bool) (holder : Holder) (s : State) (number : ℕ) (reply : Reply) (ending : Ending)
+    → (if none then None else (if short then short_ending holder s number reply else Some (record { end = finish.Act number; reply = reply }))) ≡ Some ending
+    → place ending.end ≡ Some number
+refused_by true short holder s number reply ending is = absurd (let never : ⊥ = cc in never)
+refused_by false true holder s number reply ending is = shorts_end (has_causes holder s) number (causes holder s) reply ending is
+refused_by false false holder s number reply ending is =
+    let same : record { end = finish.Act number; reply = reply } ≡ ending = cc in
+    sym (ap (λ (one : Ending). place one.end) same)
 
-refuses_end : (holder : Holder) (s : State) (place : ℕ) (call : Call) (verdict : Verdict) (ending : Ending) (seen : List Seen)
-    → refused_ending holder s place call verdict ≡ Some ending → granting ending.end seen ≡ seen
-refuses_end holder s place call (Done new reply) ending seen is = absurd (let never : ⊥ = cc in never)
-refuses_end holder s place call (Refused reply) ending seen is =
-    refused_by (slice_index reply.x 0 == 0) (is_short call reply) holder s place reply ending seen is
+refuses_end : (holder : Holder) (s : State) (number : ℕ) (call : Call) (verdict : Verdict) (ending : Ending)
+    → refused_ending holder s number call verdict ≡ Some ending → place ending.end ≡ Some number
+refuses_end holder s number call (Done new reply) ending is = absurd (let never : ⊥ = cc in never)
+refuses_end holder s number call (Refused reply) ending is =
+    refused_by (slice_index reply.x 0 == 0) (is_short call reply) holder s number reply ending is
 
 ending_by : (acted part : Bool) (number : ℕ) (verdict other : Verdict) (holder : Holder) (s : State)
-    (place : ℕ) (call : Call) (ending : Ending) (seen : List Seen)
-    → (if acted then acted_ending number verdict else (if part then None else refused_ending holder s place call other)) ≡ Some ending
-    → granting ending.end seen ≡ seen
-ending_by true part number verdict other holder s place call ending seen is = acts_end number verdict ending seen is
-ending_by false true number verdict other holder s place call ending seen is = absurd (let never : ⊥ = cc in never)
-ending_by false false number verdict other holder s place call ending seen is =
-    refuses_end holder s place call other ending seen is
+    (call : Call) (ending : Ending)
+    → (if acted then acted_ending number verdict else (if part then None else refused_ending holder s number call other)) ≡ Some ending
+    → place ending.end ≡ Some number
+ending_by true part number verdict other holder s call ending is = acts_end number verdict ending is
+ending_by false true number verdict other holder s call ending is = absurd (let never : ⊥ = cc in never)
+ending_by false false number verdict other holder s call ending is =
+    refuses_end holder s number call other ending is
+
+-- the end of the holder's call has its place at the history's end
+pub end_place : (conf : Config) (at : ℕ) (holder : Holder) (call : Current) (end : Ending)
+    → ending conf at holder call ≡ Some end → place end.end ≡ Some (entries conf)
+end_place conf at holder call end is =
+    ending_by (has_acted holder) (has_part holder) (entries conf) (judged (state_at conf.boot conf.history (entries conf - 1)) at call) (judged (present conf) at call) holder (present conf) call.given.call end is
+
+-- and a call that ends with its act was granted the objects of all its looks
+pub placed_grants : (end : End) (number : ℕ) (seen : List Seen) → place end ≡ Some number
+    → granting end seen ≡ seen
+placed_grants finish.Frame number seen is = refl
+placed_grants finish.Refused number seen is = absurd (let never : ⊥ = cc in never)
+placed_grants finish.Dead number seen is = refl
+placed_grants (finish.Act at) number seen is = refl
+placed_grants (finish.Short at held) number seen is = refl
+placed_grants (finish.Entry entry) number seen is = refl
 
 end_grants : (conf : Config) (at : ℕ) (holder : Holder) (call : Current) (end : Ending)
     → ending conf at holder call ≡ Some end → granting end.end call.seen ≡ call.seen
 end_grants conf at holder call end is =
-    ending_by (has_acted holder) (has_part holder) (entries conf) (judged (state_at conf.boot conf.history (entries conf - 1)) at call) (judged (present conf) at call) holder (present conf) (entries conf) call.given.call end call.seen is
+    placed_grants end.end (entries conf) call.seen (end_place conf at holder call end is)
 
 module _ (conf : Config) (at : ℕ) (graced : HasGrace conf) (free : conf.turn ≡ None) (within : at < CPUS) where
   end_ends : (call : Current) (end : Ending) → (conf.cpu at).current ≡ Some call → call.stage ≡ AtAct

@@ -5,6 +5,7 @@ pub mod CallMoves
 pub mod CallsEnd
 pub mod CallsGoOn
 pub mod CallsKeep
+pub mod CausesHeld
 pub mod CpuMoves
 pub mod CpusRun
 pub mod DeathsOn
@@ -46,10 +47,12 @@ pub mod PinKeeps
 pub mod Places
 pub mod RetiredSince
 pub mod ReviveKeeps
+pub mod SawPins
 pub mod SetCapWords
 pub mod SlotHomes
 pub mod SlotsCame
 pub mod SlotsLeft
+pub mod SoundBetween
 pub mod SoundEvents
 pub mod SoundGrants
 pub mod SoundLooks

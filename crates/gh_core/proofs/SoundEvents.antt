@@ -17,8 +17,8 @@ use Rattle.gh_core.specs.Config.{Config, Current, object_at, present, put}
 use Rattle.gh_core.specs.Entries.{index_after}
 use Rattle.gh_core.specs.Events.{Possible, after}
 use Rattle.gh_core.specs.HolderEvents.{kill_failed, with_turn, without_scans}
-use Rattle.gh_core.specs.Sound.{Does, HasUnits, Gives, Goes, IsSound, MayStep, Runs, Step, after_step, after_steps}
-use Rattle.gh_core.specs.Start.{AreIndices, MayGive, given, start}
+use Rattle.gh_core.specs.Sound.{Does, Gives, Goes, IsSound, MayStep, Runs, Step, after_step, after_steps}
+use Rattle.gh_core.specs.Start.{AreIndices, MayGive, given, new_cpu, start}
 use Rattle.gh_core.specs.TurnEvents.{committed_by}
 use Rattle.gh_core.specs.declared.event.Event.{Event}
 use Rattle.gh_core.specs.declared.event.Event.TheVariants.{Enter, Leave, Take, Look, Pin, Unpin, Undo, Kill, Commit, SetCap, Free, Scan, Revive, Join, Split}
@@ -35,6 +35,8 @@ use Rattle.gh_core.proofs.HolderCalls.{kill_keeps_calls, owe_keeps_calls, quit_k
 use Rattle.gh_core.proofs.LookCalls.{look_keeps_calls}
 use Rattle.gh_core.proofs.PartCalls.{commit_keeps_calls, set_cap_keeps_calls}
 use Rattle.gh_core.proofs.PinCalls.{pin_keeps_calls}
+use Rattle.gh_core.proofs.SawPins.{event_saw, free_saw}
+use Rattle.gh_core.proofs.SoundBetween.{event_between, given_between, start_between}
 use Rattle.gh_core.proofs.SoundOrder.{event_in_order, start_in_order}
 use Rattle.gh_core.proofs.StartCalls.{file_calls}
 use Rattle.gh_core.proofs.StartWords.{start_shows}
@@ -82,6 +84,8 @@ start_is_sound lines index fits indices =
       valid = start_valid lines index fits;
       calls = file_calls lines index;
       order = start_in_order (boot_state lines);
+      between = start_between (λ _. new_cpu);
+      saw = free_saw;
       words = start_shows lines index fits indices;
       begins = none;
       room = subst (λ (n : ℕ). n < settings) (sym none) (omega arith);
@@ -89,33 +93,33 @@ start_is_sound lines index fits indices =
 
 -- events
 
--- every event keeps sound calls, but for an end for want of units
+-- every event keeps sound calls
 event_calls : (conf : Config) (event : Event) → IsSound conf → Possible conf event
-    → HasUnits conf event → HasCalls (after conf event)
-event_calls conf (Enter cpu) sound may units = enter_keeps_calls conf cpu.0 sound.calls may
-event_calls conf (Leave cpu) sound may units = leave_keeps_calls conf cpu.0 sound.calls may
-event_calls conf (Take cpu) sound may units = take_keeps_calls conf cpu.0 sound.calls may
-event_calls conf (Look cpu slot) sound may units =
+    → HasCalls (after conf event)
+event_calls conf (Enter cpu) sound may = enter_keeps_calls conf cpu.0 sound.calls may
+event_calls conf (Leave cpu) sound may = leave_keeps_calls conf cpu.0 sound.calls may
+event_calls conf (Take cpu) sound may = take_keeps_calls conf cpu.0 sound.calls may
+event_calls conf (Look cpu slot) sound may =
     look_keeps_calls conf cpu.0 slot sound.calls sound.valid sound.words sound.room may sound.begins
-event_calls conf (Pin cpu object false) sound may units =
+event_calls conf (Pin cpu object false) sound may =
     pin_keeps_calls conf cpu.0 object.0 sound.calls sound.references sound.valid may
-event_calls conf (Pin cpu object true) sound may units = owe_keeps_calls conf object.0 sound.calls
-event_calls conf (Unpin cpu object false) sound may units = unpin_keeps_calls conf cpu.0 object.0 sound.calls may
-event_calls conf (Unpin cpu object true) sound may units = settle_keeps_calls conf object.0 sound.calls
-event_calls conf (Undo cpu object) sound may units = undo_keeps_calls conf cpu.0 object.0 sound.calls may
-event_calls conf (Kill cpu object) sound may units = kill_keeps_calls conf object.0 sound.calls
-event_calls conf (Commit cpu entry) sound may units =
+event_calls conf (Pin cpu object true) sound may = owe_keeps_calls conf object.0 sound.calls
+event_calls conf (Unpin cpu object false) sound may = unpin_keeps_calls conf cpu.0 object.0 sound.calls may
+event_calls conf (Unpin cpu object true) sound may = settle_keeps_calls conf object.0 sound.calls
+event_calls conf (Undo cpu object) sound may = undo_keeps_calls conf cpu.0 object.0 sound.calls may
+event_calls conf (Kill cpu object) sound may = kill_keeps_calls conf object.0 sound.calls
+event_calls conf (Commit cpu entry) sound may =
     commit_keeps_calls conf cpu.0 entry record { sound = sound.calls; refs = sound.references; graced = sound.grace; state = sound.state; fit = sound.valid } may
-event_calls conf (SetCap cpu entry space slot word) sound may units =
+event_calls conf (SetCap cpu entry space slot word) sound may =
     set_cap_keeps_calls conf cpu.0 entry space.0 slot word record { sound = sound.calls; refs = sound.references; graced = sound.grace; state = sound.state; fit = sound.valid } may
-event_calls conf (Free cpu true) sound may units =
-    free_keeps_calls conf cpu.0 sound.calls sound.references sound.valid may units
-event_calls conf (Free cpu false) sound may units = quit_keeps_calls conf cpu.0 sound.calls may
-event_calls conf (Scan cpu of_cpu) sound may units = scan_keeps_calls conf of_cpu.0 sound.calls
-event_calls conf (Revive cpu object count) sound may units =
+event_calls conf (Free cpu true) sound may =
+    free_keeps_calls conf cpu.0 sound.calls sound.references sound.valid sound.saw may
+event_calls conf (Free cpu false) sound may = quit_keeps_calls conf cpu.0 sound.calls may
+event_calls conf (Scan cpu of_cpu) sound may = scan_keeps_calls conf of_cpu.0 sound.calls
+event_calls conf (Revive cpu object count) sound may =
     revive_keeps_calls conf cpu.0 object.0 count sound.calls may
-event_calls conf (Join cpu) sound may units = sound.calls
-event_calls conf (Split cpu) sound may units = sound.calls
+event_calls conf (Join cpu) sound may = sound.calls
+event_calls conf (Split cpu) sound may = sound.calls
 
 failed_boot : (conf : Config) (object : ℕ) (found : Option ObjectRow)
     → (kill_failed conf object found).boot ≡ conf.boot
@@ -163,11 +167,13 @@ event_keeps_sound conf event sound may goes = record {
   grace = event_graced conf event sound.references sound.grace sound.state sound.valid.valid may;
   state = event_keeps_state conf event sound.state may;
   valid = event_keeps_valid conf event sound.valid may;
-  calls = event_calls conf event sound may goes.units;
+  calls = event_calls conf event sound may;
   order = event_in_order conf event sound.order sound.grace may;
-  words = event_shows conf event sound.references sound.state sound.valid sound.words goes.room may;
+  between = event_between conf event sound may;
+  saw = event_saw conf event sound.saw;
+  words = event_shows conf event sound.references sound.state sound.valid sound.words goes may;
   begins = ap (λ (boot : State). boot.entries) (boot_stays conf event) ∙ sound.begins;
-  room = goes.room;
+  room = goes;
 }
 
 -- runs
@@ -182,6 +188,8 @@ given_keeps_sound conf at number frame sound may = record {
   valid = given_valid conf sound.valid at number frame may;
   calls = given_keeps_calls conf at number frame sound.calls may;
   order = sound.order;
+  between = given_between conf at number frame may sound.between;
+  saw = sound.saw;
   words = record { filled = sound.words.filled; attached = sound.words.attached; empty = sound.words.empty; within = sound.words.within };
   begins = sound.begins;
   room = sound.room;

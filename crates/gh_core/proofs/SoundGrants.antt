@@ -109,14 +109,15 @@ module _ (conf : Config) (cpu : ℕ) (call : Current) (i : ℕ) (seen : Seen) (s
       granted_by (grant_cases call.stage (came_to call) call.seen i seen ((sound.calls.calls cpu).current call is_current).came is)
 
 -- where no item passes a test, none of the list does
-any_none : {X : Type 0} (p : X → Bool) (items : List X)
+pub any_none : {X : Type 0} (p : X → Bool) (items : List X)
     → ((i : ℕ) (item : X) → slice_get items i ≡ Some item → p item ≡ false)
     → list_any p items ≡ false
 any_none p [] fails = refl
 any_none p (item ∷ items) fails =
     rw (fails 0 item refl, any_none p items (λ i one is. fails (suc i) one is)) refl
 
-named_by : (serial : ℕ) (row : Option CapabilityRow) (set_at : ℕ) → names_object serial row ≡ true
+-- a look that found a capability of an object granted this object
+pub named_by : (serial : ℕ) (row : Option CapabilityRow) (set_at : ℕ) → names_object serial row ≡ true
     → (granted (record { row = row; set_at = set_at })).0 ≡ serial
 named_by serial None set_at finds = absurd (let never : ⊥ = cc in never)
 named_by serial (Some row) set_at finds = eqb-true row.serial.0 serial finds

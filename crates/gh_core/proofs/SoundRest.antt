@@ -1,6 +1,6 @@
 -- At rest: the turn is free and every CPU is between calls, so the history and the finished calls
 -- agree.
-use Rattle.std.proofs.Common.{◌≡◌, ◌+◌, ◌*◌, ◌≤◌, ◌<◌, ◌∙◌, ◌⊎◌, inl, inr, ℕ, Bool, true, false, List, [], refl, subst, sym, ap, arith, Option, Some, None, is_some, slice_get}
+use Rattle.std.proofs.Common.{◌≡◌, ◌+◌, ◌*◌, ◌≤◌, ◌<◌, ◌∙◌, ◌⊎◌, inl, inr, ℕ, true, false, List, [], subst, sym, ap, arith, Option, Some, None, is_some, slice_get}
 use Rattle.std.specs.Prelude.{count_by, slice_index}
 use Rattle.std.specs.Option.{option_map_or}
 use Rattle.gh_base.specs.declared.limits.TheConstants.{CPUS}

@@ -1,8 +1,7 @@
 -- Sound calls: the finished calls, the looks of those in progress and the entries of the history are
 -- legal so far.
-use Rattle.std.specs.Prelude.{◌≡◌, ◌==◌, ◌&&◌, ◌+◌, ◌*◌, ◌-◌, ◌⊎◌, not, ℕ, Bool, true, false, List, [], ◌∷◌, ◌++◌, length, take, Option, Some, None, Ok, count_by, map, is_some, nat_lt, slice_get, if◌then◌else◌}
+use Rattle.std.specs.Prelude.{◌≡◌, ◌≢◌, ◌==◌, ◌&&◌, ◌+◌, ◌*◌, ◌-◌, ◌⊎◌, not, ℕ, Bool, true, false, List, [], ◌∷◌, ◌++◌, length, take, Option, Some, None, Ok, count_by, map, is_some, nat_lt, slice_get, if◌then◌else◌}
 use Rattle.std.specs.List.{last_or, list_any}
-use Rattle.gh_base.specs.declared.mark.End.{End}
 use Rattle.gh_base.specs.declared.mark.End.TheVariants as ends
 use Rattle.gh_model.specs.Act.{granted}
 use Rattle.gh_model.specs.Graced.{GoesUnreferenced}
@@ -16,7 +15,7 @@ use Rattle.gh_model.specs.declared.state.State.{State}
 use Rattle.gh_core.specs.CallEvents.{finished, has_grants, has_needs}
 use Rattle.gh_core.specs.Config.{AtAct, Config, Cpu, Current, DeadPin, Failed, Given, Holder, IsIn, Looked, Reading, Stage, Undone, came_to, has_acted, has_part, is_killed, judged, object_at, pin_of, present, seen_index}
 use Rattle.gh_core.specs.Entries.{logged}
-use Rattle.gh_core.specs.TurnEvents.{Ending, acted_ending, ending}
+use Rattle.gh_core.specs.TurnEvents.{Ending, acted_ending}
 
 -- finished calls
 
@@ -237,23 +236,7 @@ pub record HasCalls (conf : Config) : Type 0 where
 abbrev pub BeginsAtBoot : Config → Type 0
 BeginsAtBoot conf = conf.boot.entries ≡ 0
 
--- the holder's call ends for want of units
-abbrev pub is_short_end : End → Bool
-is_short_end ends.Frame = false
-is_short_end ends.Refused = false
-is_short_end ends.Dead = false
-is_short_end (ends.Act at) = false
-is_short_end (ends.Short at held) = true
-is_short_end (ends.Entry number) = false
-
-abbrev pub ends_short : Option Ending → Bool
-ends_short None = false
-ends_short (Some ending) = is_short_end ending.end
-
-abbrev pub short_by : Config → ℕ → Option Holder → Option Current → Bool
-short_by conf at None current = false
-short_by conf at (Some holder) None = false
-short_by conf at (Some holder) (Some call) = ends_short (ending conf at holder call)
-
-abbrev pub is_short_now : Config → ℕ → Bool
-is_short_now conf at = short_by conf at conf.turn (conf.cpu at).current
+-- a failed kill of this turn saw pins: each count that it keeps isn't 0
+abbrev pub SawPins : Option Holder → Type 0
+SawPins turn = (holder : Holder) (serial count : ℕ) → turn ≡ Some holder
+    → holder.failed serial ≡ Some count → count ≢ 0

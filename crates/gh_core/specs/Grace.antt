@@ -5,9 +5,9 @@ use Rattle.std.specs.List.{last_or, list_any}
 use Rattle.std.specs.Option.{option_map_or}
 use Rattle.gh_base.specs.declared.limits.TheConstants.{CPUS}
 use Rattle.gh_model.specs.Act.{granted}
-use Rattle.gh_model.specs.Graced.{finds, granting, retirement, was_granted}
+use Rattle.gh_model.specs.Graced.{Fits, finds, granting, retirement, was_granted}
 use Rattle.gh_model.specs.History.{Event, counters, reclaims, retires}
-use Rattle.gh_model.specs.Marks.{Made, Outcome, Seen, place}
+use Rattle.gh_model.specs.Marks.{InTurn, Made, Outcome, Seen, place, place_after}
 use Rattle.gh_model.specs.Rows.{object_row}
 use Rattle.gh_model.specs.declared.entry.Entry.{Entry}
 use Rattle.gh_core.specs.CallEvents.{end_of_looks}
@@ -171,3 +171,27 @@ pub record CounterFits (conf : Config) (entry : Entry) (at counter : ℕ) : Type
   pub granted : (i serial : ℕ) (made : Made) → slice_get (conf.cpu at).made i ≡ Some made
       → reclaims entry ≡ Some serial → was_granted serial made ≡ true → has_section made ≡ true
       → made.mark.section < counter
+
+-- the section of the call in progress, 0 where it has none or there is no call
+abbrev pub section_now : Option Current → ℕ
+section_now None = 0
+section_now (Some call) = call.section
+
+-- the counter that the entry of this number kept of a CPU stands between the sections of its calls
+pub record StandsBetween (entry : Entry) (number counter : ℕ) (cpu : Cpu) : Type 0 where
+  -- each finished call fits it
+  pub finished : InTurn (Fits entry number counter) cpu.made
+  -- and a call in progress behind one that saw this entry has a later section
+  pub later : 0 < section_now cpu.current → number ≤ place_after cpu.made
+      → counter < section_now cpu.current
+
+-- so does each counter that an entry kept of this CPU. An entry at n has the number n + 1
+abbrev pub KeptBetween : List Event → ℕ → Cpu → Type 0
+KeptBetween history at cpu =
+    (n : ℕ) (event : Event) (seen : List ℕ) → slice_get history n ≡ Some event
+    → counters event.entry ≡ Some seen → at < CPUS
+    → StandsBetween event.entry (n + 1) (slice_index seen at) cpu
+
+-- and of every CPU
+abbrev pub AreBetween : List Event → (ℕ → Cpu) → Type 0
+AreBetween history cpus = (at : ℕ) → KeptBetween history at (cpus at)

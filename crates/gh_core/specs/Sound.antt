@@ -1,23 +1,22 @@
 -- Sound configurations: all that every event keeps, as one record, and the runs over which it
 -- stands.
-use Rattle.std.specs.Prelude.{◌≡◌, ◌*◌, ◌<◌, ◌≤◌, ⊤, ℕ, true, false, List, [], ◌∷◌, Some, None, count_by, fold, slice_get, slice_index}
+use Rattle.std.specs.Prelude.{◌≡◌, ◌<◌, ◌≤◌, ⊤, ℕ, List, [], ◌∷◌, Some, None, fold, slice_get, slice_index}
 use Rattle.gh_base.specs.declared.frame.Frame.{Frame}
 use Rattle.gh_base.specs.declared.limits.TheConstants.{CPUS}
-use Rattle.gh_model.specs.Graced.{GoesUnread, GoesUnreferenced}
+use Rattle.gh_model.specs.Graced.{GoesUnread}
 use Rattle.gh_model.specs.History as history
-use Rattle.gh_model.specs.Marks.{Made, has_looks}
+use Rattle.gh_model.specs.Marks.{Made}
 use Rattle.gh_model.specs.declared.state.State.{State}
-use Rattle.gh_core.specs.Calls.{BeginsAtBoot, HasCalls, is_short_now}
+use Rattle.gh_core.specs.Calls.{BeginsAtBoot, HasCalls, SawPins}
 use Rattle.gh_core.specs.Config.{Config, IsBetween}
 use Rattle.gh_core.specs.Events.{Possible, after}
-use Rattle.gh_core.specs.Grace.{HasGrace}
+use Rattle.gh_core.specs.Grace.{AreBetween, HasGrace}
 use Rattle.gh_core.specs.References.{HasReferences}
 use Rattle.gh_core.specs.Replayed.{HasState}
 use Rattle.gh_core.specs.Start.{MayGive, given}
 use Rattle.gh_core.specs.ValidState.{HasValid}
 use Rattle.gh_core.specs.Words.{HasRoom, ShowsWords}
 use Rattle.gh_core.specs.declared.event.Event.{Event}
-use Rattle.gh_core.specs.declared.event.Event.TheVariants.{Free}
 
 -- the counters that entries keep are in order
 pub record AreInOrder (boot : State) (events : List history.Event) : Type 0 where
@@ -44,6 +43,10 @@ pub record IsSound (conf : Config) : Type 0 where
   pub calls : HasCalls conf
   -- the counters that entries keep never fall, and no object went while a CPU was reading
   pub order : AreInOrder conf.boot conf.history
+  -- and each of them stands between the sections of its CPU's calls
+  pub between : AreBetween conf.history conf.cpu
+  -- what the holder keeps of failed kills names pins
+  pub saw : SawPins conf.turn
   -- each slot's word is the one of the present state
   pub words : ShowsWords conf
   -- no entry was counted before the boot
@@ -51,17 +54,10 @@ pub record IsSound (conf : Config) : Type 0 where
   -- and the number of each fits into a word
   pub room : HasRoom conf
 
--- a turn that is given back behind its act is none whose call ends for want of units
-abbrev pub HasUnits : Config → Event → Type 0
-HasUnits conf (Free cpu true) = is_short_now conf cpu.0 ≡ false
-HasUnits conf _ = ⊤
-
--- what is asked of an event beside that it is possible
-pub record Goes (conf : Config) (event : Event) : Type 0 where
-  -- an entry's number fits into a word: a bound on the length of histories is to give it
-  pub room : HasRoom (after conf event)
-  -- and no call ends for want of units: a legal history names no object yet that holds them
-  pub units : HasUnits conf event
+-- what is asked of an event beside that it is possible: an entry's number fits into a word. A bound
+-- on the length of histories is to give it
+abbrev pub Goes : Config → Event → Type 0
+Goes conf event = HasRoom (after conf event)
 
 -- a step of a run: a CPU is given its call of this number, or an event
 pub data Step : Type 0 where
@@ -112,16 +108,3 @@ made_by conf cpu = (conf.cpu cpu).made
 pub record IsAtRest (conf : Config) : Type 0 where
   pub free : conf.turn ≡ None
   pub between : (cpu : ℕ) → IsBetween (conf.cpu cpu)
-
--- what a history and finished calls have of grace, beside that each counter stands between the
--- sections of its CPU's calls
-pub record HasRestGrace (conf : Config) : Type 0 where
-  -- what an entry retires or reclaims has no references just before it
-  pub unreferenced : (n : ℕ) (event : history.Event) → slice_get conf.history n ≡ Some event
-      → GoesUnreferenced (history.state_at conf.boot conf.history n) event.entry
-  -- counters never fall, and those who were reading have left
-  pub order : AreInOrder conf.boot conf.history
-  -- no counter on an entry is above twice the number of the CPU's calls that have looks
-  pub bounded : (n cpu : ℕ) (event : history.Event) (seen : List ℕ)
-      → slice_get conf.history n ≡ Some event → history.counters event.entry ≡ Some seen
-      → cpu < CPUS → slice_index seen cpu ≤ 2 * count_by has_looks (made_by conf cpu)

@@ -1,13 +1,12 @@
-//! Which events are shown to keep sound calls: finished calls and looks that are legal so far. The
-//! functions do nothing; their clauses are laws. Of an end for want of units nothing is said yet: the
-//! definition of a legal history has no held list so far.
+//! Every event keeps sound calls: finished calls and looks that are legal so far. The functions do
+//! nothing; their clauses are laws.
 
 ghost use Rattle.std.specs.Prelude.{◌≡◌, ℕ, List, true, false};
 ghost use Rattle.gh_base.specs.declared.cap_word.CapWord.{CapWord};
 ghost use Rattle.gh_base.specs.declared.frame.Frame.{Frame};
 ghost use Rattle.gh_base.specs.declared.ids.CpuNo.{CpuNo};
 ghost use Rattle.gh_base.specs.declared.ids.ObjIndex.{ObjIndex};
-ghost use Rattle.gh_core.specs.Calls.{BeginsAtBoot, HasCalls, is_short_now};
+ghost use Rattle.gh_core.specs.Calls.{BeginsAtBoot, HasCalls, SawPins};
 ghost use Rattle.gh_core.specs.Config.{Config};
 ghost use Rattle.gh_core.specs.Events.{Possible, after};
 ghost use Rattle.gh_core.specs.Grace.{HasGrace};
@@ -85,10 +84,11 @@ pub fn quit_keeps_calls()
 {}
 
 /// So does a turn that is given back behind its act, with the call's end, where references are sound,
-/// the present state is valid and the call doesn't end for want of units.
+/// the present state is valid and failed kills saw pins: a call that ends for want of units names what
+/// is without references or retired, each with what holds it.
 pub fn free_keeps_calls()
     ensures { (conf : Config) (cpu : CpuNo) → HasCalls conf → HasReferences conf → HasValid conf
-        → is_short_now conf cpu.0 ≡ false → Possible conf (Free cpu true)
+        → SawPins conf.turn → Possible conf (Free cpu true)
         → HasCalls (after conf (Free cpu true)) }
 {}
 

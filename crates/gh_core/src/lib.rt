@@ -38,8 +38,8 @@ pub use references::{
 };
 pub use sound::{
     events_keep_sound, given_call_keeps_sound, granted_objects_stay, looks_find_present,
-    reclaims_spare_calls, rest_is_graced_in_part, rest_is_legal, revived_index_is_free,
-    runs_are_bounded, runs_are_sound, start_is_sound, words_count_references,
+    reclaims_spare_calls, rest_is_graced, rest_is_legal, revived_index_is_free, runs_are_bounded,
+    runs_are_sound, start_is_sound, words_count_references,
 };
 pub use start::start_has_references;
 pub use validity::{events_keep_validity, given_call_keeps_validity, start_is_valid};

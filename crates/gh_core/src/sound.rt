@@ -15,12 +15,13 @@ ghost use Rattle.gh_core.specs.Config.{Config, Current, came_to, pin_of, present
 ghost use Rattle.gh_core.specs.Events.{Possible, after};
 ghost use Rattle.gh_core.specs.Grace.{granting_at, holds_grant};
 ghost use Rattle.gh_core.specs.References.{IsGranted, IsPinned, IsRow, owed_at, pins_at};
-ghost use Rattle.gh_core.specs.Sound.{Goes, HasRestGrace, IsAtRest, IsReclaimedBehind, IsSound, Runs, Step, after_steps, made_by};
+ghost use Rattle.gh_core.specs.Sound.{Goes, IsAtRest, IsReclaimedBehind, IsSound, Runs, Step, after_steps, made_by};
 ghost use Rattle.gh_core.specs.Start.{AreIndices, MayGive, given, start};
 ghost use Rattle.gh_core.specs.declared.event.Event.{Event};
 ghost use Rattle.gh_core.specs.declared.event.Event.TheVariants.{Commit, Look, Revive};
 ghost use Rattle.gh_invariant.specs.Lives.{lives};
 ghost use Rattle.gh_model.specs.Boot.{boot_fits, boot_state};
+ghost use Rattle.gh_model.specs.Graced.{IsGraced};
 ghost use Rattle.gh_model.specs.History.{state_at};
 ghost use Rattle.gh_model.specs.Legal.{Agree, IsLegal, IsNumbered, is_exit_call};
 ghost use Rattle.gh_model.specs.Marks.{Fails, InTurn, Seen, cspace_of};
@@ -152,9 +153,12 @@ pub fn rest_is_legal()
         → IsLegal conf.boot conf.history (made_by conf) }
 {}
 
-/// What an entry retires or reclaims has no references just before it. No counter falls from an
-/// entry to a later one, and none is above twice the number of its CPU's calls with looks; and every
-/// CPU that was reading at an object's retirement has left when it is reclaimed.
-pub fn rest_is_graced_in_part()
-    ensures { (conf : Config) → IsSound conf → IsAtRest conf → HasRestGrace conf }
+/// And they are graced: what an entry retires or reclaims has no references just before it, every CPU
+/// that was reading at an object's retirement has left when it is reclaimed, and no counter of a CPU
+/// falls from an entry to a later one. Each is above the sections of the calls that were granted what
+/// the entry reclaims and of those that ended before it, and below those of the calls behind one that
+/// saw it.
+pub fn rest_is_graced()
+    ensures { (conf : Config) → IsSound conf → IsAtRest conf
+        → IsGraced conf.boot conf.history (made_by conf) }
 {}
