@@ -3,12 +3,14 @@
 
 mod call_file;
 mod call_line;
+mod exit_call;
 mod law;
 mod schedule;
 mod vm_program;
 mod writing_law;
 
 pub use call_file::read_calls;
+pub use exit_call::{exit_frame, is_exit};
 pub use gh_model::{FileErr, Line};
 pub use law::{
     cpus_have_rows, line_read_is_spelled, line_spelled_is_read, program_makes_its_lines,

@@ -8,13 +8,11 @@ ghost use Rattle.gh_model.specs.Programs.{told};
 ghost use Rattle.gh_callfile.specs.VmProgress.{fresh, has_made_one, position_at, position_now};
 ghost use Rattle.gh_callfile.specs.VmProgress.{progress_at, vm_after, vm_answer};
 
+use crate::exit_call::{exit_frame, is_exit};
 use gh_base::{CALL_NUMBERS, Errno, Frame, NoMemory, Reply, Sequence};
 use gh_model::{Line, Program, Step};
 use std::alloc::Global;
 use std::marker::Model;
-
-/// The exit call's function, in the lower half of x0.
-const EXIT: u64 = 0xc600_8240;
 
 /// Where a program stands between two calls.
 #[derive(Clone, Copy, Debug)]
@@ -69,15 +67,6 @@ fn copy_of(alloc: Global, frame: &Frame) -> Result<Frame, NoMemory>
     })
 }
 
-fn exit_frame(alloc: Global) -> Frame
-    ensures { result ≡ exit_frame }
-{
-    Frame {
-        x: [EXIT, 0, 0, 0, 0, 0, 0, 0, 0],
-        bytes: Sequence::new(alloc),
-    }
-}
-
 /// The frame of the call with this number.
 fn frame(alloc: Global, lines: &[Line], at: usize, number: u32) -> Result<Frame, NoMemory>
     ensures { IfOk result (λ frame. frame ≡ next_frame number (drop at lines.now)) }
@@ -94,7 +83,7 @@ fn exits(lines: &[Line], at: usize, number: u32) -> bool
 {
     match line_of_call(lines, at, number) {
         None => true,
-        Some(line) => line.frame.x[0] % 0x1_0000_0000 == EXIT,
+        Some(line) => is_exit(&line.frame),
     }
 }
 

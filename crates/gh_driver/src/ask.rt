@@ -1,33 +1,15 @@
-//! What a program is asked for, and the frame of the exit call.
+//! What a program is asked for.
 
 ghost use Rattle.std.specs.Prelude.{◌≡◌, ◌≢◌, is_some, false, true, IfOk, OnOk, Some};
 ghost use Rattle.gh_driver.specs.Pace.{IsReady};
-ghost use Rattle.gh_model.specs.Program.{exit_frame, is_exit, last_number};
 ghost use Rattle.gh_model.specs.Programs.{asked, next_step, next_state, step_frame, told};
 ghost use Rattle.gh_base.specs.declared.frame.Reply.{Reply};
 ghost use Rattle.std.specs.Prelude.{None};
 
-use gh_base::{CALL_NUMBERS, Frame, NoMemory, Reply, Sequence};
+use gh_base::{CALL_NUMBERS, Frame, NoMemory, Reply};
+use gh_callfile::exit_frame;
 use gh_model::{Program, Standing, Step};
 use std::alloc::Global;
-
-/// The exit call's function, in x0 of a frame.
-const EXIT: u64 = 0xc600_8240;
-
-fn exit_frame(alloc: Global) -> Frame
-    ensures { result ≡ exit_frame }
-{
-    Frame {
-        x: [EXIT, 0, 0, 0, 0, 0, 0, 0, 0],
-        bytes: Sequence::new(alloc),
-    }
-}
-
-pub(crate) fn exits(frame: &Frame) -> bool
-    ensures { result ≡ is_exit frame.now }
-{
-    frame.x[0] % 0x1_0000_0000 == EXIT
-}
 
 /// The frame of a step.
 fn frame_of(alloc: Global, step: Step) -> Frame

@@ -6,9 +6,10 @@ ghost use Rattle.gh_driver.specs.Pace.{IsReady, IsBounded};
 ghost use Rattle.gh_model.specs.Calls.{after_mark, entries_of, last_look_place, next_call};
 ghost use Rattle.gh_model.specs.Calls.{place_after_mark, seat_after, turn as turn_of};
 
-use crate::ask::{ask, exits};
+use crate::ask::ask;
 use crate::call::make_call;
 use gh_base::{End, HISTORY_ENTRIES, Look, Mark, NoMemory, Sequence};
+use gh_callfile::is_exit;
 use gh_model::{CpuRun, Entry, Plain, Program, Running, Seat};
 use std::alloc::Global;
 
@@ -71,7 +72,7 @@ fn move_on<P: Program>(alloc: Global, seat: &mut Seat<P>, mark: &Mark) -> Result
     ensures seat { OnOk result (seat.new ≡ seat_after P.answer P.after seat.old mark.now) }
     ensures ready { OnOk result (IsReady P.wants_reply seat.new.standing) }
 {
-    let ends = exits(&seat.standing.frame);
+    let ends = is_exit(&seat.standing.frame);
     seat.cpu = count_call(seat.cpu, mark);
     if ends {
         seat.cpu.ended = true;

@@ -1,8 +1,9 @@
 //! A worked derivation and its return, and donations between siblings.
 
 use crate::Extents;
-use gh_base::{Access, Errno, PageNo, Relation, Serial};
+use gh_base::{Access, Errno, NoMemory, PageNo, Relation, Serial};
 use gh_model::{Holders, Span};
+use std::alloc::Global;
 use std::test::Fail;
 
 const ROOT: Serial = Serial(4);
@@ -47,42 +48,50 @@ fn a_parcel_holds_the_pages_that_move_to_it(rt: HostRuntime) -> Result<(), Fail>
 }
 
 #[test]
-fn siblings_donate_the_pages_that_they_hold(rt: HostRuntime) -> Result<(), Fail> {
-    let span = Span {
-        first: PageNo(0),
-        count: 8,
-        access: Access::ALL,
-    };
+fn a_range_that_another_holds_is_denied(rt: HostRuntime) -> Result<(), Fail> {
     let mut extents = Extents::new(rt.alloc(), 8, ROOT)?;
-    extents.add(FIRST, ROOT, span)?;
+    extents.add_parcel(FIRST, ROOT)?;
     extents.move_run(ROOT, FIRST, PageNo(0), 4);
     assert_eq!(rt;
         extents.derive(SECOND, ROOT, 0, 8, Access(7))?,
         Err(Errno::Denied)
     );
+    Ok(())
+}
+
+/// Two siblings of all pages, of which each holds half.
+fn siblings(alloc: Global) -> Result<Extents, NoMemory> {
+    let span = Span {
+        first: PageNo(0),
+        count: 8,
+        access: Access::ALL,
+    };
+    let mut extents = Extents::new(alloc, 8, ROOT)?;
+    extents.add(FIRST, ROOT, span)?;
+    extents.move_run(ROOT, FIRST, PageNo(0), 4);
     extents.add(SECOND, ROOT, span)?;
     extents.move_run(ROOT, SECOND, PageNo(4), 4);
+    Ok(extents)
+}
+
+#[test]
+fn siblings_donate_the_pages_that_they_hold(rt: HostRuntime) -> Result<(), Fail> {
+    let mut extents = siblings(rt.alloc())?;
+    let (giver, other) = (FIRST, SECOND);
     let cases = [
-        (Relation::ToSibling, FIRST, SECOND, 0, 2, Ok(())),
-        (Relation::ToSibling, FIRST, SECOND, 1, 3, Err(Errno::Denied)),
-        (Relation::ToChild, FIRST, SECOND, 2, 1, Err(Errno::ArgInval)),
+        (Relation::ToSibling, giver, other, 0, 2, Ok(())),
+        (Relation::ToSibling, giver, other, 1, 3, Err(Errno::Denied)),
+        (Relation::ToChild, giver, other, 2, 1, Err(Errno::ArgInval)),
         (
             Relation::ToSibling,
-            FIRST,
-            FIRST,
+            giver,
+            giver,
             2,
             1,
             Err(Errno::ArgInval),
         ),
-        (
-            Relation::ToParent,
-            SECOND,
-            ROOT,
-            7,
-            2,
-            Err(Errno::AddrInval),
-        ),
-        (Relation::ToParent, SECOND, ROOT, 7, 1, Ok(())),
+        (Relation::ToParent, other, ROOT, 7, 2, Err(Errno::AddrInval)),
+        (Relation::ToParent, other, ROOT, 7, 1, Ok(())),
     ];
     for (relation, from, to, offset, count, answer) in cases {
         assert!(rt; extents.span(from).is_some() && extents.span(to).is_some());

@@ -34,7 +34,8 @@ pub references_all : (last : ℕ) (s : State) (changes : List Change) (object : 
     ≡ references s object + times object (gained s changes)
 references_all last s [] object some room valid may = refl
 references_all last s (change ∷ changes) object some room valid may =
-    let others : references (changed_all (changed s change) changes) object + times object (lost (changed s change) changes) ≡ references (changed s change) object + times object (gained (changed s change) changes) =
+    let others : references (changed_all (changed s change) changes) object + times object (lost (changed s change) changes)
+    ≡ references (changed s change) object + times object (gained (changed s change) changes) =
     references_all last (changed s change) changes object some (room_stays last s change room) (valid_kept last s change room valid may.first) may.others in
     omega (
       arith,
@@ -51,7 +52,11 @@ pub units_all : (last : ℕ) (s : State) (changes : List Change) (partition : �
     ≡ used_units s partition + given_units s partition + units_of partition (takes_all s changes)
 units_all last s [] partition room valid may = refl
 units_all last s (change ∷ changes) partition room valid may =
-    let others : used_units (changed_all (changed s change) changes) partition + given_units (changed_all (changed s change) changes) partition + units_of partition (returns_all (changed s change) changes) ≡ used_units (changed s change) partition + given_units (changed s change) partition + units_of partition (takes_all (changed s change) changes) =
+    let others : used_units (changed_all (changed s change) changes) partition
+    + given_units (changed_all (changed s change) changes) partition
+    + units_of partition (returns_all (changed s change) changes)
+    ≡ used_units (changed s change) partition + given_units (changed s change) partition
+    + units_of partition (takes_all (changed s change) changes) =
     units_all last (changed s change) changes partition (room_stays last s change room) (valid_kept last s change room valid may.first) may.others in
     omega (
       arith,

@@ -56,14 +56,16 @@ module _ (objects : List ObjectRow) (extents : List ExtentRow) where
         → (is_mapping space extent base offset count row ≡ true) ⊎ (is_mapping space extent base offset count row ≡ false)
         → count_by (is_mapping space extent base offset count) (row ∷ rows) ≤ 1
     once_by row rows some apart once (inl here) =
-        let all : count_by (is_mapping space extent base offset count) (row ∷ rows) ≡ one_if (is_mapping space extent base offset count row) + count_by (is_mapping space extent base offset count) rows =
+        let all : count_by (is_mapping space extent base offset count) (row ∷ rows)
+        ≡ one_if (is_mapping space extent base offset count row) + count_by (is_mapping space extent base offset count) rows =
         count_cons (is_mapping space extent base offset count) row rows in
         let one : one_if (is_mapping space extent base offset count row) ≡ 1 = one_true _ here in
         let others : count_by (is_mapping space extent base offset count) rows ≡ 0 =
         uncounted (is_mapping space extent base offset count) (overlaps row.space.0 row.base row.count) rows (λ other also. same_pages row other some here also) apart in
         omega arith
     once_by row rows some apart once (inr past) =
-        let all : count_by (is_mapping space extent base offset count) (row ∷ rows) ≡ one_if (is_mapping space extent base offset count row) + count_by (is_mapping space extent base offset count) rows =
+        let all : count_by (is_mapping space extent base offset count) (row ∷ rows)
+        ≡ one_if (is_mapping space extent base offset count row) + count_by (is_mapping space extent base offset count) rows =
         count_cons (is_mapping space extent base offset count) row rows in
         let none : one_if (is_mapping space extent base offset count row) ≡ 0 = one_false _ past in
         omega arith

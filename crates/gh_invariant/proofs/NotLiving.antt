@@ -142,11 +142,15 @@ not_living last s object some valid gone =
   where
     capabilities : count_by (is_capability_of object) s.caps ≡ 0
     capabilities =
-        none_pass (is_capability_of object) (slot_fits s.next_serial s.objects) s.caps (λ row fits here. cap_other s.objects object gone row row.valid refl (slot_parts s.next_serial s.objects row fits).object here) valid.slots.filled
+        none_pass (is_capability_of object) (slot_fits s.next_serial s.objects) s.caps
+        (λ row fits here. cap_other s.objects object gone row row.valid refl (slot_parts s.next_serial s.objects row fits).object here)
+        valid.slots.filled
 
     slots : count_by (is_slot_of object) s.caps ≡ 0
     slots =
-        none_pass (is_slot_of object) (slot_fits s.next_serial s.objects) s.caps (λ row fits here. another s.objects object gone row.cspace.0 kind.Cspace (slot_parts s.next_serial s.objects row fits).home here) valid.slots.filled
+        none_pass (is_slot_of object) (slot_fits s.next_serial s.objects) s.caps
+        (λ row fits here. another s.objects object gone row.cspace.0 kind.Cspace (slot_parts s.next_serial s.objects row fits).home here)
+        valid.slots.filled
 
     mappings : count_by (is_mapping_of object) s.mappings ≡ 0
     mappings =
@@ -158,7 +162,8 @@ not_living last s object some valid gone =
 
     inhabitants : count_by (is_inhabitant_of object) s.objects ≡ 0
     inhabitants =
-        none_pass (is_inhabitant_of object) (is_housed s.objects) s.objects (λ row housed here. another s.objects object gone row.partition.0 kind.Partition housed (and_parts _ _ here).0) valid.objects.housed
+        none_pass (is_inhabitant_of object) (is_housed s.objects) s.objects
+        (λ row housed here. another s.objects object gone row.partition.0 kind.Partition housed (and_parts _ _ here).0) valid.objects.housed
 
     cpus : count_by (is_attached_to object) s.cpus ≡ 0
     cpus =
@@ -173,8 +178,18 @@ not_living last s object some valid gone =
 
     boot : count_by (is_boot_partition object) s.partitions ≡ 0
     boot =
-        omega (arith, count_most (is_boot_partition object) (is_partition object) s.partitions (λ row is. (and_parts _ _ is).0), valid.rows.partitions object, no_row s.objects object gone kind.Partition)
+        omega (
+          arith,
+          count_most (is_boot_partition object) (is_partition object) s.partitions (λ row is. (and_parts _ _ is).0),
+          valid.rows.partitions object,
+          no_row s.objects object gone kind.Partition,
+        )
 
     root : count_by (is_root_extent object) s.extents ≡ 0
     root =
-        omega (arith, count_most (is_root_extent object) (is_extent object) s.extents (λ row is. (and_parts _ _ is).0), valid.rows.extents object, no_row s.objects object gone kind.Extent)
+        omega (
+          arith,
+          count_most (is_root_extent object) (is_extent object) s.extents (λ row is. (and_parts _ _ is).0),
+          valid.rows.extents object,
+          no_row s.objects object gone kind.Extent,
+        )

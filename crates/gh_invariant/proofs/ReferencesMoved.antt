@@ -29,7 +29,8 @@ times_one object serial = count_one (is_that object) serial
 
 pub times_two : (object : ℕ) (first second : Serial)
     → times object (first ∷ second ∷ []) ≡ one_if (first.0 == object) + one_if (second.0 == object)
-times_two object first second = let all : times object (first ∷ second ∷ []) ≡ one_if (first.0 == object) + times object (second ∷ []) = count_cons (is_that object) first (second ∷ []) in let last : times object (second ∷ []) ≡ one_if (second.0 == object) = times_one object second in omega arith
+times_two object first second =
+    omega (arith, count_cons (is_that object) first (second ∷ []), times_one object second)
 
 times_if : (object : ℕ) (there : Bool) (serial : Serial)
     → times object (if there then serial ∷ [] else []) ≡ one_if (there && (serial.0 == object))
@@ -71,7 +72,8 @@ module _ (object : ℕ) where
   -- a slot that is emptied
   pub caps_dropped : (caps : List CapabilityRow) (cspace slot : ℕ)
       → count_by (fills cspace slot) caps ≤ 1
-      → count_by (is_capability_of object) (without (fills cspace slot) caps) + count_by (is_slot_of object) (without (fills cspace slot) caps) + times object (slot_names (find (fills cspace slot) caps))
+      → count_by (is_capability_of object) (without (fills cspace slot) caps)
+      + count_by (is_slot_of object) (without (fills cspace slot) caps) + times object (slot_names (find (fills cspace slot) caps))
       ≡ count_by (is_capability_of object) caps + count_by (is_slot_of object) caps
   caps_dropped caps cspace slot once =
       omega (arith, count_without (is_capability_of object) (fills cspace slot) caps once, count_without (is_slot_of object) (fills cspace slot) caps once, times_slots (find (fills cspace slot) caps))
@@ -88,10 +90,17 @@ module _ (object : ℕ) where
 
   -- a slot that is revoked
   pub caps_revoked : (caps : List CapabilityRow) (cspace slot : ℕ)
-      → count_by (is_capability_of object) (change_row (fills cspace slot) as_revoked caps) + count_by (is_slot_of object) (change_row (fills cspace slot) as_revoked caps) + times object (object_named (find (fills cspace slot) caps))
+      → count_by (is_capability_of object) (change_row (fills cspace slot) as_revoked caps)
+      + count_by (is_slot_of object) (change_row (fills cspace slot) as_revoked caps) + times object (object_named (find (fills cspace slot) caps))
       ≡ count_by (is_capability_of object) caps + count_by (is_slot_of object) caps
   caps_revoked caps cspace slot =
-      omega (arith, count_change (is_capability_of object) (fills cspace slot) as_revoked caps, count_change_kept (is_slot_of object) (fills cspace slot) as_revoked caps (λ row. refl), none_revoked (find (fills cspace slot) caps), valid_found (find (fills cspace slot) caps))
+      omega (
+        arith,
+        count_change (is_capability_of object) (fills cspace slot) as_revoked caps,
+        count_change_kept (is_slot_of object) (fills cspace slot) as_revoked caps (λ row. refl),
+        none_revoked (find (fills cspace slot) caps),
+        valid_found (find (fills cspace slot) caps),
+      )
 
   -- objects
 
@@ -163,10 +172,16 @@ module _ (object : ℕ) where
   -- a span that goes
   pub extents_gone : 0 < object → (extents : List ExtentRow) (serial : ℕ)
       → count_by (is_extent serial) extents ≤ 1
-      → count_by (is_child_of object) (without (is_extent serial) extents) + count_by (is_root_extent object) (without (is_extent serial) extents) + times object (parent_named (find (is_extent serial) extents))
+      → count_by (is_child_of object) (without (is_extent serial) extents)
+      + count_by (is_root_extent object) (without (is_extent serial) extents) + times object (parent_named (find (is_extent serial) extents))
       ≡ count_by (is_child_of object) extents + count_by (is_root_extent object) extents
   extents_gone some extents serial once =
-      omega (arith, count_without (is_child_of object) (is_extent serial) extents once, count_without (is_root_extent object) (is_extent serial) extents once, times_parents some (find (is_extent serial) extents))
+      omega (
+        arith,
+        count_without (is_child_of object) (is_extent serial) extents once,
+        count_without (is_root_extent object) (is_extent serial) extents once,
+        times_parents some (find (is_extent serial) extents),
+      )
 
   -- mapping rows
 

@@ -49,7 +49,11 @@ module _ (last : ℕ) (s : State) (valid : IsValidTo last s) where
       → test (object_row s object) ≡ true → 0 < object
   found_some object test fails passes =
       elim (eqb_tells object 0) as (λ _. 0 < object) [
-        | inl none ↦ absurd (let one : 1 ≤ count_by (is_object object) s.objects = found_one_at object test fails (object_row s object) refl passes in let zero : count_by (is_object object) s.objects ≡ 0 = subst (λ (n : ℕ). count_by (is_object n) s.objects ≡ 0) (sym none.1) valid.objects.none in omega arith)
+        | inl none ↦
+            let one : 1 ≤ count_by (is_object object) s.objects = found_one_at object test fails (object_row s object) refl passes in
+            let zero : count_by (is_object object) s.objects ≡ 0 =
+            subst (λ (n : ℕ). count_by (is_object n) s.objects ≡ 0) (sym none.1) valid.objects.none in
+            absurd (omega arith)
         | inr some ↦ omega (arith, some.1)
       ]
 
@@ -185,14 +189,17 @@ module _ (last : ℕ) (s : State) (valid : IsValidTo last s) where
             subst (λ (n : ℕ). references s n ≡ 0) (sym same.1) may.doomed in
             omega (arith, moves last s valid object (Retire serial seen) some may, doomed)
         | inr differs ↦ still (Retire serial seen) object may refl
-            (sym (ap is_retired (find_past_change (is_object object) (is_object serial.0) (with_counters seen) s.objects (λ row here. let other : (object == serial.0) ≡ false = differs.0 in grind (arith, nat_tests)) (λ row here. let other : (object == serial.0) ≡ false = differs.0 in grind (arith, nat_tests)))) ∙ retired)
+            (sym (ap is_retired (find_past_change (is_object object) (is_object serial.0) (with_counters seen) s.objects
+            (λ row here. let other : (object == serial.0) ≡ false = differs.0 in grind (arith, nat_tests))
+            (λ row here. let other : (object == serial.0) ≡ false = differs.0 in grind (arith, nat_tests)))) ∙ retired)
       ]
 
   reclaim_still : (serial : Serial) (object : ℕ) → MayChange s (Reclaim serial)
       → StaysRetired s (Reclaim serial) object
   reclaim_still serial object may retired =
       elim (eqb_tells object serial.0) as (λ _. references (changed s (Reclaim serial)) object ≡ 0) [
-        | inl same ↦ absurd (both_ways false refl (ap is_retired (sym (find_gone (is_object object) (is_object serial.0) s.objects (λ row fails. ap (λ (n : ℕ). row.serial.0 == n) same.1 ∙ fails))) ∙ retired))
+        | inl same ↦ absurd (both_ways false refl
+            (ap is_retired (sym (find_gone (is_object object) (is_object serial.0) s.objects (λ row fails. ap (λ (n : ℕ). row.serial.0 == n) same.1 ∙ fails))) ∙ retired))
         | inr differs ↦ still (Reclaim serial) object may refl
             (sym (ap is_retired (find_left (is_object object) (is_object serial.0) s.objects (λ row here. let other : (object == serial.0) ≡ false = differs.0 in grind (arith, nat_tests)))) ∙ retired)
       ]

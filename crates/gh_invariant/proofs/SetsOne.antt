@@ -158,7 +158,19 @@ module _ (s : State) (cpu : ℕ) (may : Bool) (home : ℕ) where
 
   created_in_sets : (partition cspace : Serial) (k : Kind) (slot : Option ℕ) → cspace.0 ≡ home → SetsOne s cpu may home (created_in s partition cspace k slot)
   created_in_sets partition cspace k None there = record { last = refl; makes = inl refl; exits = refl; calls = refl }
-  created_in_sets partition cspace k (Some slot) there = sets_unless (lacks_room s partition k) Nomem _ (record { last = refl; makes = inr (record { row = new_object s partition k; cap = new_master s cspace slot k; is = refl; serial = refl; unretired = refl; there = there }); exits = refl; calls = refl })
+  created_in_sets partition cspace k (Some slot) there = sets_unless (lacks_room s partition k) Nomem _ (record {
+    last = refl;
+    makes = inr (record {
+      row = new_object s partition k;
+      cap = new_master s cspace slot k;
+      is = refl;
+      serial = refl;
+      unretired = refl;
+      there = there;
+    });
+    exits = refl;
+    calls = refl;
+  })
 
   created_sets : (partition cspace : Serial) (k : Option Kind) → cspace.0 ≡ home → SetsOne s cpu may home (created s partition cspace k)
   created_sets partition cspace None there = record { last = refl; makes = inl refl; exits = refl; calls = refl }
@@ -201,7 +213,8 @@ module _ (s : State) (cpu : ℕ) (may : Bool) (home : ℕ) where
   derived_sets child parent offset size access None = record { last = refl; makes = inl refl; exits = refl; calls = refl }
   derived_sets child parent offset size access (Some row) =
       sets_unless (nat_lt row.count (page_of offset + page_of size)) ArgSize _
-      (sets_unless (not (holds_run s.holders parent (row.first.0 + page_of offset) (page_of size)) || not (access_fits access row.access.0)) Denied _ (record { last = refl; makes = inl refl; exits = refl; calls = refl }))
+      (sets_unless (not (holds_run s.holders parent (row.first.0 + page_of offset) (page_of size)) || not (access_fits access row.access.0)) Denied _
+      (record { last = refl; makes = inl refl; exits = refl; calls = refl }))
 
   donated_to_sets : (relation offset count : ℕ) (giver : ExtentRow) (receiver : Option ExtentRow)
       → SetsOne s cpu may home (donated_to s relation offset count giver receiver)
@@ -252,7 +265,8 @@ decided_sets s cpu bytes grants (calls.CapCopy cspace source mask) = copied_sets
 decided_sets s cpu bytes grants (calls.CapDelete cspace slot) = deleted_sets s cpu false (grant_at grants 1).0 _
 decided_sets s cpu bytes grants (calls.CapRevoke cspace slot) = revoked_sets s cpu false (grant_at grants 1).0 _
 decided_sets s cpu bytes grants (calls.CapsRevoke cap) = revoke_all_sets s cpu false (grant_at grants 1).0 (is_finished s (grant_at grants 0)) _
-decided_sets s cpu bytes grants (calls.RmAct cap vm) = sets_unless s cpu false (grant_at grants 1).0 (nat_lt (length bytes) 4) ArgSize _ (record { last = refl; makes = inl refl; exits = refl; calls = refl })
+decided_sets s cpu bytes grants (calls.RmAct cap vm) =
+    sets_unless s cpu false (grant_at grants 1).0 (nat_lt (length bytes) 4) ArgSize _ (record { last = refl; makes = inl refl; exits = refl; calls = refl })
 decided_sets s cpu bytes grants (calls.RmPoll cap) = record { last = refl; makes = inl refl; exits = refl; calls = refl }
 
 -- whatever refuses it before

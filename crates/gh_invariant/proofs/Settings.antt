@@ -21,7 +21,10 @@ pub unplaced : {R : Type 0} (p : R → Bool) (rows : List R) → find p rows ≡
     → position p rows ≡ None
 unplaced p rows none =
     elim ((slice_get_cases rows (position_or_len p rows)).1) as (λ _. position p rows ≡ None) [
-      | inl there ↦ let is : slice_get rows (position_or_len p rows) ≡ Some there.0 = there.2 in let gone : slice_get rows (position_or_len p rows) ≡ None = sym (find_at p rows) ∙ none in absurd (let never : ⊥ = cc in never)
+      | inl there ↦
+          let is : slice_get rows (position_or_len p rows) ≡ Some there.0 = there.2 in
+          let gone : slice_get rows (position_or_len p rows) ≡ None = sym (find_at p rows) ∙ none in
+          absurd (let never : ⊥ = cc in never)
       | inr past ↦ rw (le-ltb (position_or_len p rows) (length rows) past.0)
     ]
 
@@ -81,7 +84,8 @@ module _ (rows : List SetAtRow) (cspace : Serial) (slot number : ℕ) where
   setting_is =
       each_setting (λ new. setting_number (find (tells_setting cspace.0 slot) new) ≡ number)
       (λ none. ap setting_number (find_push_new (tells_setting cspace.0 slot) rows (record { cspace = cspace; slot = slot; number = number }) none (grind (arith, nat_tests))))
-      (λ row is. ap setting_number (find_changed (tells_setting cspace.0 slot) (with_number number) rows (λ one. refl)) ∙ ap (λ (o : Option SetAtRow). setting_number (option_map (with_number number) o)) is)
+      (λ row is. ap setting_number (find_changed (tells_setting cspace.0 slot) (with_number number) rows (λ one. refl))
+      ∙ ap (λ (o : Option SetAtRow). setting_number (option_map (with_number number) o)) is)
 
   -- another slot has what it had
   pub setting_other : (c n : ℕ) → ((cspace.0 == c) && (slot == n)) ≡ false

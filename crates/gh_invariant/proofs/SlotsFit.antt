@@ -266,7 +266,8 @@ module _ (next_serial last : ℕ) (objects : List ObjectRow) (caps : List Capabi
   reclaim_keeps_slots object none = record {
     once = λ c n. omega (arith, count_fewer (fills c n) (is_in_cspace object) caps, fit.once c n);
     masters = λ n. omega (arith, count_fewer (is_master_of n) (is_in_cspace object) caps, fit.masters n);
-    filled = all_uncounted (slot_fits next_serial objects) (slot_fits next_serial (without (is_object object) objects)) (is_capability_of object) (is_in_cspace object) caps (slot_left object) none fit.filled;
+    filled = all_uncounted (slot_fits next_serial objects) (slot_fits next_serial (without (is_object object) objects))
+        (is_capability_of object) (is_in_cspace object) caps (slot_left object) none fit.filled;
     set_once = λ c n. omega (arith, count_fewer (tells_setting c n) (is_set_in object) set_at, fit.set_once c n);
     set = all_left (setting_fits last objects) (setting_fits last (without (is_object object) objects)) (is_set_in object) set_at (setting_left object) fit.set;
   }

@@ -40,7 +40,8 @@ pub fn boot_is_unused()
 /// An object's references are those that the changes of the lines give it.
 pub fn boot_references_are_gains()
     ensures { (lines : List BootLine) (object : ℕ) → IsTrue (boot_fits lines) → 0 < object
-        → references (boot_state lines) object ≡ times object (gained empty_state (boot_changes lines)) }
+        → references (boot_state lines) object
+        ≡ times object (gained empty_state (boot_changes lines)) }
 {}
 
 /// What a partition uses and gives is what the changes of the lines take from it.

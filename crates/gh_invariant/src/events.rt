@@ -11,11 +11,14 @@ ghost use Rattle.gh_model.specs.declared.state.State.{State};
 /// Every event leaves a valid state: an act that may come, or another entry, allowed or not.
 #[tactic(auto, using(crate::proofs::EventsKept::event_valid))]
 pub fn events_keep_valid()
-    ensures { (s : State) (event : Event) → IsValid s → EventFits s event → IsValid (after_event s event) }
+    ensures { (s : State) (event : Event) → IsValid s → EventFits s event
+        → IsValid (after_event s event) }
 {}
 
-/// An object that was made and has no references has none behind an event: what is doomed stays doomed.
+/// An object that was made and has no references has none behind an event: what is doomed stays
+/// doomed.
 pub fn doomed_stays_doomed()
-    ensures { (s : State) (event : Event) (object : ℕ) → IsValid s → EventFits s event → 0 < object → object < s.next_serial
+    ensures { (s : State) (event : Event) (object : ℕ) → IsValid s → EventFits s event
+        → 0 < object → object < s.next_serial
         → references s object ≡ 0 → references (after_event s event) object ≡ 0 }
 {}

@@ -1,4 +1,5 @@
-//! What callers use of valid states and of histories. The functions do nothing; their clauses are laws.
+//! What callers use of valid states and of histories. The functions do nothing; their clauses are
+//! laws.
 
 ghost use Rattle.std.specs.Prelude.{◌≡◌, ◌≤◌, ◌+◌, ◌∷◌, ◌++◌, [], ◌<◌, ◌⊎◌, ℕ, Bool, List, Option, Some, None, IsTrue, true, false, find, length};
 ghost use Rattle.std.specs.List.{list_all, list_any};
@@ -22,8 +23,8 @@ ghost use Rattle.gh_model.specs.declared.rows.LinkRow.{LinkRow};
 ghost use Rattle.gh_model.specs.declared.rows.ObjectRow.{ObjectRow};
 ghost use Rattle.gh_model.specs.declared.state.State.{State};
 
-/// A valid capability's object lives, is of its kind, has a reference and isn't retired: so what a look
-/// grants isn't retired yet. Its capability space lives.
+/// A valid capability's object lives, is of its kind, has a reference and isn't retired: so what a
+/// look grants isn't retired yet. Its capability space lives.
 pub fn capability_names_living()
     ensures { (s : State) (cspace slot : ℕ) (row : CapabilityRow) → IsValid s
         → find (fills cspace slot) s.caps ≡ Some row → row.valid ≡ true → NamesLiving s row }
@@ -44,7 +45,8 @@ pub fn link_names_living()
 /// An event leaves the word of each slot that none of its changes sets, where the slot's capability
 /// space isn't reclaimed.
 pub fn event_leaves_words()
-    ensures { (s : State) (event : Event) (cspace slot : ℕ) → IsTrue (list_all (leaves cspace slot) (changes_of s event))
+    ensures { (s : State) (event : Event) (cspace slot : ℕ)
+        → IsTrue (list_all (leaves cspace slot) (changes_of s event))
         → word_at (after_event s event) cspace slot ≡ word_at s cspace slot }
 {}
 
@@ -55,30 +57,37 @@ pub fn event_sets_one_slot()
 
 /// The setting of the slot that an event sets is the event's number.
 pub fn event_numbers_its_slot()
-    ensures { (s : State) (event : Event) (cspace slot : ℕ) → IsValid s → EventFits s event → IsTrue (is_slot slot)
+    ensures { (s : State) (event : Event) (cspace slot : ℕ)
+        → IsValid s → EventFits s event → IsTrue (is_slot slot)
         → IsTrue (list_any (sets_slot cspace slot) (changes_of s event))
         → (word_at (after_event s event) cspace slot).set_at ≡ s.entries + 1 }
 {}
 
-/// An object that was made lives no more behind an event, or is of the kind that it was: kinds never
-/// change, and a serial is never given again.
+/// An object that was made lives no more behind an event, or is of the kind that it was: kinds
+/// never change, and a serial is never given again.
 pub fn kinds_stay()
-    ensures { (s : State) (event : Event) (object : ℕ) → IsValid s → EventFits s event → object < s.next_serial
+    ensures { (s : State) (event : Event) (object : ℕ)
+        → IsValid s → EventFits s event → object < s.next_serial
         → (living_kind (after_event s event).objects object ≡ None)
         ⊎ (living_kind (after_event s event).objects object ≡ living_kind s.objects object) }
 {}
 
-/// What a look granted, of the kind that was needed, is no live object of another kind behind any events.
+/// What a look granted, of the kind that was needed, is no live object of another kind behind any
+/// events.
 pub fn found_grants_fit()
-    ensures { (s : State) (events : List Event) (cspace slot : ℕ) (row : CapabilityRow) (needed : Option Kind) → IsValid s
-        → EventsFit s events → find (fills cspace slot) s.caps ≡ Some row → row.valid ≡ true → IsTrue (kind_fits needed row.kind)
+    ensures { (s : State) (events : List Event) (cspace slot : ℕ) (row : CapabilityRow)
+        (needed : Option Kind) → IsValid s → EventsFit s events
+        → find (fills cspace slot) s.caps ≡ Some row → row.valid ≡ true
+        → IsTrue (kind_fits needed row.kind)
         → IsTrue (grant_fits (replay s events).objects row.serial needed) }
 {}
 
-/// A new object with its master capability, in a capability space that was there, has one reference.
+/// A new object with its master capability, in a capability space that was there, has one
+/// reference.
 pub fn new_object_has_one_reference()
     ensures { (s : State) (row : ObjectRow) (cap : CapabilityRow) → IsValid s
-        → MayChangeAll s (AddObject row ∷ PutCapability cap ∷ []) → cap.serial.0 ≡ row.serial.0 → lives s.objects cap.cspace.0 ≡ true
+        → MayChangeAll s (AddObject row ∷ PutCapability cap ∷ [])
+        → cap.serial.0 ≡ row.serial.0 → lives s.objects cap.cspace.0 ≡ true
         → references (changed_all s (AddObject row ∷ PutCapability cap ∷ [])) row.serial.0 ≡ 1 }
 {}
 

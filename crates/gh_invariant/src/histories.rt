@@ -7,8 +7,8 @@ ghost use Rattle.gh_model.specs.History.{Event, state_at};
 ghost use Rattle.gh_model.specs.References.{references};
 ghost use Rattle.gh_model.specs.declared.state.State.{State};
 
-/// From a valid state on, as a boot file makes one, every state of a history is valid whose events each
-/// fit the state before them.
+/// From a valid state on, as a boot file makes one, every state of a history is valid whose events
+/// each fit the state before them.
 #[tactic(auto, using(crate::proofs::HistoriesKept::history_valid))]
 pub fn histories_keep_valid()
     ensures { (s : State) (history : List Event) (n : ℕ) → IsValid s → EventsFit s history
@@ -17,6 +17,7 @@ pub fn histories_keep_valid()
 
 /// An object that was made and has no references has none in any later state.
 pub fn doomed_for_ever()
-    ensures { (s : State) (history : List Event) (object n : ℕ) → IsValid s → EventsFit s history → 0 < object
-        → object < s.next_serial → references s object ≡ 0 → references (state_at s history n) object ≡ 0 }
+    ensures { (s : State) (history : List Event) (object n : ℕ)
+        → IsValid s → EventsFit s history → 0 < object → object < s.next_serial
+        → references s object ≡ 0 → references (state_at s history n) object ≡ 0 }
 {}

@@ -71,11 +71,13 @@ unless false s errno others may = may
 unless_two : (a b : Bool) (s : State) (first second : Errno) (others : Decision) → May s others → May s (if a then Refuse first else (if b then Refuse second else others))
 unless_two a b s first second others may = unless a s first (if b then Refuse second else others) (unless b s second others may)
 
-unless_three : (a b c : Bool) (s : State) (first second third : Errno) (others : Decision) → May s others → May s (if a then Refuse first else (if b then Refuse second else (if c then Refuse third else others)))
+unless_three : (a b c : Bool) (s : State) (first second third : Errno) (others : Decision) → May s others
+    → May s (if a then Refuse first else (if b then Refuse second else (if c then Refuse third else others)))
 unless_three a b c s first second third others may =
     unless a s first (if b then Refuse second else (if c then Refuse third else others)) (unless_two b c s second third others may)
 
-unless_five : (a b c d e : Bool) (s : State) (first second third fourth fifth : Errno) (others : Decision) → May s others → May s (if a then Refuse first else (if b then Refuse second else (if c then Refuse third else (if d then Refuse fourth else (if e then Refuse fifth else others)))))
+unless_five : (a b c d e : Bool) (s : State) (first second third fourth fifth : Errno) (others : Decision) → May s others
+    → May s (if a then Refuse first else (if b then Refuse second else (if c then Refuse third else (if d then Refuse fourth else (if e then Refuse fifth else others)))))
 unless_five a b c d e s first second third fourth fifth others may =
     unless_two a b s first second (if c then Refuse third else (if d then Refuse fourth else (if e then Refuse fifth else others))) (unless_three c d e s third fourth fifth others may)
 
@@ -260,7 +262,8 @@ module _ (s : State) (h : AreSmall s) where
   created partition cspace None = record { is = tt }
   created partition cspace (Some k) = created_in partition cspace k _
 
-  quota_room : (lacks : Bool) (partition : Serial) (quota : ℕ) (row : PartitionRow) (reply : Reply) → find (is_partition partition.0) s.partitions ≡ Some row → quota ≤ PARTITION_UNITS → nat_lt (free_units s row.parent.0) quota ≡ lacks
+  quota_room : (lacks : Bool) (partition : Serial) (quota : ℕ) (row : PartitionRow) (reply : Reply)
+      → find (is_partition partition.0) s.partitions ≡ Some row → quota ≤ PARTITION_UNITS → nat_lt (free_units s row.parent.0) quota ≡ lacks
       → May s (if lacks then Refuse Nomem else Make (SetStage partition Ready ∷ GiveQuota partition quota ∷ []) reply)
   quota_room true partition quota row reply found few is = record { is = tt }
   quota_room false partition quota row reply found few is =
@@ -274,21 +277,25 @@ module _ (s : State) (h : AreSmall s) where
         };
       }
 
-  quota_given : (partition : Serial) (quota : ℕ) (found : Option PartitionRow) → find (is_partition partition.0) s.partitions ≡ found → quota ≤ PARTITION_UNITS → May s (objects.quota_given s partition quota found)
+  quota_given : (partition : Serial) (quota : ℕ) (found : Option PartitionRow) → find (is_partition partition.0) s.partitions ≡ found → quota ≤ PARTITION_UNITS
+      → May s (objects.quota_given s partition quota found)
   quota_given partition quota None is few = record { is = tt }
   quota_given partition quota (Some row) is few = quota_room (nat_lt (free_units s row.parent.0) quota) partition quota row _ is few refl
 
-  quota_asked : (many : Bool) (partition : Serial) (quota : ℕ) → nat_lt PARTITION_UNITS quota ≡ many → May s (if many then Refuse ArgInval else objects.quota_given s partition quota (find (is_partition partition.0) s.partitions))
+  quota_asked : (many : Bool) (partition : Serial) (quota : ℕ) → nat_lt PARTITION_UNITS quota ≡ many
+      → May s (if many then Refuse ArgInval else objects.quota_given s partition quota (find (is_partition partition.0) s.partitions))
   quota_asked true partition quota is = record { is = tt }
   quota_asked false partition quota is = quota_given partition quota (find (is_partition partition.0) s.partitions) refl (enough PARTITION_UNITS quota is)
 
-  queue_room : (lacks : Bool) (queue : Serial) (depth size : ℕ) (row : ObjectRow) (reply : Reply) → object_row s queue.0 ≡ Some row → nat_lt (free_units s row.partition.0) (objects.room_cost depth size) ≡ lacks
+  queue_room : (lacks : Bool) (queue : Serial) (depth size : ℕ) (row : ObjectRow) (reply : Reply)
+      → object_row s queue.0 ≡ Some row → nat_lt (free_units s row.partition.0) (objects.room_cost depth size) ≡ lacks
       → May s (if lacks then Refuse Nomem else Make (SetStage queue Ready ∷ ConfigureQueue queue depth size (queue_cost depth size) ∷ []) reply)
   queue_room true queue depth size row reply found is = record { is = tt }
   queue_room false queue depth size row reply found is =
       let room : objects.room_cost depth size ≤ free_units s row.partition.0 = enough (free_units s row.partition.0) (objects.room_cost depth size) is in
       let cost : queue_cost depth size ≡ 1 + objects.room_cost depth size = refl in
-      let fits : used_units s row.partition.0 + queue_cost depth size ≤ 65536 = omega (arith, cost, room, h.small.used row.partition.0, small_quota row.partition.0 (find (is_partition row.partition.0) s.partitions) refl) in
+      let fits : used_units s row.partition.0 + queue_cost depth size ≤ 65536 =
+      omega (arith, cost, room, h.small.used row.partition.0, small_quota row.partition.0 (find (is_partition row.partition.0) s.partitions) refl) in
       record {
         is = record {
           serials = omega arith;
@@ -349,17 +356,31 @@ module _ (s : State) (h : AreSmall s) where
 pub small_kept : (s : State) → IsKept s → AreSmall s
 small_kept s kept = record { small = kept.small; quotas = kept.quotas; costs = kept.costs }
 
+-- a call that comes to changes, on a state that is kept small
+pub record ComesTo (s : State) (changes : List Change) : Type 0 where
+  pub moved : Bool
+  pub cpu : ℕ
+  pub call : Call
+  pub bytes : List ℕ
+  pub grants : List Serial
+  pub made : Decision
+  pub reply : Reply
+  pub kept : IsKept s
+  pub is : made ≡ decision moved s cpu call bytes grants
+  pub makes : made ≡ Make changes reply
+
 -- the changes of a decision
-pub decided_changes : (s : State) (moved : Bool) (cpu : ℕ) (call : Call) (bytes : List ℕ) (grants : List Serial) (made : Decision) (changes : List Change) (reply : Reply) → IsKept s → made ≡ decision moved s cpu call bytes grants → made ≡ Make changes reply → MayMake s changes
-decided_changes s moved cpu call bytes grants made changes reply kept is makes =
-    subst (λ (d : Decision). MayDecide s d) (sym is ∙ makes) (decision_may s (small_kept s kept) moved cpu call bytes grants).is
+decided_changes : (s : State) (changes : List Change) → ComesTo s changes → MayMake s changes
+decided_changes s changes h =
+    let may : May s (decision h.moved s h.cpu h.call h.bytes h.grants) = decision_may s (small_kept s h.kept) h.moved h.cpu h.call h.bytes h.grants in
+    subst (λ (d : Decision). MayDecide s d) (sym h.is ∙ h.makes) may.is
 
 -- have room in the counts of the state
-pub decided_room : (s : State) (moved : Bool) (cpu : ℕ) (call : Call) (bytes : List ℕ) (grants : List Serial) (made : Decision) (changes : List Change) (reply : Reply) → IsKept s → s.entries < HISTORY_ENTRIES → made ≡ decision moved s cpu call bytes grants → made ≡ Make changes reply → HasRoom s changes
-decided_room s moved cpu call bytes grants made changes reply kept room is makes =
-    let may : MayMake s changes = decided_changes s moved cpu call bytes grants made changes reply kept is makes in
+pub decided_room : (s : State) (changes : List Change) → ComesTo s changes → s.entries < HISTORY_ENTRIES → HasRoom s changes
+decided_room s changes h room =
+    let may : MayMake s changes = decided_changes s changes h in
     record {
       entries = omega (arith, room);
-      serials = omega (arith, may.serials, kept.serials, room);
-      rings = omega (arith, may.rings, kept.rings, room);
+      serials = omega (arith, may.serials, h.kept.serials, room);
+      rings = omega (arith, may.rings, h.kept.rings, room);
     }

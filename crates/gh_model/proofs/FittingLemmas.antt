@@ -23,7 +23,7 @@ use Rattle.gh_model.specs.declared.rows.ObjectRow.{ObjectRow}
 use Rattle.gh_model.specs.declared.rows.PartitionRow.{PartitionRow}
 use Rattle.gh_model.specs.declared.state.State.{State}
 use Rattle.gh_model.specs.Boot.{after_line, boot_fits, boot_object, boot_state, empty_state, extent_fits, first_page, has_units, is_complete, is_vm, kind_count, line_fits, lines_fit, link_fits, move_pages, queue_cost, serial_of, vm_count}
-use Rattle.gh_model.specs.Changes.{moved_run}
+use Rattle.gh_model.specs.Changes.{boot_partition, moved_run}
 use Rattle.gh_model.specs.Fitting.{FitObjects, IsFitting, left_by, left_in, object_units, partitions_among, span_end}
 use Rattle.gh_model.specs.Rows.{cpu_row, is_cpu, is_extent, is_partition}
 use Rattle.gh_model.specs.Units.{free_units, given_by, is_given_by, lives_in, object_cost, partition_quota, row_quota, used_by}
@@ -34,6 +34,15 @@ use Rattle.gh_model.proofs.Tests.{and-first, and-second, at_most}
 pub below : (a b : ℕ) → IsTrue (nat_lt a b) → a < b
 below a b h = grind (arith, nat_tests)
 
+-- the sum over the kept of a list with a row more
+sum_more : {R : Type 0} (keep : R → Bool) (count : R → ℕ) (rows : List R) (row : R)
+    → sum_by (λ x. x) (map count (filter keep (rows ++ row ∷ [])))
+    ≡ sum_by (λ x. x) (map count (filter keep rows)) + sum_by (λ x. x) (map count (filter keep (row ∷ [])))
+sum_more {R} keep count rows row =
+    ap (λ (kept : List R). sum_by (λ x. x) (map count kept)) (filter-append keep rows (row ∷ []))
+    ∙ ap (sum_by (λ x. x)) (map-append count (filter keep rows) (filter keep (row ∷ [])))
+    ∙ sum_by-append (λ x. x) (map count (filter keep rows)) (map count (filter keep (row ∷ [])))
+
 -- units in use
 
 cost_by : (here : Bool) (row : ObjectRow) → sum_by (λ x. x) (map object_cost (if here then row ∷ [] else [])) ≡ (if here then row.cost else 0)
@@ -41,12 +50,10 @@ cost_by true row = omega arith
 cost_by false row = refl
 
 -- an object more raises the units in use by its cost in its partition
-pub used_more : (objects : List ObjectRow) (row : ObjectRow) (p : ℕ) → used_by (objects ++ row ∷ []) p ≡ used_by objects p + (if lives_in p row then row.cost else 0)
+pub used_more : (objects : List ObjectRow) (row : ObjectRow) (p : ℕ)
+    → used_by (objects ++ row ∷ []) p ≡ used_by objects p + (if lives_in p row then row.cost else 0)
 used_more objects row p =
-    let split : filter (lives_in p) (objects ++ row ∷ []) ≡ filter (lives_in p) objects ++ filter (lives_in p) (row ∷ []) = filter-append (lives_in p) objects (row ∷ []) in
-    let mapped : map object_cost (filter (lives_in p) objects ++ filter (lives_in p) (row ∷ [])) ≡ map object_cost (filter (lives_in p) objects) ++ map object_cost (filter (lives_in p) (row ∷ [])) = map-append object_cost (filter (lives_in p) objects) (filter (lives_in p) (row ∷ [])) in
-    let all : used_by (objects ++ row ∷ []) p ≡ used_by objects p + sum_by (λ x. x) (map object_cost (filter (lives_in p) (row ∷ []))) = ap (λ (rows : List ObjectRow). sum_by (λ x. x) (map object_cost rows)) split ∙ ap (sum_by (λ x. x)) mapped ∙ sum_by-append (λ x. x) (map object_cost (filter (lives_in p) objects)) (map object_cost (filter (lives_in p) (row ∷ []))) in
-    all ∙ ap (λ (n : ℕ). used_by objects p + n) (cost_by (lives_in p row) row)
+    sum_more (lives_in p) object_cost objects row ∙ ap (λ (n : ℕ). used_by objects p + n) (cost_by (lives_in p row) row)
 
 itself : (n : ℕ) → eqb n n ≡ true
 itself n = grind (arith, nat_tests)
@@ -59,7 +66,9 @@ at_most_cost : (here : Bool) (cost : ℕ) → (if here then cost else 0) ≤ cos
 at_most_cost true cost = omega arith
 at_most_cost false cost = omega arith
 
-used_few : (objects : List ObjectRow) (row : ObjectRow) (p : ℕ) → row.cost ≤ object_units → used_by objects p ≤ object_units * length objects → used_by (objects ++ row ∷ []) p ≤ object_units * length (objects ++ row ∷ [])
+used_few : (objects : List ObjectRow) (row : ObjectRow) (p : ℕ)
+    → row.cost ≤ object_units → used_by objects p ≤ object_units * length objects
+    → used_by (objects ++ row ∷ []) p ≤ object_units * length (objects ++ row ∷ [])
 used_few objects row p small few =
     omega (arith, used_more objects row p, at_most_cost (lives_in p row) row.cost, length-append objects (row ∷ []), small, few)
 
@@ -69,16 +78,15 @@ quota_by : (here : Bool) (row : PartitionRow) → sum_by (λ x. x) (map partitio
 quota_by true row = omega arith
 quota_by false row = omega arith
 
-pub given_more : (partitions : List PartitionRow) (row : PartitionRow) (p : ℕ) → given_by (partitions ++ row ∷ []) p ≤ given_by partitions p + row.quota
+pub given_more : (partitions : List PartitionRow) (row : PartitionRow) (p : ℕ)
+    → given_by (partitions ++ row ∷ []) p ≤ given_by partitions p + row.quota
 given_more partitions row p =
-    let split : filter (is_given_by p) (partitions ++ row ∷ []) ≡ filter (is_given_by p) partitions ++ filter (is_given_by p) (row ∷ []) = filter-append (is_given_by p) partitions (row ∷ []) in
-    let mapped : map partition_quota (filter (is_given_by p) partitions ++ filter (is_given_by p) (row ∷ [])) ≡ map partition_quota (filter (is_given_by p) partitions) ++ map partition_quota (filter (is_given_by p) (row ∷ [])) = map-append partition_quota (filter (is_given_by p) partitions) (filter (is_given_by p) (row ∷ [])) in
-    let all : given_by (partitions ++ row ∷ []) p ≡ given_by partitions p + sum_by (λ x. x) (map partition_quota (filter (is_given_by p) (row ∷ []))) = ap (λ (rows : List PartitionRow). sum_by (λ x. x) (map partition_quota rows)) split ∙ ap (sum_by (λ x. x)) mapped ∙ sum_by-append (λ x. x) (map partition_quota (filter (is_given_by p) partitions)) (map partition_quota (filter (is_given_by p) (row ∷ []))) in
-    let one : sum_by (λ x. x) (map partition_quota (filter (is_given_by p) (row ∷ []))) ≤ row.quota = quota_by (is_given_by p row) row in
-    omega arith
+    omega (arith, sum_more (is_given_by p) partition_quota partitions row, quota_by (is_given_by p row) row)
 
 -- a small quota is added
-pub quota_more : (partitions : List PartitionRow) (row : PartitionRow) (n : ℕ) → row_quota (find (is_partition n) partitions) ≤ PARTITION_UNITS → row.quota ≤ PARTITION_UNITS → row_quota (find (is_partition n) (partitions ++ row ∷ [])) ≤ PARTITION_UNITS
+pub quota_more : (partitions : List PartitionRow) (row : PartitionRow) (n : ℕ)
+    → row_quota (find (is_partition n) partitions) ≤ PARTITION_UNITS → row.quota ≤ PARTITION_UNITS
+    → row_quota (find (is_partition n) (partitions ++ row ∷ [])) ≤ PARTITION_UNITS
 quota_more partitions row n old new =
     rw find-append (either (find (is_partition n) partitions) (eqb row.serial.0 n) old)
   where
@@ -96,7 +104,8 @@ sum_less f g (x ∷ xs) less =
     omega (arith, sum_by-cons f x xs, sum_by-cons g x xs, less x, sum_less f g xs less)
 
 -- and fewer of all, where one that is found has fewer
-sum_fewer : {X : Type 0} (f g : X → ℕ) (p : X → Bool) (xs : List X) (found : X) → find p xs ≡ Some found → ((x : X) → f x ≤ g x) → ((x : X) → p x ≡ true → f x + 1 ≤ g x) → sum_by f xs + 1 ≤ sum_by g xs
+sum_fewer : {X : Type 0} (f g : X → ℕ) (p : X → Bool) (xs : List X) (found : X) → find p xs ≡ Some found
+    → ((x : X) → f x ≤ g x) → ((x : X) → p x ≡ true → f x + 1 ≤ g x) → sum_by f xs + 1 ≤ sum_by g xs
 sum_fewer f g p [] found is less fewer = absurd (let never : ⊥ = cc in never)
 sum_fewer f g p (x ∷ xs) found is less fewer =
     elim (cases_Bool (p x)) as (λ _. sum_by f (x ∷ xs) + 1 ≤ sum_by g (x ∷ xs)) [
@@ -109,13 +118,27 @@ left_less : (objects : List ObjectRow) (row : ObjectRow) (partition : PartitionR
 left_less objects row partition = omega (arith, used_more objects row partition.serial.0)
 
 -- and less in its own partition, where some is left
-left_fewer : (objects : List ObjectRow) (row : ObjectRow) (partition : PartitionRow) → 1 ≤ row.cost → used_by objects row.partition.0 + 1 ≤ PARTITION_UNITS → is_partition row.partition.0 partition ≡ true → left_by (objects ++ row ∷ []) partition + 1 ≤ left_by objects partition
+left_fewer : (objects : List ObjectRow) (row : ObjectRow) (partition : PartitionRow)
+    → 1 ≤ row.cost → used_by objects row.partition.0 + 1 ≤ PARTITION_UNITS → is_partition row.partition.0 partition ≡ true
+    → left_by (objects ++ row ∷ []) partition + 1 ≤ left_by objects partition
 left_fewer objects row partition some free is =
     let same : partition.serial.0 ≡ row.partition.0 = eqb-true partition.serial.0 row.partition.0 is in
     rw same (omega (arith, used_here, some, free))
   where
     used_here : used_by (objects ++ row ∷ []) row.partition.0 ≡ used_by objects row.partition.0 + row.cost
     used_here = used_more objects row row.partition.0 ∙ ap (λ (n : ℕ). used_by objects row.partition.0 + n) (whole_cost (lives_in row.partition.0 row) row.cost (itself row.partition.0))
+
+-- the objects with one more of a boot line
+abbrev with_object : State → Kind → ℕ → ℕ → List ObjectRow
+with_object s k partition cost = s.objects ++ boot_object s k partition cost ∷ []
+
+-- whether an object counts as a partition
+abbrev is_counted : ObjectRow → Bool
+is_counted row = kind_number row.kind == kind_number kind.Partition
+
+-- the partitions with one more
+abbrev with_partition : State → ℕ → List PartitionRow
+with_partition s quota = s.partitions ++ boot_partition s.next_serial quota ∷ []
 
 -- there is a row where units are left
 quota_found : (o : Option PartitionRow) → 1 ≤ row_quota o → (row : PartitionRow) × (o ≡ Some row)
@@ -153,17 +176,20 @@ module _ (s : State) (h : IsFitting s) where
     -- and there is a serial for it
     pub units_serial : s.next_serial ≤ OBJECT_INDICES
     units_serial =
-        let more : sum_by (λ (row : PartitionRow). 0) s.partitions + 1 ≤ left_in s.objects s.partitions = sum_fewer (λ (row : PartitionRow). 0) (left_by s.objects) (is_partition partition) s.partitions home.0 home.1 (λ row. omega arith) left_some in
+        let more : sum_by (λ (row : PartitionRow). 0) s.partitions + 1 ≤ left_in s.objects s.partitions =
+        sum_fewer (λ (row : PartitionRow). 0) (left_by s.objects) (is_partition partition) s.partitions home.0 home.1 (λ row. omega arith) left_some in
         omega (arith, more, h.objects.left, h.objects.few, h.objects.serials)
 
     -- an object of another kind than a partition
-    object_more : (k : Kind) → cost ≤ object_units → partitions_among (s.objects ++ boot_object s k partition cost ∷ []) ≡ partitions_among s.objects + 0 → FitObjects (s.next_serial + 1) (s.objects ++ boot_object s k partition cost ∷ []) (s.partitions ++ [])
+    object_more : (k : Kind) → cost ≤ object_units → partitions_among (with_object s k partition cost) ≡ partitions_among s.objects + 0
+        → FitObjects (s.next_serial + 1) (with_object s k partition cost) (s.partitions ++ [])
     object_more k small other =
         let row : ObjectRow = boot_object s k partition cost in
-        let longer : length (s.objects ++ boot_object s k partition cost ∷ []) ≡ length s.objects + 1 = length-append s.objects (row ∷ []) in
-        let less : left_in (s.objects ++ boot_object s k partition cost ∷ []) s.partitions + 1 ≤ left_in s.objects s.partitions =
-        sum_fewer (left_by (s.objects ++ boot_object s k partition cost ∷ [])) (left_by s.objects) (is_partition partition) s.partitions home.0 home.1 (left_less s.objects row) (λ one is. left_fewer s.objects row one some (omega (arith, units_within, some)) is) in
-        subst (λ (partitions : List PartitionRow). FitObjects (s.next_serial + 1) (s.objects ++ boot_object s k partition cost ∷ []) partitions) (sym (append-nil s.partitions)) (record {
+        let longer : length (with_object s k partition cost) ≡ length s.objects + 1 = length-append s.objects (row ∷ []) in
+        let less : left_in (with_object s k partition cost) s.partitions + 1 ≤ left_in s.objects s.partitions =
+        sum_fewer (left_by (with_object s k partition cost)) (left_by s.objects) (is_partition partition) s.partitions home.0 home.1
+        (left_less s.objects row) (λ one is. left_fewer s.objects row one some (omega (arith, units_within, some)) is) in
+        subst (λ (partitions : List PartitionRow). FitObjects (s.next_serial + 1) (with_object s k partition cost) partitions) (sym (append-nil s.partitions)) (record {
           serials = omega (arith, longer, h.objects.serials);
           rows = omega (arith, other, h.objects.rows);
           few = h.objects.few;
@@ -174,15 +200,18 @@ module _ (s : State) (h : IsFitting s) where
         })
 
   -- a partition, which lives in itself
-  partition_more : (quota : ℕ) → quota ≤ PARTITION_UNITS → kind_count s kind.Partition < PARTITIONS → FitObjects (s.next_serial + 1) (s.objects ++ boot_object s kind.Partition s.next_serial 1 ∷ []) (s.partitions ++ record { serial = serial_of s.next_serial; parent = serial_of 0; quota = quota } ∷ [])
+  partition_more : (quota : ℕ) → quota ≤ PARTITION_UNITS → kind_count s kind.Partition < PARTITIONS
+      → FitObjects (s.next_serial + 1) (with_object s kind.Partition s.next_serial 1) (with_partition s quota)
   partition_more quota small fewer =
       let object : ObjectRow = boot_object s kind.Partition s.next_serial 1 in
-      let row : PartitionRow = record { serial = serial_of s.next_serial; parent = serial_of 0; quota = quota } in
-      let objects : List ObjectRow = s.objects ++ boot_object s kind.Partition s.next_serial 1 ∷ [] in
-      let longer : length (s.objects ++ boot_object s kind.Partition s.next_serial 1 ∷ []) ≡ length s.objects + 1 = length-append s.objects (object ∷ []) in
-      let rows : length (s.partitions ++ record { serial = serial_of s.next_serial; parent = serial_of 0; quota = quota } ∷ []) ≡ length s.partitions + 1 = length-append s.partitions (row ∷ []) in
-      let counted : partitions_among (s.objects ++ boot_object s kind.Partition s.next_serial 1 ∷ []) ≡ partitions_among s.objects + 1 = count_snoc (λ (o : ObjectRow). kind_number o.kind == kind_number kind.Partition) s.objects object in
-      let less : left_in (s.objects ++ boot_object s kind.Partition s.next_serial 1 ∷ []) s.partitions ≤ left_in s.objects s.partitions = sum_less (left_by objects) (left_by s.objects) s.partitions (left_less s.objects object) in
+      let row : PartitionRow = boot_partition s.next_serial quota in
+      let objects : List ObjectRow = with_object s kind.Partition s.next_serial 1 in
+      let longer : length (with_object s kind.Partition s.next_serial 1) ≡ length s.objects + 1 = length-append s.objects (object ∷ []) in
+      let rows : length (with_partition s quota) ≡ length s.partitions + 1 = length-append s.partitions (row ∷ []) in
+      let counted : partitions_among (with_object s kind.Partition s.next_serial 1) ≡ partitions_among s.objects + 1 =
+      count_snoc is_counted s.objects object in
+      let less : left_in (with_object s kind.Partition s.next_serial 1) s.partitions ≤ left_in s.objects s.partitions =
+      sum_less (left_by objects) (left_by s.objects) s.partitions (left_less s.objects object) in
       record {
         serials = omega (arith, longer, h.objects.serials);
         rows = omega (arith, counted, rows, h.objects.rows);
@@ -193,14 +222,17 @@ module _ (s : State) (h : IsFitting s) where
         left = omega (arith, longer, rows, less, own, sum_by-append (left_by objects) s.partitions (row ∷ []), h.objects.left);
       }
     where
-      lives : used_by (s.objects ++ boot_object s kind.Partition s.next_serial 1 ∷ []) s.next_serial ≡ used_by s.objects s.next_serial + 1
-      lives = used_more s.objects (boot_object s kind.Partition s.next_serial 1) s.next_serial ∙ ap (λ (n : ℕ). used_by s.objects s.next_serial + n) (whole_cost (eqb s.next_serial s.next_serial) 1 (itself s.next_serial))
+      lives : used_by (with_object s kind.Partition s.next_serial 1) s.next_serial ≡ used_by s.objects s.next_serial + 1
+      lives =
+          used_more s.objects (boot_object s kind.Partition s.next_serial 1) s.next_serial
+          ∙ ap (λ (n : ℕ). used_by s.objects s.next_serial + n) (whole_cost (eqb s.next_serial s.next_serial) 1 (itself s.next_serial))
 
-      own : sum_by (left_by (s.objects ++ boot_object s kind.Partition s.next_serial 1 ∷ [])) (record { serial = serial_of s.next_serial; parent = serial_of 0; quota = quota } ∷ []) + 1 ≤ PARTITION_UNITS
+      own : sum_by (left_by (with_object s kind.Partition s.next_serial 1)) (boot_partition s.next_serial quota ∷ []) + 1 ≤ PARTITION_UNITS
       own = omega (arith, lives)
 
 -- the span of an extent more lies in the machine
-span_more : (extents : List ExtentRow) (row : ExtentRow) (n pages : ℕ) → span_end (find (is_extent n) extents) ≤ pages → row.first.0 + row.count ≤ pages → span_end (find (is_extent n) (extents ++ row ∷ [])) ≤ pages
+span_more : (extents : List ExtentRow) (row : ExtentRow) (n pages : ℕ)
+    → span_end (find (is_extent n) extents) ≤ pages → row.first.0 + row.count ≤ pages → span_end (find (is_extent n) (extents ++ row ∷ [])) ≤ pages
 span_more extents row n pages old new =
     rw find-append (either (find (is_extent n) extents) (eqb row.serial.0 n) old)
   where
@@ -216,11 +248,13 @@ moved_length first count holder holders within =
     let run : length (replicate count holder) ≡ count = length-replicate count holder in
     let rest : length (drop (first + count) holders) ≡ length holders - (first + count) = length-drop (first + count) holders in
     let both : length (take first holders ++ replicate count holder) ≡ length (take first holders) + length (replicate count holder) = length-append (take first holders) (replicate count holder) in
-    let all : length (move_pages first count holder holders) ≡ length (take first holders ++ replicate count holder) + length (drop (first + count) holders) = length-append (take first holders ++ replicate count holder) (drop (first + count) holders) in
+    let all : length (move_pages first count holder holders) ≡ length (take first holders ++ replicate count holder) + length (drop (first + count) holders) =
+    length-append (take first holders ++ replicate count holder) (drop (first + count) holders) in
     omega arith
 
 -- whether it is one of the machine or none
-pub moved_pages : (fits : Bool) (first count : ℕ) (holder : Serial) (holders : List Serial) → nat_le (first + count) (length holders) ≡ fits → length (if fits then move_pages first count holder holders else holders) ≡ length holders
+pub moved_pages : (fits : Bool) (first count : ℕ) (holder : Serial) (holders : List Serial) → nat_le (first + count) (length holders) ≡ fits
+    → length (if fits then move_pages first count holder holders else holders) ≡ length holders
 moved_pages true first count holder holders is = moved_length first count holder holders (leb-true (first + count) (length holders) is)
 moved_pages false first count holder holders is = refl
 
@@ -232,23 +266,31 @@ pub queue_some : (depth size : ℕ) → 1 ≤ queue_cost depth size
 queue_some depth size = omega arith
 
 -- the new span is within the parent's
-child_within : (s : State) (parent offset count access held_offset held_count pages : ℕ) (o : Option ExtentRow) → IsTrue (extent_fits s parent offset count access held_offset held_count o) → span_end o ≤ pages → option_map_or (λ (row : ExtentRow). row.first.0) o 0 + offset + count ≤ pages
+child_within : (s : State) (parent offset count access held_offset held_count pages : ℕ) (o : Option ExtentRow)
+    → IsTrue (extent_fits s parent offset count access held_offset held_count o) → span_end o ≤ pages
+    → option_map_or (λ (row : ExtentRow). row.first.0) o 0 + offset + count ≤ pages
 child_within s parent offset count access held_offset held_count pages None fits within = absurd (let never : ⊥ = cc in never)
 child_within s parent offset count access held_offset held_count pages (Some row) fits within =
     omega (arith, at_most (offset + count) row.count (and-second _ _ (and-first _ _ (and-first _ _ (and-first _ _ fits)))), within)
 
-module _ (s : State) (partition parent : Serial) (offset count : ℕ) (access : Access) (held_offset held_count : ℕ) (fits : IsTrue (line_fits s (Extent partition parent offset count access held_offset held_count))) where
-  pub extent_held : held_offset + held_count ≤ count
-  extent_held = at_most _ _ (and-second _ _ (and-first _ _ fits))
+-- an extent line that fits a fitting state
+pub record IsNewExtent (s : State) (line : BootLine) (parent : Serial) (offset count : ℕ) : Type 0 where
+  pub partition : Serial
+  pub access : Access
+  pub held_offset : ℕ
+  pub held_count : ℕ
+  pub is : line ≡ Extent partition parent offset count access held_offset held_count
+  pub fits : IsTrue (line_fits s line)
+  pub fitting : IsFitting s
 
-  -- the span of an extent line that fits lies in the machine
-  pub extent_within : IsFitting s → first_page s parent.0 + offset + count ≤ length s.holders
-  extent_within h =
-      child_within s parent.0 offset count access.0 held_offset held_count (length s.holders) (find (is_extent parent.0) s.extents) (and-second _ _ fits) (h.spans parent.0)
-
-pub extent_span : (s : State) (line : BootLine) (partition parent : Serial) (offset count : ℕ) (access : Access) (held_offset held_count : ℕ) → line ≡ Extent partition parent offset count access held_offset held_count → IsTrue (line_fits s line) → IsFitting s → first_page s parent.0 + offset + count ≤ length s.holders
-extent_span s line partition parent offset count access held_offset held_count is fits h =
-    extent_within s partition parent offset count access held_offset held_count (subst (λ (l : BootLine). IsTrue (line_fits s l)) is fits) h
+-- the span of its extent lies in the machine
+pub extent_span : (s : State) (line : BootLine) (parent : Serial) (offset count : ℕ) → IsNewExtent s line parent offset count
+    → first_page s parent.0 + offset + count ≤ length s.holders
+extent_span s line parent offset count new =
+    let fits : IsTrue (line_fits s (Extent new.partition parent offset count new.access new.held_offset new.held_count)) =
+    subst (λ (l : BootLine). IsTrue (line_fits s l)) new.is new.fits in
+    child_within s parent.0 offset count new.access.0 new.held_offset new.held_count (length s.holders) (find (is_extent parent.0) s.extents)
+    (and-second _ _ fits) (new.fitting.spans parent.0)
 
 -- a CPU that is there is a VM's of the eight, or the manager's
 cpu_there : (o : Option CpuRow) → IsTrue (is_some o) → IsSome o
@@ -284,21 +326,24 @@ line_fitting s (Partition quota) fits h = record {
 }
 line_fitting s (Cspace partition) fits h = record {
   pages = h.pages;
-  objects = object_more s h partition.0 4 (and-first _ _ fits) (omega arith) kind.Cspace (omega arith) (count_snoc (λ (row : ObjectRow). kind_number row.kind == kind_number kind.Partition) s.objects (boot_object s kind.Cspace partition.0 4));
+  objects = object_more s h partition.0 4 (and-first _ _ fits) (omega arith) kind.Cspace (omega arith)
+      (count_snoc is_counted s.objects (boot_object s kind.Cspace partition.0 4));
   spans = h.spans;
   vms = h.vms;
   numbered = line_numbered s (Cspace partition) fits h.numbered;
 }
 line_fitting s (Addrspace partition) fits h = record {
   pages = h.pages;
-  objects = object_more s h partition.0 4 fits (omega arith) kind.Space (omega arith) (count_snoc (λ (row : ObjectRow). kind_number row.kind == kind_number kind.Partition) s.objects (boot_object s kind.Space partition.0 4));
+  objects = object_more s h partition.0 4 fits (omega arith) kind.Space (omega arith)
+      (count_snoc is_counted s.objects (boot_object s kind.Space partition.0 4));
   spans = h.spans;
   vms = h.vms;
   numbered = line_numbered s (Addrspace partition) fits h.numbered;
 }
 line_fitting s (Doorbell partition) fits h = record {
   pages = h.pages;
-  objects = object_more s h partition.0 1 fits (omega arith) kind.Bell (omega arith) (count_snoc (λ (row : ObjectRow). kind_number row.kind == kind_number kind.Partition) s.objects (boot_object s kind.Bell partition.0 1));
+  objects = object_more s h partition.0 1 fits (omega arith) kind.Bell (omega arith)
+      (count_snoc is_counted s.objects (boot_object s kind.Bell partition.0 1));
   spans = h.spans;
   vms = h.vms;
   numbered = line_numbered s (Doorbell partition) fits h.numbered;
@@ -307,17 +352,31 @@ line_fitting s (RootExtent partition) fits h =
     let same : length (replicate (length s.holders) (serial_of s.next_serial)) ≡ length s.holders = length-replicate (length s.holders) (serial_of s.next_serial) in
     record {
       pages = omega (arith, same, h.pages);
-      objects = object_more s h partition.0 1 (and-first _ _ fits) (omega arith) kind.Extent (omega arith) (count_snoc (λ (row : ObjectRow). kind_number row.kind == kind_number kind.Partition) s.objects (boot_object s kind.Extent partition.0 1));
+      objects = object_more s h partition.0 1 (and-first _ _ fits) (omega arith) kind.Extent (omega arith)
+          (count_snoc is_counted s.objects (boot_object s kind.Extent partition.0 1));
       spans = λ n. rw same (span_more s.extents _ n (length s.holders) (h.spans n) (omega arith));
       vms = h.vms;
       numbered = line_numbered s (RootExtent partition) fits h.numbered;
     }
 line_fitting s (Extent partition parent offset count access held_offset held_count) fits h =
-    let within : first_page s parent.0 + offset + count ≤ length s.holders = extent_within s partition parent offset count access held_offset held_count fits h in
-    let same : length (moved_run (first_page s parent.0 + offset + held_offset) held_count (serial_of s.next_serial) s.holders) ≡ length s.holders = moved_pages (nat_le (first_page s parent.0 + offset + held_offset + held_count) (length s.holders)) (first_page s parent.0 + offset + held_offset) held_count (serial_of s.next_serial) s.holders refl in
+    let new : IsNewExtent s (Extent partition parent offset count access held_offset held_count) parent offset count = record {
+      partition = partition;
+      access = access;
+      held_offset = held_offset;
+      held_count = held_count;
+      is = refl;
+      fits = fits;
+      fitting = h;
+    } in
+    let within : first_page s parent.0 + offset + count ≤ length s.holders =
+    extent_span s (Extent partition parent offset count access held_offset held_count) parent offset count new in
+    let first : ℕ = first_page s parent.0 + offset + held_offset in
+    let same : length (moved_run (first_page s parent.0 + offset + held_offset) held_count (serial_of s.next_serial) s.holders) ≡ length s.holders =
+    moved_pages (nat_le (first + held_count) (length s.holders)) first held_count (serial_of s.next_serial) s.holders refl in
     record {
       pages = omega (arith, same, h.pages);
-      objects = object_more s h partition.0 1 (and-first _ _ (and-first _ _ fits)) (omega arith) kind.Extent (omega arith) (count_snoc (λ (row : ObjectRow). kind_number row.kind == kind_number kind.Partition) s.objects (boot_object s kind.Extent partition.0 1));
+      objects = object_more s h partition.0 1 (and-first _ _ (and-first _ _ fits)) (omega arith) kind.Extent (omega arith)
+          (count_snoc is_counted s.objects (boot_object s kind.Extent partition.0 1));
       spans = λ n. rw same (span_more s.extents _ n (length s.holders) (h.spans n) within);
       vms = h.vms;
       numbered = line_numbered s (Extent partition parent offset count access held_offset held_count) fits h.numbered;
@@ -328,28 +387,61 @@ line_fitting s (Msgqueue partition depth size) fits h =
     let within : queue_cost depth size ≤ object_units = small_queue depth size few small in
     record {
       pages = h.pages;
-      objects = object_more s h partition.0 (queue_cost depth size) (and-second _ _ fits) (queue_some depth size) kind.Queue within (count_snoc (λ (row : ObjectRow). kind_number row.kind == kind_number kind.Partition) s.objects (boot_object s kind.Queue partition.0 (queue_cost depth size)));
+      objects = object_more s h partition.0 (queue_cost depth size) (and-second _ _ fits) (queue_some depth size) kind.Queue within
+          (count_snoc is_counted s.objects (boot_object s kind.Queue partition.0 (queue_cost depth size)));
       spans = h.spans;
       vms = h.vms;
       numbered = line_numbered s (Msgqueue partition depth size) fits h.numbered;
     }
-line_fitting s (Map space extent base offset count access) fits h = record { pages = h.pages; objects = h.objects; spans = h.spans; vms = h.vms; numbered = line_numbered s (Map space extent base offset count access) fits h.numbered }
-line_fitting s (Cap cspace slot object rights master) fits h = record { pages = h.pages; objects = h.objects; spans = h.spans; vms = h.vms; numbered = line_numbered s (Cap cspace slot object rights master) fits h.numbered }
+line_fitting s (Map space extent base offset count access) fits h = record {
+  pages = h.pages;
+  objects = h.objects;
+  spans = h.spans;
+  vms = h.vms;
+  numbered = line_numbered s (Map space extent base offset count access) fits h.numbered;
+}
+line_fitting s (Cap cspace slot object rights master) fits h = record {
+  pages = h.pages;
+  objects = h.objects;
+  spans = h.spans;
+  vms = h.vms;
+  numbered = line_numbered s (Cap cspace slot object rights master) fits h.numbered;
+}
 line_fitting s (Vm cspace space) fits h =
     let row : CpuRow = record { cpu = record { 0 = vm_count s + 1 }; cspace = record { 0 = cspace.0 }; space = record { 0 = space.0 }; exited = false } in
-    let more : vm_count (after_line s (Vm cspace space)) ≡ vm_count s + 1 = count_snoc is_vm s.cpus row ∙ ap (λ (n : ℕ). vm_count s + n) (one_if (nat_lt 0 (vm_count s + 1)) (grind (arith, nat_tests))) in
-    record { pages = h.pages; objects = h.objects; spans = h.spans; vms = omega (arith, more, below (vm_count s) VMS (and-second _ _ fits)); numbered = line_numbered s (Vm cspace space) fits h.numbered }
+    let more : vm_count (after_line s (Vm cspace space)) ≡ vm_count s + 1 =
+    count_snoc is_vm s.cpus row ∙ ap (λ (n : ℕ). vm_count s + n) (one_if (nat_lt 0 (vm_count s + 1)) (grind (arith, nat_tests))) in
+    record {
+      pages = h.pages;
+      objects = h.objects;
+      spans = h.spans;
+      vms = omega (arith, more, below (vm_count s) VMS (and-second _ _ fits));
+      numbered = line_numbered s (Vm cspace space) fits h.numbered;
+    }
 line_fitting s (Rm cspace space partition) fits h =
     let row : CpuRow = record { cpu = record { 0 = 0 }; cspace = record { 0 = cspace.0 }; space = record { 0 = space.0 }; exited = false } in
     let same : vm_count (after_line s (Rm cspace space partition)) ≡ vm_count s + 0 = count_snoc is_vm s.cpus row in
-    record { pages = h.pages; objects = h.objects; spans = h.spans; vms = omega (arith, same, h.vms); numbered = line_numbered s (Rm cspace space partition) fits h.numbered }
-line_fitting s (Link vm extent request reply) fits h = record { pages = h.pages; objects = h.objects; spans = h.spans; vms = h.vms; numbered = line_numbered s (Link vm extent request reply) fits h.numbered }
+    record {
+      pages = h.pages;
+      objects = h.objects;
+      spans = h.spans;
+      vms = omega (arith, same, h.vms);
+      numbered = line_numbered s (Rm cspace space partition) fits h.numbered;
+    }
+line_fitting s (Link vm extent request reply) fits h = record {
+  pages = h.pages;
+  objects = h.objects;
+  spans = h.spans;
+  vms = h.vms;
+  numbered = line_numbered s (Link vm extent request reply) fits h.numbered;
+}
 
 -- and so do lines that fit in turn
 pub lines_fitting : (s : State) (lines : List BootLine) → IsTrue (lines_fit s lines) → IsFitting s → IsFitting (fold after_line s lines)
 lines_fitting s [] fit h = h
 lines_fitting s (line ∷ lines) fit h =
-    lines_fitting (after_line s line) lines (and-second (line_fits s line) (lines_fit (after_line s line) lines) fit) (line_fitting s line (and-first (line_fits s line) (lines_fit (after_line s line) lines) fit) h)
+    lines_fitting (after_line s line) lines (and-second (line_fits s line) (lines_fit (after_line s line) lines) fit)
+    (line_fitting s line (and-first (line_fits s line) (lines_fit (after_line s line) lines) fit) h)
 
 -- so many pages, and nothing else
 pub pages_fitting : (count : ℕ) → count ≤ MACHINE_PAGES → IsFitting (after_line empty_state (Pages count))
@@ -378,12 +470,15 @@ pub boot_fitting : (lines : List BootLine) → IsTrue (boot_fits lines) → IsFi
 boot_fitting [] fit = absurd (let never : ⊥ = cc in never)
 boot_fitting (Pages count ∷ lines) fit =
     let both = and-first _ (is_complete (fold after_line (after_line empty_state (Pages count)) lines)) fit in
-    lines_fitting (after_line empty_state (Pages count)) lines (and-second _ (lines_fit (after_line empty_state (Pages count)) lines) both) (pages_fitting count (at_most count MACHINE_PAGES (and-second _ _ (and-first _ _ both))))
+    lines_fitting (after_line empty_state (Pages count)) lines (and-second _ (lines_fit (after_line empty_state (Pages count)) lines) both)
+    (pages_fitting count (at_most count MACHINE_PAGES (and-second _ _ (and-first _ _ both))))
 boot_fitting (_ ∷ lines) fit = absurd (let never : ⊥ = cc in never)
 
 -- the line that is next keeps it
-pub next_fitting : (s t : State) (lines : List BootLine) (i : ℕ) (d : BootLine) → t ≡ after_line s (get_or lines i d) → i < length lines → IsTrue (lines_fit s (drop i lines)) → IsFitting s → IsFitting t
+pub next_fitting : (s t : State) (lines : List BootLine) (i : ℕ) (d : BootLine) → t ≡ after_line s (get_or lines i d)
+    → i < length lines → IsTrue (lines_fit s (drop i lines)) → IsFitting s → IsFitting t
 next_fitting s t lines i d made within fit h =
     let here : drop i lines ≡ get_or lines i d ∷ drop (suc i) lines = drop-cons lines i d within in
     subst (λ (u : State). IsFitting u) (sym made)
-    (line_fitting s (get_or lines i d) (and-first (line_fits s (get_or lines i d)) (lines_fit (after_line s (get_or lines i d)) (drop (suc i) lines)) (subst (λ (ls : List BootLine). IsTrue (lines_fit s ls)) here fit)) h)
+    (line_fitting s (get_or lines i d)
+    (and-first (line_fits s (get_or lines i d)) (lines_fit (after_line s (get_or lines i d)) (drop (suc i) lines)) (subst (λ (ls : List BootLine). IsTrue (lines_fit s ls)) here fit)) h)

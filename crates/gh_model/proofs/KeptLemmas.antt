@@ -1,7 +1,7 @@
 -- What changes keep: the sums of units and the pages stay small, quotas too, and objects cost units.
 use Rattle.std.proofs.Common.{◌≡◌, ◌+◌, ◌-◌, ◌<◌, ◌≤◌, ◌∙◌, ℕ, Bool, true, false, List, [], ◌∷◌, ◌++◌, Option, Some, None, find, length, nat_le, if◌then◌else◌, refl, subst, sym, arith, All}
 use Rattle.std.specs.Bool.{⊤}
-use Rattle.std.proofs.lemmas.Bool.{eqb-true, leb-true}
+use Rattle.std.proofs.lemmas.Bool.{eqb-true}
 use Rattle.std.proofs.lemmas.List.{append-nil, length-map, length-replicate}
 use Rattle.std.proofs.lemmas.List.Elements.{All-append, All-cons, All-nil, All-push}
 use Rattle.std.proofs.lemmas.Option.{none-some, same_Some}
@@ -71,7 +71,9 @@ recast_small s new test change parts stays objects partitions holders h = record
 
 -- an object more
 
-used_here : (here : Bool) (objects : List ObjectRow) (row : ObjectRow) (p : ℕ) → lives_in p row ≡ here → used_by objects row.partition.0 + row.cost < 65536 → used_by objects p < 65536 → used_by objects p + (if here then row.cost else 0) < 65536
+used_here : (here : Bool) (objects : List ObjectRow) (row : ObjectRow) (p : ℕ) → lives_in p row ≡ here
+    → used_by objects row.partition.0 + row.cost < 65536 → used_by objects p < 65536
+    → used_by objects p + (if here then row.cost else 0) < 65536
 used_here true objects row p is room small =
     let same : row.partition.0 ≡ p = eqb-true row.partition.0 p is in
     subst (λ (n : ℕ). used_by objects n + row.cost < 65536) same room
@@ -110,11 +112,17 @@ given_one : (here : Bool) (old quota : ℕ) → (if here then quota else 0) ≤ 
 given_one true old quota = omega arith
 given_one false old quota = omega arith
 
-given_room : (here : Bool) (s : State) (row : PartitionRow) (quota p : ℕ) → is_given_by p row ≡ here → given_units s row.parent.0 + quota < 65536 → given_units s p < 65536 → given_units s p + (if here then quota else 0) < 65536
+given_room : (here : Bool) (s : State) (row : PartitionRow) (quota p : ℕ) → is_given_by p row ≡ here
+    → given_units s row.parent.0 + quota < 65536 → given_units s p < 65536
+    → given_units s p + (if here then quota else 0) < 65536
 given_room true s row quota p is room small =
     let same : row.parent.0 ≡ p = eqb-true row.parent.0 p is in
     subst (λ (n : ℕ). given_units s n + quota < 65536) same room
 given_room false s row quota p is room small = omega (arith, small)
+
+-- another quota gives its parent at most that many units more
+abbrev GivesMore : ℕ → ℕ → ℕ → PartitionRow → Type 0
+GivesMore quota p more row = part (is_given_by p) partition_quota (with_quota quota row) ≤ part (is_given_by p) partition_quota row + more
 
 module _ (s : State) (partition : Serial) (quota : ℕ) (h : AreSmall s) where
   given_behind : (found : Option PartitionRow) → find (is_partition partition.0) s.partitions ≡ found
@@ -126,7 +134,8 @@ module _ (s : State) (partition : Serial) (quota : ℕ) (h : AreSmall s) where
       omega (
         arith,
         given_change (is_partition partition.0) (with_quota quota) s.partitions p (if is_given_by p row then quota else 0)
-            (λ other found. subst (λ (o : PartitionRow). part (is_given_by p) partition_quota (with_quota quota o) ≤ part (is_given_by p) partition_quota o + (if is_given_by p row then quota else 0)) (same_Some row other (sym is ∙ found)) (given_one (is_given_by p row) row.quota quota)),
+            (λ other found. subst (GivesMore quota p (if is_given_by p row then quota else 0)) (same_Some row other (sym is ∙ found))
+            (given_one (is_given_by p row) row.quota quota)),
         given_room (is_given_by p row) s row quota p refl (room row refl) (h.small.given p),
       )
 
@@ -143,12 +152,18 @@ used_one : (here : Bool) (old cost : ℕ) → 1 ≤ old → 1 ≤ cost → (if h
 used_one true old cost some more = omega (arith, some, more)
 used_one false old cost some more = omega arith
 
-used_room : (here : Bool) (s : State) (row : ObjectRow) (cost p : ℕ) → lives_in p row ≡ here → 1 ≤ cost → used_units s row.partition.0 + cost ≤ 65536 → used_units s p < 65536 → used_units s p + (if here then cost - 1 else 0) < 65536
+used_room : (here : Bool) (s : State) (row : ObjectRow) (cost p : ℕ) → lives_in p row ≡ here → 1 ≤ cost
+    → used_units s row.partition.0 + cost ≤ 65536 → used_units s p < 65536
+    → used_units s p + (if here then cost - 1 else 0) < 65536
 used_room true s row cost p is more room small =
     let same : row.partition.0 ≡ p = eqb-true row.partition.0 p is in
     let here : used_units s p + cost ≤ 65536 = subst (λ (n : ℕ). used_units s n + cost ≤ 65536) same room in
     omega (arith, here, more)
 used_room false s row cost p is more room small = omega (arith, small)
+
+-- another cost uses at most that many units more
+abbrev UsesMore : ℕ → ℕ → ℕ → ObjectRow → Type 0
+UsesMore cost p more row = part (lives_in p) object_cost (with_cost cost row) ≤ part (lives_in p) object_cost row + more
 
 module _ (s : State) (queue : Serial) (depth size cost : ℕ) (h : AreSmall s) where
   used_behind : (found : Option ObjectRow) → object_row s queue.0 ≡ found → 1 ≤ cost
@@ -160,7 +175,8 @@ module _ (s : State) (queue : Serial) (depth size cost : ℕ) (h : AreSmall s) w
       omega (
         arith,
         used_change (is_object queue.0) (with_cost cost) s.objects p (if lives_in p row then cost - 1 else 0)
-            (λ other found. subst (λ (o : ObjectRow). part (lives_in p) object_cost (with_cost cost o) ≤ part (lives_in p) object_cost o + (if lives_in p row then cost - 1 else 0)) (same_Some row other (sym is ∙ found)) (used_one (lives_in p row) row.cost cost (all_found HasCost (is_object queue.0) s.objects row is h.costs) more)),
+            (λ other found. subst (UsesMore cost p (if lives_in p row then cost - 1 else 0)) (same_Some row other (sym is ∙ found))
+            (used_one (lives_in p row) row.cost cost (all_found HasCost (is_object queue.0) s.objects row is h.costs) more)),
         used_room (lives_in p row) s row cost p refl more (room row refl) (h.small.used p),
       )
 

@@ -1,5 +1,5 @@
 -- What is found of an object once it came to its next stage, and that units in use are as before.
-use Rattle.std.proofs.Common.{◌≡◌, ◌+◌, ◌≤◌, ◌∙◌, ℕ, refl, ap, arith, Some, option_map}
+use Rattle.std.proofs.Common.{◌≡◌, ◌≤◌, ◌∙◌, ℕ, refl, ap, arith, Some, option_map}
 use Rattle.gh_base.specs.declared.ids.Serial.{Serial}
 use Rattle.gh_base.specs.declared.kind.Stage.{Stage}
 use Rattle.gh_model.specs.Changes.{set_stage, with_stage}

@@ -2,8 +2,8 @@
 
 use gh_base::{Access, Rights, Serial, VmId};
 
-/// A line of a boot file, but for its first. Each line that makes an object gives it the next serial,
-/// from 1. Offsets, counts and bases are in pages.
+/// A line of a boot file, but for its first. Each line that makes an object gives it the next
+/// serial, from 1. Offsets, counts and bases are in pages.
 #[derive(Clone, Copy, Debug)]
 pub enum BootLine {
     /// The pages of the machine, 1 to 1,024.
@@ -27,8 +27,8 @@ pub enum BootLine {
     RootExtent {
         partition: Serial,
     },
-    /// An extent of `count` pages from `offset` in its parent's span. It takes over the pages that the
-    /// parent holds from `held_offset` on in the new span, `held_count` of them.
+    /// An extent of `count` pages from `offset` in its parent's span. It takes over the pages that
+    /// the parent holds from `held_offset` on in the new span, `held_count` of them.
     Extent {
         partition: Serial,
         parent: Serial,

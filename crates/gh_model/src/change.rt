@@ -130,7 +130,8 @@ pub enum Decision {
     Refuse {
         errno: Errno,
     },
-    /// Capabilities of a revoke are left, which its parts must take first: x0 is 0, and nothing changes.
+    /// Capabilities of a revoke are left, which its parts must take first: x0 is 0, and nothing
+    /// changes.
     Unfinished,
     /// These changes are made in order, and an entry of the history, with this reply.
     Make {

@@ -56,8 +56,10 @@ fn new_vm(state: &State, cspace: Serial, space: Serial) -> CpuRow
 fn new_link(alloc: Global, state: &State, row: LinkRow) -> Result<Sequence<Change>, NoMemory>
     requires { row.vm.0 ≤ VMS }
     ensures { IfOk result (λ changes. changes
-        ≡ FillSlot (boot_capability state.now (manager_cspace_of state.now) (2 * row.vm.0) row.request.0 2 false)
-        ∷ FillSlot (boot_capability state.now (manager_cspace_of state.now) (2 * row.vm.0 + 1) row.reply.0 1 false)
+        ≡ FillSlot (boot_capability state.now (manager_cspace_of state.now)
+        (2 * row.vm.0) row.request.0 2 false)
+        ∷ FillSlot (boot_capability state.now (manager_cspace_of state.now)
+        (2 * row.vm.0 + 1) row.reply.0 1 false)
         ∷ AddLink row ∷ []) }
 {
     let cspace = manager_cspace(state.cpus.as_slice());

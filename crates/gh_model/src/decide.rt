@@ -106,7 +106,8 @@ fn decided<R: StateReads>(
     grants: &[Serial],
 ) -> Result<Decision, NoMemory>
     requires { IsSmall (R.rows rows.now) }
-    ensures { IfOk result (λ decision. decision ≡ decided_of (R.rows rows.now) cpu.0 call.now bytes.now grants.now) }
+    ensures { IfOk result (λ decision. decision
+        ≡ decided_of (R.rows rows.now) cpu.0 call.now bytes.now grants.now) }
 {
     match *call {
         Call::Identify => Ok(identified(alloc)),
@@ -149,7 +150,8 @@ pub fn decision<R: StateReads>(
     grants: &[Serial],
 ) -> Result<Decision, NoMemory>
     requires { IsSmall (R.rows rows.now) }
-    ensures { IfOk result (λ decision. decision ≡ decision_of moved (R.rows rows.now) cpu.0 call.now bytes.now grants.now) }
+    ensures { IfOk result (λ decision. decision
+        ≡ decision_of moved (R.rows rows.now) cpu.0 call.now bytes.now grants.now) }
 {
     let errno = if is_at_end(rows, call, grants) {
         Errno::CapRevoked

@@ -37,7 +37,8 @@ fn root_span(state: &State) -> ExtentRow
 fn new_root(alloc: Global, state: &State, partition: Serial) -> Result<Sequence<Change>, NoMemory>
     requires { length state.now.holders ≤ MACHINE_PAGES }
     ensures { IfOk result (λ changes. changes
-        ≡ AddObject (boot_object_of state.now kinds.Extent partition.0 1) ∷ AddRoot (root_span_of state.now) ∷ []) }
+        ≡ AddObject (boot_object_of state.now kinds.Extent partition.0 1)
+        ∷ AddRoot (root_span_of state.now) ∷ []) }
 {
     let row = boot_object(state, Kind::Extent, partition, 1);
     two(
@@ -74,7 +75,8 @@ struct NewExtent {
 /// The span of an extent line's extent.
 fn child_span(state: &State, new: NewExtent) -> ExtentRow
     requires pages { length state.now.holders ≤ MACHINE_PAGES }
-    requires span { first_page state.now new.parent.0 + new.offset + new.count ≤ length state.now.holders }
+    requires span { first_page state.now new.parent.0 + new.offset + new.count
+        ≤ length state.now.holders }
     ensures { result ≡ child_span_of state.now new.parent.0 new.offset new.count new.access.0 }
 {
     let first = span_start(state.extents.as_slice(), new.parent).0 + new.offset;
@@ -91,12 +93,14 @@ fn child_span(state: &State, new: NewExtent) -> ExtentRow
 /// An extent with its span, and the pages that its parent hands over.
 fn new_child(alloc: Global, state: &State, new: NewExtent) -> Result<Sequence<Change>, NoMemory>
     requires pages { length state.now.holders ≤ MACHINE_PAGES }
-    requires span { first_page state.now new.parent.0 + new.offset + new.count ≤ length state.now.holders }
+    requires span { first_page state.now new.parent.0 + new.offset + new.count
+        ≤ length state.now.holders }
     requires held { new.held_offset + new.held_count ≤ new.count }
     ensures { IfOk result (λ changes. changes
         ≡ AddObject (boot_object_of state.now kinds.Extent new.partition.0 1)
         ∷ AddExtent (child_span_of state.now new.parent.0 new.offset new.count new.access.0)
-        ∷ MovePages (first_page state.now new.parent.0 + new.offset + new.held_offset) new.held_count (serial_of state.now.next_serial)
+        ∷ MovePages (first_page state.now new.parent.0 + new.offset + new.held_offset)
+        new.held_count (serial_of state.now.next_serial)
         ∷ []) }
 {
     let row = boot_object(state, Kind::Extent, new.partition, 1);

@@ -28,7 +28,8 @@ pub(crate) fn bell_call<R: StateReads>(
 ) -> Result<Decision, NoMemory>
     requires small { IsSmall (R.rows rows.now) }
     requires noun { is_bell_call call.now ≡ true }
-    ensures { IfOk result (λ decision. decision ≡ decided_of (R.rows rows.now) cpu.0 call.now bytes.now grants.now) }
+    ensures { IfOk result (λ decision. decision
+        ≡ decided_of (R.rows rows.now) cpu.0 call.now bytes.now grants.now) }
 {
     let bell = grant_at(grants, 0);
     match *call {
@@ -55,7 +56,8 @@ pub(crate) fn queue_call<R: StateReads>(
 ) -> Result<Decision, NoMemory>
     requires small { IsSmall (R.rows rows.now) }
     requires noun { is_queue_call call.now ≡ true }
-    ensures { IfOk result (λ decision. decision ≡ decided_of (R.rows rows.now) cpu.0 call.now bytes.now grants.now) }
+    ensures { IfOk result (λ decision. decision
+        ≡ decided_of (R.rows rows.now) cpu.0 call.now bytes.now grants.now) }
 {
     let queue = grant_at(grants, 0);
     match *call {
@@ -81,7 +83,8 @@ fn unmap_call<R: StateReads>(
 ) -> Result<Decision, NoMemory>
     requires small { IsSmall (R.rows rows.now) }
     requires noun { is_unmap call.now ≡ true }
-    ensures { IfOk result (λ decision. decision ≡ decided_of (R.rows rows.now) cpu.0 call.now bytes.now grants.now) }
+    ensures { IfOk result (λ decision. decision
+        ≡ decided_of (R.rows rows.now) cpu.0 call.now bytes.now grants.now) }
 {
     match *call {
         Call::Unmap {
@@ -111,7 +114,8 @@ pub(crate) fn space_call<R: StateReads>(
 ) -> Result<Decision, NoMemory>
     requires small { IsSmall (R.rows rows.now) }
     requires noun { is_space_call call.now ≡ true }
-    ensures { IfOk result (λ decision. decision ≡ decided_of (R.rows rows.now) cpu.0 call.now bytes.now grants.now) }
+    ensures { IfOk result (λ decision. decision
+        ≡ decided_of (R.rows rows.now) cpu.0 call.now bytes.now grants.now) }
 {
     match *call {
         Call::Map {
@@ -148,7 +152,8 @@ pub(crate) fn extent_call<R: StateReads>(
 ) -> Result<Decision, NoMemory>
     requires small { IsSmall (R.rows rows.now) }
     requires noun { is_extent_call call.now ≡ true }
-    ensures { IfOk result (λ decision. decision ≡ decided_of (R.rows rows.now) cpu.0 call.now bytes.now grants.now) }
+    ensures { IfOk result (λ decision. decision
+        ≡ decided_of (R.rows rows.now) cpu.0 call.now bytes.now grants.now) }
 {
     let first = grant_at(grants, 0);
     let second = grant_at(grants, 1);
@@ -182,7 +187,8 @@ pub(crate) fn object_call<R: StateReads>(
 ) -> Result<Decision, NoMemory>
     requires small { IsSmall (R.rows rows.now) }
     requires noun { is_object_call call.now ≡ true }
-    ensures { IfOk result (λ decision. decision ≡ decided_of (R.rows rows.now) cpu.0 call.now bytes.now grants.now) }
+    ensures { IfOk result (λ decision. decision
+        ≡ decided_of (R.rows rows.now) cpu.0 call.now bytes.now grants.now) }
 {
     let first = grant_at(grants, 0);
     match *call {
@@ -215,7 +221,8 @@ pub(crate) fn capability_call<R: StateReads>(
 ) -> Result<Decision, NoMemory>
     requires small { IsSmall (R.rows rows.now) }
     requires noun { is_capability_call call.now ≡ true }
-    ensures { IfOk result (λ decision. decision ≡ decided_of (R.rows rows.now) cpu.0 call.now bytes.now grants.now) }
+    ensures { IfOk result (λ decision. decision
+        ≡ decided_of (R.rows rows.now) cpu.0 call.now bytes.now grants.now) }
 {
     let first = grant_at(grants, 0);
     match *call {

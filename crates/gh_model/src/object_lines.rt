@@ -26,7 +26,8 @@ fn new_object(
     partition: Serial,
     cost: u16,
 ) -> Result<Sequence<Change>, NoMemory>
-    ensures { IfOk result (λ changes. changes ≡ AddObject (boot_object_of state.now kind partition.0 cost) ∷ []) }
+    ensures { IfOk result (λ changes. changes
+        ≡ AddObject (boot_object_of state.now kind partition.0 cost) ∷ []) }
 {
     let row = boot_object(state, kind, partition, cost);
     one(alloc, Change::AddObject { row })

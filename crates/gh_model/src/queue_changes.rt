@@ -82,7 +82,8 @@ pub(crate) fn put_message(
     queue: Serial,
     message: Sequence<u8>,
 ) -> Result<(), NoMemory>
-    ensures ok { OnOk result (queues.new ≡ change_row (is_queue queue.0) (with_message message) queues.old) }
+    ensures ok { OnOk result
+        (queues.new ≡ change_row (is_queue queue.0) (with_message message) queues.old) }
     ensures err { OnErr result (queues.new ≡ queues.old) }
 {
     match queue_place(queues.as_slice(), queue) {
