@@ -115,12 +115,18 @@ fn call(
     })
 }
 
-/// What refers to the object, counted row by row.
-fn references(state: &State, serial: Serial) -> usize {
+fn sum(counts: &[usize]) -> usize {
+    counts
+        .iter()
+        .fold(0, |sum: usize, count| sum.saturating_add(*count))
+}
+
+/// The capability, mapping and extent rows that refer to the object.
+fn row_references(state: &State, serial: Serial) -> usize {
     let caps = state.caps.as_slice();
     let extents = state.extents.as_slice();
     let mappings = state.mappings.as_slice();
-    let counts = [
+    sum(&[
         caps.iter()
             .filter(|row| row.valid && row.serial == serial)
             .count(),
@@ -134,28 +140,28 @@ fn references(state: &State, serial: Serial) -> usize {
             .iter()
             .filter(|row| row.serial == serial && row.parent == Serial(0))
             .count(),
-        state
-            .objects
-            .as_slice()
+    ])
+}
+
+/// What refers to the object, counted row by row.
+fn references(state: &State, serial: Serial) -> usize {
+    let objects = state.objects.as_slice();
+    let cpus = state.cpus.as_slice();
+    let partitions = state.partitions.as_slice();
+    sum(&[
+        row_references(state, serial),
+        objects
             .iter()
             .filter(|row| row.partition == serial && row.serial != serial)
             .count(),
-        state
-            .cpus
-            .as_slice()
-            .iter()
+        cpus.iter()
             .filter(|row| !row.exited && (row.cspace == serial || row.space == serial))
             .count(),
-        state
-            .partitions
-            .as_slice()
+        partitions
             .iter()
             .filter(|row| row.serial == serial && row.parent == Serial(0))
             .count(),
-    ];
-    counts
-        .iter()
-        .fold(0, |sum: usize, count| sum.saturating_add(*count))
+    ])
 }
 
 /// Used units, and those given to partitions that were made by calls.
