@@ -8,6 +8,7 @@ pub mod Grace
 pub mod HolderEvents
 pub mod References
 pub mod Replayed
+pub mod Rising
 pub mod Sound
 pub mod Start
 pub mod TurnEvents

@@ -7,6 +7,7 @@ mod entries;
 mod event;
 mod grace;
 mod references;
+mod rising;
 mod sound;
 mod start;
 mod validity;
@@ -36,6 +37,7 @@ pub use references::{
     seats_keep_references, settle_keeps_references, take_keeps_references, undo_keeps_references,
     unpin_keeps_references,
 };
+pub use rising::{held_rise, objects_rise};
 pub use sound::{
     events_keep_sound, given_call_keeps_sound, granted_objects_stay, looks_find_present,
     reclaims_spare_calls, rest_is_graced, rest_is_legal, revived_index_is_free, runs_are_bounded,
