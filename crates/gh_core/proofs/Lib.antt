@@ -48,6 +48,7 @@ pub mod PinKeeps
 pub mod Places
 pub mod RetiredSince
 pub mod ReviveKeeps
+pub mod RisingRows
 pub mod SawPins
 pub mod SetCapWords
 pub mod SlotHomes

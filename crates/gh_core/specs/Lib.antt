@@ -11,6 +11,7 @@ pub mod Indices
 pub mod Items
 pub mod References
 pub mod Replayed
+pub mod Rising
 pub mod Sound
 pub mod Start
 pub mod Sweep

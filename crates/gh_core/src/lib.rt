@@ -8,6 +8,7 @@ mod event;
 mod grace;
 mod items;
 mod references;
+mod rising;
 mod sound;
 mod start;
 mod validity;
@@ -38,6 +39,7 @@ pub use references::{
     seats_keep_references, settle_keeps_references, take_keeps_references, undo_keeps_references,
     unpin_keeps_references,
 };
+pub use rising::{held_rise, objects_rise};
 pub use sound::{
     events_keep_sound, given_call_keeps_sound, granted_objects_stay, looks_find_present,
     reclaims_spare_calls, rest_is_graced, rest_is_legal, revived_index_is_free, runs_are_bounded,
