@@ -313,7 +313,7 @@ born_by index next at serial true makes same =
     subst (λ (n : ℕ). put index next at n ≡ at) (sym same) (put_here index next at)
 born_by index next at serial false makes same = absurd (let never : ⊥ = cc in never)
 
-index_bound : (bits : ℕ) → object_of bits < OBJECT_INDICES
+pub index_bound : (bits : ℕ) → object_of bits < OBJECT_INDICES
 index_bound bits = omega arith
 
 pub set_fits : (conf : Config) (at : ℕ) (entry : Entry) (space slot : ℕ) (word : CapWord)

@@ -1,6 +1,7 @@
 pub mod ActCalls
 pub mod ActFits
 pub mod BoundKeeps
+pub mod CallItems
 pub mod CallMoves
 pub mod CallsEnd
 pub mod CallsGoOn
@@ -66,6 +67,7 @@ pub mod StartWords
 pub mod StateKeeps
 pub mod TakeCalls
 pub mod TakeKeeps
+pub mod TraceLaws
 pub mod TurnCalls
 pub mod TurnKeeps
 pub mod UndoKeeps

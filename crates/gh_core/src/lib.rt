@@ -6,6 +6,7 @@ mod calls;
 mod entries;
 mod event;
 mod grace;
+mod items;
 mod references;
 mod rising;
 mod sound;
@@ -30,6 +31,7 @@ pub use grace::{
     scan_keeps_grace, seats_keep_grace, set_cap_keeps_grace, start_has_grace, take_keeps_grace,
     undo_keeps_grace, unpin_keeps_grace,
 };
+pub use items::call_items_are_possible;
 pub use references::{
     end_keeps_references, enter_keeps_references, given_call_keeps_references,
     kill_keeps_references, leave_keeps_references, look_keeps_references, owe_keeps_references,
