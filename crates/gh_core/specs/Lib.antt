@@ -8,8 +8,10 @@ pub mod Grace
 pub mod HolderEvents
 pub mod References
 pub mod Replayed
+pub mod Running
 pub mod Sound
 pub mod Start
+pub mod Tables
 pub mod TurnEvents
 pub mod ValidState
 pub mod Words
