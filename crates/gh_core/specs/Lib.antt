@@ -12,9 +12,11 @@ pub mod Items
 pub mod References
 pub mod Replayed
 pub mod Rising
+pub mod Running
 pub mod Sound
 pub mod Start
 pub mod Sweep
+pub mod Tables
 pub mod Trace
 pub mod TurnEvents
 pub mod ValidState
