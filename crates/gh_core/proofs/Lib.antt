@@ -1,6 +1,7 @@
 pub mod ActCalls
 pub mod ActFits
 pub mod BoundKeeps
+pub mod CallEffects
 pub mod CallMoves
 pub mod CallsEnd
 pub mod CallsGoOn
@@ -35,6 +36,7 @@ pub mod GraceSpares
 pub mod GraceTurn
 pub mod HolderCalls
 pub mod KillKeeps
+pub mod LengthEntries
 pub mod LeaveKeeps
 pub mod Living
 pub mod LookCalls

@@ -6,6 +6,7 @@ pub mod Entries
 pub mod Events
 pub mod Grace
 pub mod HolderEvents
+pub mod Length
 pub mod References
 pub mod Replayed
 pub mod Sound
