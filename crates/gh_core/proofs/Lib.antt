@@ -36,7 +36,9 @@ pub mod GraceSpares
 pub mod GraceTurn
 pub mod HolderCalls
 pub mod KillKeeps
+pub mod LengthCalls
 pub mod LengthEntries
+pub mod LengthKeeps
 pub mod LeaveKeeps
 pub mod Living
 pub mod LookCalls

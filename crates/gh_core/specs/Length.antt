@@ -85,16 +85,20 @@ has_entry made = is_some (number made.mark.end)
 abbrev pub acts_of : Option Holder → (ℕ → Cpu) → ℕ → ℕ
 acts_of turn cpus at = count_by has_entry (cpus at).made + one_if (acts turn at)
 
--- a history is so long and no longer
+-- the acts of a history, and the calls of the CPUs
+pub record CallsCount (events : List Event) (turn : Option Holder) (cpus : ℕ → Cpu) : Type 0 where
+  -- each act is one of a call
+  pub acts : count_by is_act events ≡ total CPUS (acts_of turn cpus)
+  -- no call's number is above the last one
+  pub numbers : (cpu : ℕ) → calls_given (cpus cpu) ≤ CALL_NUMBERS
+
+-- a history is no longer than its boot and its calls let it be
 pub record HasLength (conf : Config) : Type 0 where
-  -- a boot file's objects have indices, and its capabilities slots
+  pub entries : EntriesCount conf.boot conf.history
+  pub calls : CallsCount conf.history conf.turn conf.cpu
+  -- the boot's objects have indices, and its capabilities have slots
   pub few_objects : length conf.boot.objects ≤ OBJECT_INDICES
   pub few_capabilities : length conf.boot.caps ≤ CSPACES * CSPACE_SLOTS
-  pub entries : EntriesCount conf.boot conf.history
-  -- each act is one of a call
-  pub acts : count_by is_act conf.history ≡ total CPUS (acts_of conf.turn conf.cpu)
-  -- no call's number is above the last one
-  pub calls : (cpu : ℕ) → calls_given (conf.cpu cpu) ≤ CALL_NUMBERS
 
 -- no history is as long as this
 abbrev pub too_long : ℕ
