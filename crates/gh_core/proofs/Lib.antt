@@ -36,6 +36,8 @@ pub mod GraceSpares
 pub mod GraceTurn
 pub mod HolderCalls
 pub mod KillKeeps
+pub mod LengthBoot
+pub mod LengthBound
 pub mod LengthCalls
 pub mod LengthEntries
 pub mod LengthKeeps
