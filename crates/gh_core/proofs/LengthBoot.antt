@@ -1,6 +1,6 @@
 -- A valid state has at most as many capabilities as there are slots, and in the state of a boot file
 -- no object is retired.
-use Rattle.std.proofs.Common.{◌≡◌, ◌==◌, ◌+◌, ◌*◌, ◌<◌, ◌≤◌, ◌∙◌, ◌⊎◌, inl, inr, ℕ, zero, suc, Bool, true, false, List, [], ◌∷◌, ◌++◌, length, refl, subst, sym, ap, arith, IsTrue, Option, Some, None, find, fold, if◌then◌else◌}
+use Rattle.std.proofs.Common.{◌≡◌, ◌==◌, ◌+◌, ◌*◌, ◌<◌, ◌≤◌, ◌∙◌, inl, inr, ℕ, zero, suc, Bool, true, false, List, [], ◌∷◌, ◌++◌, length, refl, subst, sym, ap, arith, IsTrue, Option, Some, None, find, fold}
 use Rattle.std.specs.Prelude.{◌&&◌, count_by, is_some, nat_le}
 use Rattle.std.specs.List.{list_all, range_with_len, sum_by}
 use Rattle.std.proofs.lemmas.Bool.{and_from, and_parts, eqb-true, leb-true}
@@ -14,13 +14,12 @@ use Rattle.gh_model.specs.Boot.{after_line, boot_state, empty_state, is_of_kind}
 use Rattle.gh_model.specs.Changes.{is_in_cspace}
 use Rattle.gh_model.specs.QueueCalls.{one_if}
 use Rattle.gh_model.specs.Rows.{fills, is_object}
-use Rattle.gh_model.specs.Word.{is_slot}
 use Rattle.gh_model.specs.declared.boot_line.BootLine.{BootLine}
 use Rattle.gh_model.specs.declared.boot_line.BootLine.TheVariants.{Pages, Partition, Cspace, Addrspace, Doorbell, RootExtent, Extent, Msgqueue, Map, Cap, Vm, Rm, Link}
 use Rattle.gh_model.specs.declared.rows.CapabilityRow.{CapabilityRow}
 use Rattle.gh_model.specs.declared.rows.ObjectRow.{ObjectRow}
 use Rattle.gh_model.specs.declared.state.State.{State}
-use Rattle.gh_invariant.specs.Lives.{kind_total, lives_as, slot_fits}
+use Rattle.gh_invariant.specs.Lives.{kind_total, slot_fits}
 use Rattle.gh_invariant.specs.Valid.{IsValid}
 use Rattle.gh_invariant.proofs.Counting.{count_cons, count_most, count_push, found_one}
 use Rattle.gh_invariant.proofs.SlotsFit.{SlotParts, slot_parts}

@@ -1,28 +1,25 @@
 -- Where the counts hold, the history is short.
-use Rattle.std.proofs.Common.{◌≡◌, ◌==◌, ◌+◌, ◌*◌, ◌<◌, ◌≤◌, ◌∙◌, ℕ, Bool, true, false, List, [], ◌∷◌, length, refl, subst, sym, ap, arith, IsTrue, Option, Some, None, if◌then◌else◌}
+use Rattle.std.proofs.Common.{◌≡◌, ◌==◌, ◌+◌, ◌*◌, ◌<◌, ◌≤◌, ℕ, Bool, true, false, List, [], ◌∷◌, length, refl, subst, sym, ap, arith, IsTrue, Option, Some, None}
 use Rattle.std.specs.Prelude.{◌&&◌, ◌||◌, count_by, is_some}
 use Rattle.std.proofs.lemmas.Bool.{and_parts, eqb-true}
-use Rattle.gh_base.specs.CapWord.{settings}
 use Rattle.gh_base.specs.declared.call.Call.{Call}
 use Rattle.gh_base.specs.declared.call.Call.TheVariants as calls
-use Rattle.gh_base.specs.declared.limits.TheConstants.{CALL_NUMBERS, CPUS, CSPACES, CSPACE_SLOTS, OBJECT_INDICES}
+use Rattle.gh_base.specs.declared.limits.TheConstants.{CALL_NUMBERS, CPUS}
 use Rattle.gh_invariant.proofs.BootValid.{boot_valid}
 use Rattle.gh_invariant.proofs.Counting.{count_cons}
 use Rattle.gh_model.proofs.FittingLemmas.{boot_fitting, few_objects}
 use Rattle.gh_model.specs.Boot.{boot_fits, boot_state}
-use Rattle.gh_model.specs.History.{Event, replay}
-use Rattle.gh_model.specs.Marks.{Made}
+use Rattle.gh_model.specs.History.{Event}
 use Rattle.gh_model.specs.QueueCalls.{one_if}
 use Rattle.gh_model.specs.declared.boot_line.BootLine.{BootLine}
 use Rattle.gh_model.specs.declared.entry.Entry.{Entry}
 use Rattle.gh_model.specs.declared.entry.Entry.TheVariants.{Acted, Part, Retired, Reclaimed}
-use Rattle.gh_model.specs.declared.rows.CapabilityRow.{CapabilityRow}
 use Rattle.gh_core.specs.Calls.{BeginsAtBoot, HasCalls, IsActing}
-use Rattle.gh_core.specs.Config.{AtAct, Config, Cpu, Current, Given, Holder, IsIn, has_acted, present}
+use Rattle.gh_core.specs.Config.{Config, Holder, has_acted}
 use Rattle.gh_core.specs.HolderEvents.{is_create}
-use Rattle.gh_core.specs.Length.{CallsCount, EntriesCount, HasLength, acts_of, calls_given, copies_one, has_entry, is_act, is_copy, is_plain, makes_one, parts, reclaims_one, retires_one, too_long}
+use Rattle.gh_core.specs.Length.{HasLength, acts_of, calls_given, copies_one, has_entry, is_act, is_copy, is_plain, makes_one, parts, reclaims_one, retires_one, too_long}
 use Rattle.gh_core.specs.References.{total}
-use Rattle.gh_core.specs.Start.{AreIndices, new_cpu, start}
+use Rattle.gh_core.specs.Start.{new_cpu, start}
 use Rattle.gh_core.specs.ValidState.{acts}
 use Rattle.gh_core.specs.Words.{HasRoom}
 use Rattle.gh_core.proofs.Finding.{total_none}

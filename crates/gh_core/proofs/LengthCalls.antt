@@ -1,19 +1,16 @@
 -- Every event keeps the acts of the history as many as the calls that ended with their entries, and
 -- the numbers of calls within the last one.
-use Rattle.std.proofs.Common.{◌≡◌, ◌==◌, ◌+◌, ◌*◌, ◌<◌, ◌≤◌, ◌∙◌, ◌⊎◌, inl, inr, ℕ, zero, suc, Bool, true, false, List, [], ◌∷◌, ◌++◌, length, refl, subst, sym, ap, arith, Option, Some, None, if◌then◌else◌}
-use Rattle.std.specs.Prelude.{◌&&◌, ◌||◌, Result, Ok, Err, count_by, is_some, option_map}
+use Rattle.std.proofs.Common.{◌≡◌, ◌==◌, ◌+◌, ◌*◌, ◌<◌, ◌≤◌, ◌∙◌, inl, inr, ℕ, zero, suc, Bool, true, false, List, [], ◌∷◌, ◌++◌, length, refl, subst, sym, ap, arith, Option, Some, None}
+use Rattle.std.specs.Prelude.{◌&&◌, ◌||◌, count_by, is_some, option_map}
 use Rattle.std.specs.List.{list_any}
 use Rattle.std.proofs.lemmas.Bool.Decides.{eqb_tells, nat_tests}
-use Rattle.gh_base.specs.declared.call.Call.{Call}
-use Rattle.gh_base.specs.declared.errno.Errno.{Errno}
-use Rattle.gh_base.specs.declared.frame.Frame.{Frame}
 use Rattle.gh_base.specs.declared.limits.TheConstants.{CALL_NUMBERS, CPUS}
 use Rattle.gh_model.specs.History as history
 use Rattle.gh_model.specs.Marks.{Made}
 use Rattle.gh_model.specs.QueueCalls.{one_if}
 use Rattle.gh_model.specs.declared.entry.Entry.{Entry}
 use Rattle.gh_invariant.proofs.Counting.{count_push}
-use Rattle.gh_core.specs.Config.{Config, Cpu, Current, Given, Holder, has_acted, is_acted, put}
+use Rattle.gh_core.specs.Config.{Cpu, Given, Holder, has_acted, is_acted, put}
 use Rattle.gh_core.specs.Length.{CallsCount, acts_of, calls_given, has_entry, is_act}
 use Rattle.gh_core.specs.References.{total}
 use Rattle.gh_core.specs.ValidState.{acts}

@@ -1,18 +1,16 @@
 -- What an entry does to the counts of objects and capabilities, and so to those of a history.
-use Rattle.std.proofs.Common.{◌≡◌, ◌==◌, ◌+◌, ◌≤◌, ◌∙◌, ℕ, Bool, true, false, not, List, [], ◌∷◌, ◌++◌, length, refl, subst, sym, ap, arith, IsTrue, Option, Some, None, find, if◌then◌else◌}
+use Rattle.std.proofs.Common.{◌≡◌, ◌+◌, ◌≤◌, ◌∙◌, ℕ, Bool, true, false, not, List, [], ◌∷◌, ◌++◌, length, refl, subst, sym, ap, arith, IsTrue, Option, Some, None, find, if◌then◌else◌}
 use Rattle.std.specs.Prelude.{◌&&◌, count_by, is_some, option_map}
 use Rattle.std.specs.List.{list_all}
 use Rattle.std.proofs.lemmas.Bool.{and_parts}
 use Rattle.gh_base.specs.declared.call.Call.{Call}
 use Rattle.gh_base.specs.declared.call.Call.TheVariants as calls
 use Rattle.gh_base.specs.declared.frame.Reply.{Reply}
-use Rattle.gh_model.specs.Act.{Verdict, Done, Refused, counted, grants_of}
+use Rattle.gh_model.specs.Act.{Done, counted, grants_of}
 use Rattle.gh_model.specs.Changes.{as_revoked, changed, changed_all, is_in_cspace, with_cost, with_counters, with_stage, without}
 use Rattle.gh_model.specs.Decide.{decision, has_moved, judge, verdict}
-use Rattle.gh_model.specs.Graced.{GoesUnreferenced}
-use Rattle.gh_model.specs.History.{Event, after_entry, after_event, after_verdict, is_retired, is_unretired, may_act, may_part, numbered, replay, took}
+use Rattle.gh_model.specs.History.{Event, after_event, after_verdict, is_retired, is_unretired, may_act, may_part, numbered, replay, took}
 use Rattle.gh_model.specs.QueueCalls.{one_if}
-use Rattle.gh_model.specs.References.{is_doomed}
 use Rattle.gh_model.specs.Rows.{change_row, fills, is_object, object_row}
 use Rattle.gh_model.specs.declared.change.Change.{Change}
 use Rattle.gh_model.specs.declared.change.Change.TheVariants as change
@@ -23,16 +21,15 @@ use Rattle.gh_model.specs.declared.entry.Entry.TheVariants.{Acted, Part, Retired
 use Rattle.gh_model.specs.declared.rows.CapabilityRow.{CapabilityRow}
 use Rattle.gh_model.specs.declared.rows.ObjectRow.{ObjectRow}
 use Rattle.gh_model.specs.declared.state.State.{State}
-use Rattle.gh_base.specs.declared.ids.Serial.{Serial}
 use Rattle.gh_invariant.specs.Valid.{IsValid}
 use Rattle.gh_invariant.proofs.ChangedRow.{count_change, count_change_kept}
 use Rattle.gh_invariant.proofs.Counting.{count_cons, count_found, count_push}
 use Rattle.gh_invariant.proofs.RowsLeft.{count_fewer, count_without}
-use Rattle.gh_core.specs.Config.{Config, Current, Holder, judged, present}
+use Rattle.gh_core.specs.Config.{Config, Current, Holder, present}
 use Rattle.gh_core.specs.Entries.{KindAllows, logged}
 use Rattle.gh_core.specs.HolderEvents.{is_create}
 use Rattle.gh_core.specs.Length.{EntriesCount, copies_one, is_copy, is_leaving, is_plain, is_staying, makes_one, parts, reclaims_one, retires_one}
-use Rattle.gh_core.proofs.CallEffects.{Does, Effect, MakesMaster, PutsOne, decision_does, spares}
+use Rattle.gh_core.proofs.CallEffects.{Does, Effect, decision_does, spares}
 use Rattle.gh_core.proofs.GraceReclaim.{replay_more}
 
 abbrev staying : State → ℕ

@@ -1,7 +1,6 @@
 -- Every event keeps the counts of a history.
-use Rattle.std.proofs.Common.{◌≡◌, ◌≢◌, ◌==◌, ◌+◌, ◌-◌, ◌*◌, ◌<◌, ◌≤◌, ◌∙◌, ℕ, Bool, true, false, List, [], ◌∷◌, ◌++◌, length, refl, subst, sym, ap, arith, Option, Some, None, if◌then◌else◌}
+use Rattle.std.proofs.Common.{◌≡◌, ◌==◌, ◌+◌, ◌-◌, ◌*◌, ◌<◌, ◌≤◌, ◌∙◌, ℕ, Bool, true, false, List, [], ◌∷◌, ◌++◌, length, refl, subst, sym, ap, arith, Option, Some, None, if◌then◌else◌}
 use Rattle.std.specs.Prelude.{◌&&◌, ◌||◌, Result, Ok, Err, count_by, is_some, option_map, slice_index}
-use Rattle.std.specs.List.{list_any}
 use Rattle.std.proofs.lemmas.Bool.Decides.{nat_tests}
 use Rattle.gh_base.specs.declared.call.Call.{Call}
 use Rattle.gh_base.specs.declared.errno.Errno.{Errno}
@@ -27,9 +26,9 @@ use Rattle.gh_core.specs.Config.{AtAct, Config, Cpu, Current, DeadPin, Failed, G
 use Rattle.gh_core.specs.Entries.{Allows, index_after, logged, next_state}
 use Rattle.gh_core.specs.Events.{Possible, after}
 use Rattle.gh_core.specs.HolderEvents.{kill_failed, one_less, one_more, with_failed, with_revived, with_scan, with_turn, without_scans}
-use Rattle.gh_core.specs.Length.{CallsCount, EntriesCount, HasLength, acts_of, calls_given, has_entry, is_act}
+use Rattle.gh_core.specs.Length.{CallsCount, EntriesCount, HasLength, calls_given, has_entry}
 use Rattle.gh_core.specs.Start.{MayGive, given, refused_frame, with_next}
-use Rattle.gh_core.specs.TurnEvents.{Ending, MayEnd, MayTake, acted_ending, call_at_act, causes, committed_by, end_call, ended, ending, has_causes, if_at_act, if_lookless, new_holder, ready, refused_ending, short_ending, taken, with_ending, with_entry}
+use Rattle.gh_core.specs.TurnEvents.{Ending, MayEnd, MayTake, acted_ending, call_at_act, causes, committed_by, ended, ending, has_causes, new_holder, ready, refused_ending, short_ending, taken, with_ending, with_entry}
 use Rattle.gh_core.specs.ValidState.{HasValid, acts}
 use Rattle.gh_core.specs.declared.event.Event.{Event}
 use Rattle.gh_core.specs.declared.event.Event.TheVariants.{Enter, Leave, Take, Look, Pin, Unpin, Undo, Kill, Commit, SetCap, Free, Scan, Revive, Join, Split}
