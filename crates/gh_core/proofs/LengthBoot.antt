@@ -139,12 +139,16 @@ module _ (s : State) (valid : IsValid s) where
   none_counted object (row ∷ rows) other =
       omega (arith, count_cons (is_home object) row rows, ap one_if (no_home object row other), none_counted object rows other)
 
+  homes_in : (object : ObjectRow)
+      → count_by (is_home object) s.caps ≤ count_by (is_in_cspace object.serial.0) s.caps
+  homes_in object =
+      count_most (is_home object) (is_in_cspace object.serial.0) s.caps (λ row here. its_home object row here)
+
   few_at : (object : ObjectRow) (cspace : Bool) → (kind_number object.kind == kind_number kind.Cspace) ≡ cspace
       → count_by (is_home object) s.caps ≤ one_if cspace * 127
   few_at object true is =
-      let fewer : count_by (is_home object) s.caps ≤ count_by (is_in_cspace object.serial.0) s.caps = count_most (is_home object) (is_in_cspace object.serial.0) s.caps (λ row here. its_home object row here) in
       let one : one_if true ≡ 1 = refl in
-      omega (arith, fewer, few_in_cspace object.serial.0)
+      omega (arith, homes_in object, few_in_cspace object.serial.0)
   few_at object false is = omega (arith, none_counted object s.caps is)
 
   few_spaces : (objects : List ObjectRow) → sum_by most_in objects ≡ kind_total objects kind.Cspace * 127

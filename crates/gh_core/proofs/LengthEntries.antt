@@ -64,13 +64,17 @@ recast : (s new : State) (test : ObjectRow → Bool) (one : ObjectRow → Object
     → new.objects ≡ change_row test one s.objects → new.caps ≡ s.caps
     → ((row : ObjectRow) → (one row).retired ≡ row.retired) → Adds 0 0 s new
 recast s new test one objects caps keeps =
-    let stay : staying new ≡ staying s = ap (count_by is_staying) objects ∙ count_change_kept is_staying test one s.objects (λ row. ap (λ (kept : Option (List ℕ)). not (is_some kept)) (keeps row)) in
+    let stay : staying new ≡ staying s = ap (count_by is_staying) objects ∙ stay_same in
     let same : plain new ≡ plain s = ap (count_by is_plain) caps in
     record {
       stay = omega (arith, stay);
       leave = ap (count_by is_leaving) objects ∙ count_change_kept is_leaving test one s.objects (λ row. ap is_some (keeps row));
       plain_most = omega (arith, same);
     }
+  where
+    stay_same : count_by is_staying (change_row test one s.objects) ≡ staying s
+    stay_same =
+        count_change_kept is_staying test one s.objects (λ row. ap (λ (kept : Option (List ℕ)). not (is_some kept)) (keeps row))
 
 -- a row that is found counts as it does by itself, and a revoked one doesn't
 none_plain : (found : Option CapabilityRow) → count_found is_plain (option_map as_revoked found) ≡ 0
@@ -80,6 +84,11 @@ none_plain (Some row) = refl
 plain_row : (found : Option CapabilityRow) → may_part found ≡ true → count_found is_plain found ≡ 1
 plain_row None may = absurd (let never : ⊥ = cc in never)
 plain_row (Some row) may = ap one_if may
+
+revoked_fewer : (test : CapabilityRow → Bool) (caps : List CapabilityRow)
+    → count_by is_plain (change_row test as_revoked caps) ≤ count_by is_plain caps + 0
+revoked_fewer test caps =
+    omega (arith, count_change is_plain test as_revoked caps, none_plain (find test caps))
 
 spare_adds : (s : State) (one : Change) → spares one ≡ true → Adds 0 0 s (changed s one)
 spare_adds s (change.AddObject row) spare = absurd (let never : ⊥ = cc in never)
@@ -96,12 +105,7 @@ spare_adds s (change.DropCapability cspace slot) spare =
     let fewer : plain (changed s (change.DropCapability cspace slot)) ≤ plain s = count_fewer is_plain (fills cspace.0 slot) s.caps in
     record { stay = omega arith; leave = refl; plain_most = omega (arith, fewer) }
 spare_adds s (change.RevokeCapability cspace slot) spare =
-    let fewer : plain (changed s (change.RevokeCapability cspace slot)) + count_found is_plain (find (fills cspace.0 slot) s.caps) ≡ plain s + count_found is_plain (option_map as_revoked (find (fills cspace.0 slot) s.caps)) = count_change is_plain (fills cspace.0 slot) as_revoked s.caps in
-    record {
-      stay = omega arith;
-      leave = refl;
-      plain_most = omega (arith, fewer, none_plain (find (fills cspace.0 slot) s.caps));
-    }
+    record { stay = omega arith; leave = refl; plain_most = revoked_fewer (fills cspace.0 slot) s.caps }
 spare_adds s _ spare = kept s _ refl refl
 
 spares_add : (s : State) (changes : List Change) → IsTrue (list_all spares changes)

@@ -150,8 +150,11 @@ module _ (conf : Config) (long : HasLength conf) where
       part_counts conf.history conf.turn (Some (new_holder at)) conf.cpu at _ long.calls
       (ap (λ (b : Bool). count_by has_entry (conf.cpu at).made + one_if b) (quiet at))
       (λ n differs. quiet n)
-      (omega (arith, long.calls.numbers at, ap one_if (was_given (conf.cpu at).current (conf.cpu at).pins (conf.cpu at).next may.call may.is_ready), one_most (is_some (if is_some (conf.cpu at).current then (conf.cpu at).next else None) || is_some (ready (conf.cpu at)))))
+      (omega (arith, long.calls.numbers at, ap one_if had_one, one_most (is_some (if is_some (conf.cpu at).current then (conf.cpu at).next else None) || is_some (ready (conf.cpu at)))))
     where
+      had_one : (is_some (conf.cpu at).next || is_some (conf.cpu at).current) ≡ true
+      had_one = was_given (conf.cpu at).current (conf.cpu at).pins (conf.cpu at).next may.call may.is_ready
+
       quiet : (n : ℕ) → acts (Some (new_holder at)) n ≡ acts conf.turn n
       quiet n = none_acts (new_holder at) n refl ∙ sym (ap (λ (turn : Option Holder). acts turn n) may.free)
 
