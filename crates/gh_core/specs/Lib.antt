@@ -9,6 +9,7 @@ pub mod Grace
 pub mod HolderEvents
 pub mod Indices
 pub mod Items
+pub mod Length
 pub mod References
 pub mod Replayed
 pub mod Rising
