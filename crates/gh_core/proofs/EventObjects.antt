@@ -106,7 +106,7 @@ change_life s (change.FillSlot row) serial keeps = refl
 change_life s (change.AddCpu row) serial keeps = refl
 change_life s (change.AddLink row) serial keeps = refl
 
-changes_life : (s : State) (changes : List Change) (serial : ℕ)
+pub changes_life : (s : State) (changes : List Change) (serial : ℕ)
     → IsTrue (list_all keeps_objects changes)
     → life (changed_all s changes).objects serial ≡ life s.objects serial
 changes_life s [] serial keep = refl
@@ -222,7 +222,7 @@ reclaimed_goes s new true true gone serial is (inl same) = inl same
 reclaimed_goes s new true true gone serial is (inr that) =
     inr (record { that = that.0; gone = that.1; was = is })
 
-entry_goes : (s : State) (event : Event) (entry : Entry) (serial : ℕ)
+pub entry_goes : (s : State) (event : Event) (entry : Entry) (serial : ℕ)
     → Goes s (after_entry s event entry) event entry serial
 entry_goes s event (Acted cpu number) serial =
     acted_goes s (may_act s cpu.0 event.call event.words) (judged_by s cpu.0 event)

@@ -70,10 +70,10 @@ revives at s index gains (Some row) =
 abbrev pub slot_word : State → (ℕ → ℕ) → ℕ × ℕ → CapWord
 slot_word new index place = record { 0 = shown index (word_at new place.0 place.1) }
 
-abbrev pub entry_event : ℕ → Entry → State → (ℕ → ℕ) → Option (ℕ × ℕ) → Event
-entry_event at entry new index None = Commit (cpu_no at) entry
-entry_event at entry new index (Some place) =
-    SetCap (cpu_no at) entry (index_no (index place.0)) place.1 (slot_word new index place)
+abbrev pub entry_event : ℕ → Entry → State → (ℕ → ℕ) → (ℕ → ℕ) → Option (ℕ × ℕ) → Event
+entry_event at entry new index later None = Commit (cpu_no at) entry
+entry_event at entry new index later (Some place) =
+    SetCap (cpu_no at) entry (index_no (index place.0)) place.1 (slot_word new later place)
 
 -- each reference that an object lost is settled
 abbrev pub losses_settled : ℕ → (ℕ → ℕ) → List Serial → List Event
@@ -83,7 +83,7 @@ losses_settled at index losses = map (settle at index) losses
 abbrev pub commits : ℕ → Entry → State → State → (ℕ → ℕ) → List Change → List Event
 commits at entry s new index changes =
     gains_owed at s index (gained s changes) ++ revives at s index (gained s changes) (added changes)
-    ++ entry_event at entry new (with_new s index (added changes)) (slot_set changes)
+    ++ entry_event at entry new index (with_new s index (added changes)) (slot_set changes)
     ∷ losses_settled at index (lost s changes)
 
 abbrev pub commits_of : ℕ → Entry → Config → Option Current → List Event
