@@ -35,6 +35,7 @@ pub mod GraceScans
 pub mod GraceSpares
 pub mod GraceTurn
 pub mod HolderCalls
+pub mod IndicesStay
 pub mod KillKeeps
 pub mod LengthBoot
 pub mod LengthBound

@@ -81,6 +81,16 @@ pub fn histories_are_short()
         → length (after_steps (start (boot_state lines) index) steps).history < too_long }
 {}
 
+/// The index of each object that was made stays: over an event, and over any list of steps.
+pub fn indices_stay()
+    ensures event { (conf : Config) (event : Event) (serial : ℕ)
+        → serial < (present conf).next_serial
+        → (after conf event).index serial ≡ conf.index serial }
+    ensures run { (conf : Config) (steps : List Step) (serial : ℕ)
+        → serial < (present conf).next_serial
+        → (after_steps conf steps).index serial ≡ conf.index serial }
+{}
+
 /// The word of a live object that isn't dead is its references, all pins on it and what the holder
 /// owes there; a dead word counts the pins on it that aren't undone.
 pub fn words_count_references()
