@@ -2,6 +2,7 @@ pub mod Bounded
 pub mod CallEvents
 pub mod Calls
 pub mod Config
+pub mod Course
 pub mod Entries
 pub mod Events
 pub mod Grace
