@@ -8,6 +8,7 @@ pub mod CallsGoOn
 pub mod CallsKeep
 pub mod CausesHeld
 pub mod CoursePrograms
+pub mod CourseStays
 pub mod CpuMoves
 pub mod CpusRun
 pub mod DeathsOn

@@ -145,7 +145,7 @@ committed_boot conf entry index None = refl
 committed_boot conf entry index (Some call) = refl
 
 -- no event changes the boot state
-boot_stays : (conf : Config) (event : Event) → (after conf event).boot ≡ conf.boot
+pub boot_stays : (conf : Config) (event : Event) → (after conf event).boot ≡ conf.boot
 boot_stays conf (Enter cpu) = refl
 boot_stays conf (Leave cpu) = refl
 boot_stays conf (Take cpu) = refl
@@ -206,12 +206,12 @@ given_keeps_sound conf at number frame sound may = record {
   long = given_length conf at number frame sound.long may;
 }
 
-step_keeps_sound : (conf : Config) (step : Step) → IsSound conf → MayStep conf step
+pub step_keeps_sound : (conf : Config) (step : Step) → IsSound conf → MayStep conf step
     → IsSound (after_step conf step)
 step_keeps_sound conf (Gives at number frame) sound may = given_keeps_sound conf at number frame sound may
 step_keeps_sound conf (Does event) sound may = event_keeps_sound conf event sound may
 
-steps_keep_sound : (conf : Config) (steps : List Step) → IsSound conf → Runs conf steps
+pub steps_keep_sound : (conf : Config) (steps : List Step) → IsSound conf → Runs conf steps
     → IsSound (after_steps conf steps)
 steps_keep_sound conf [] sound runs = sound
 steps_keep_sound conf (step ∷ steps) sound runs =
