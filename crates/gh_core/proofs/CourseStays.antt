@@ -66,6 +66,11 @@ has_none conf at given sound is = by_current (conf.cpu at).current refl
         by_next (conf.cpu at).next refl (sym (ap (λ (one : Option Current). either_call one (conf.cpu at).next) none) ∙ is)
     by_current (Some call) there = ((sound.calls at).current call there).follows.no_exit
 
+-- a CPU that goes on
+pub record Goes (conf : Config) (at : ℕ) : Type 0 where
+  pub row : is_some (cpu_row conf.boot at) ≡ true
+  pub no_exit : list_any exits (made_by conf at) ≡ false
+
 module _ {P : Type 0} (answer : P → Option Reply → program.Step) (after : P → Option Reply → P)
     (items : Config → ℕ → List Event) (begin_conf : Config) (first : ℕ → P) where
   -- what a course keeps between items
@@ -118,11 +123,6 @@ module _ {P : Type 0} (answer : P → Option Reply → program.Step) (after : P 
           | inr differs ↦
               subst (λ (one : Cpu). FollowsSoFar answer after (first cpu) one (course.programs cpu)) (sym (others cpu differs.0)) (stays.follow cpu)
         ]
-
-  -- a CPU that goes on
-  pub record Goes (conf : Config) (at : ℕ) : Type 0 where
-    pub row : is_some (cpu_row conf.boot at) ≡ true
-    pub no_exit : list_any exits (made_by conf at) ≡ false
 
   -- it is given its program's next call
   module _ (course : Course P) (at : ℕ) (stays : Stays course) (goes : Goes course.conf at)

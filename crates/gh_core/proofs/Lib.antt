@@ -7,6 +7,7 @@ pub mod CallsEnd
 pub mod CallsGoOn
 pub mod CallsKeep
 pub mod CausesHeld
+pub mod CourseEnds
 pub mod CoursePrograms
 pub mod CourseStays
 pub mod CpuMoves
