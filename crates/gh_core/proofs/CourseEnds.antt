@@ -64,10 +64,10 @@ pub record Grows {P : Type 0} (course later : Course P) : Type 0 where
   pub longer : (cpu : ℕ) → length (made_by course.conf cpu) ≤ length (made_by later.conf cpu)
 
 module _ {P : Type 0} where
-  as_was : (course : Course P) → Grows course course
+  pub as_was : (course : Course P) → Grows course course
   as_was course = record { boot = refl; exited = λ cpu is. is; longer = λ cpu. omega arith }
 
-  grows_on : (course middle later : Course P) → Grows course middle → Grows middle later → Grows course later
+  pub grows_on : (course middle later : Course P) → Grows course middle → Grows middle later → Grows course later
   grows_on course middle later first then_ = record {
     boot = then_.boot ∙ first.boot;
     exited = λ cpu is. then_.exited cpu (first.exited cpu is);
@@ -114,7 +114,7 @@ module _ {P : Type 0} (course later : Course P) (at : ℕ) (boot : later.conf.bo
 
 module _ {P : Type 0} (answer : P → Option Reply → program.Step) (after : P → Option Reply → P)
     (items : Config → ℕ → List Event) (are : AreItems items) (begin_conf : Config) (first : ℕ → P) where
-  abbrev Kept : Course P → Type 0
+  abbrev pub Kept : Course P → Type 0
   Kept course = Stays answer after items begin_conf first course
 
   -- an item
@@ -159,11 +159,11 @@ module _ {P : Type 0} (answer : P → Option Reply → program.Step) (after : P 
       ap (λ (one : Course P). with_items answer after items n one at) (no_item course at none) ∙ no_items n course at none
 
   -- the CPU has ended its call
-  record HasCalled (course later : Course P) (at : ℕ) : Type 0 where
-    stays : Kept later
-    grows : Grows course later
-    none : call_of_cpu (later.conf.cpu at) ≡ None
-    one_more : length (made_by later.conf at) ≡ length (made_by course.conf at) + 1
+  pub record HasCalled (course later : Course P) (at : ℕ) : Type 0 where
+    pub stays : Kept later
+    pub grows : Grows course later
+    pub none : call_of_cpu (later.conf.cpu at) ≡ None
+    pub one_more : length (made_by later.conf at) ≡ length (made_by course.conf at) + 1
 
   ends_none : (call : Given) (before now : Cpu) → CallEnds call before now → call_of_cpu now ≡ None
   ends_none call before now ends = ap (λ (one : Option Current). either_call one now.next) ends.between.none ∙ ends.none
@@ -289,11 +289,11 @@ module _ {P : Type 0} (answer : P → Option Reply → program.Step) (after : P 
         (sym (ap (λ (b : Bool). if b then course else with_call answer after items course at (next_standing answer after items course at)) (ap is_some has)))
         (record { stays = stays; grows = as_was course; either = inr (refl, (call, has)) })
 
-    one_called : HasCalled course (ended_call answer after items (with_next_call answer after items course at) at) at
+    pub one_called : HasCalled course (ended_call answer after items (with_next_call answer after items course at) at) at
     one_called = finishes (with_next_call answer after items course at) (next_given (call_of_cpu (course.conf.cpu at)) refl)
 
     -- or one item
-    one_advanced : Kept (with_item answer after items (with_next_call answer after items course at) at)
+    pub one_advanced : Kept (with_item answer after items (with_next_call answer after items course at) at)
     one_advanced = by_call (call_of_cpu (middle.conf.cpu at)) refl
       where
         middle : Course P

@@ -9,6 +9,7 @@ pub mod CallsKeep
 pub mod CausesHeld
 pub mod CourseEnds
 pub mod CoursePrograms
+pub mod CourseRounds
 pub mod CourseStays
 pub mod CpuMoves
 pub mod CpusRun
