@@ -10,6 +10,7 @@ pub mod CausesHeld
 pub mod CourseEnds
 pub mod CoursePrograms
 pub mod CourseRounds
+pub mod CourseRuns
 pub mod CourseStays
 pub mod CpuMoves
 pub mod CpusRun
