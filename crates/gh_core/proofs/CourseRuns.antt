@@ -27,7 +27,7 @@ use Rattle.gh_model.specs.declared.program.Step as program
 use Rattle.gh_model.specs.declared.rows.CpuRow.{CpuRow}
 use Rattle.gh_model.specs.declared.state.State.{State}
 use Rattle.gh_core.specs.Config.{Config, Current, Given, IsBetween, present}
-use Rattle.gh_core.specs.Course.{AreItems, Course, advanced, begin, call_of_cpu, course_of, either_call, goes_on, marks_by, marks_of, rounds}
+use Rattle.gh_core.specs.Course.{AreItems, Course, IsCourse, advanced, begin, call_of_cpu, course_of, either_call, goes_on, marks_by, marks_of, rounds, scheduled}
 use Rattle.gh_core.specs.Sound.{IsAtRest, IsSound, made_by}
 use Rattle.gh_core.specs.Start.{AreIndices, new_cpu, start}
 use Rattle.gh_core.specs.declared.event.Event as machine
@@ -183,7 +183,7 @@ module _ {P : Type 0} (answer : P → Option Reply → program.Step) (after : P 
         rounds_end answer after items are begin_conf first seats (fold (advanced answer after items) (begin begin_conf first) schedule)
         (schedule_stays answer after items are begin_conf first seats schedule (begin begin_conf first) begin_stays)
 
-    pub stays : Kept course
+    stays : Kept course
     stays = course_ended.stays
 
     boot_is : course.conf.boot ≡ boot_state lines
@@ -221,9 +221,23 @@ module _ {P : Type 0} (answer : P → Option Reply → program.Step) (after : P 
       between = λ cpu. (stays.follow cpu).idle (call_none cpu (call_of_cpu (course.conf.cpu cpu)) refl);
     }
 
-    pub last_is_exit : (cpu : ℕ) → IsSome (cpu_row course.conf.boot cpu) → IsTrue (is_exit_call (last_or None (made_by course.conf cpu)))
+    last_is_exit : (cpu : ℕ) → IsSome (cpu_row course.conf.boot cpu) → IsTrue (is_exit_call (last_or None (made_by course.conf cpu)))
     last_is_exit cpu there =
         exit_is_last (made_by course.conf cpu) (λ i one is. (rest_numbered course.conf stays.sound rest cpu i one is).no_exit) (exited cpu there)
+
+    pub exits_last : (cpu : ℕ) → IsSome (cpu_row (boot_state lines) cpu) → IsTrue (is_exit_call (last_or None (made_by course.conf cpu)))
+    exits_last cpu there = last_is_exit cpu (subst (λ (boot : State). IsSome (cpu_row boot cpu)) (sym boot_is) there)
+
+    as_course : (one : Course P) → Kept one → IsCourse begin_conf one
+    as_course one kept = record { runs = kept.runs; behind = kept.steps_are; sound = kept.sound; free = kept.free }
+
+    pub course_is : IsCourse begin_conf course
+    course_is = as_course course stays
+
+    pub scheduled_is : IsCourse begin_conf (scheduled answer after items lines index first schedule)
+    scheduled_is =
+        as_course (scheduled answer after items lines index first schedule)
+        (schedule_stays answer after items are begin_conf first seats schedule (begin begin_conf first) begin_stays)
 
     -- each CPU's marks are those of its calls
     marks_by_cpu : (row : Option CpuRow) (cpu : ℕ) → cpu_row course.conf.boot cpu ≡ row

@@ -165,11 +165,24 @@ module _ {P : Type 0} (answer : P → Option Reply → program.Step)
   rounds zero course = course
   rounds (suc more) course = rounds more (round course)
 
-  -- the schedule's items, and then rounds until all have ended. A program ends with its call of the
-  -- last number, so no more rounds are needed
+  -- the schedule's items, one after the other
+  abbrev pub scheduled : List BootLine → (ℕ → ℕ) → (ℕ → P) → List CpuNo → Course P
+  scheduled boot index programs schedule =
+      fold advanced (begin (start (boot_state boot) index) programs) schedule
+
+  -- and then rounds until all have ended. A program ends with its call of the last number, so no
+  -- more rounds are needed
   abbrev pub course_of : List BootLine → (ℕ → ℕ) → (ℕ → P) → List CpuNo → Course P
   course_of boot index programs schedule =
-      rounds last_number (fold advanced (begin (start (boot_state boot) index) programs) schedule)
+      rounds last_number (scheduled boot index programs schedule)
+
+-- the course's steps may come one after the other from the start on, and its configuration is the
+-- one behind them, sound and with a free turn
+pub record IsCourse {P : Type 0} (begin_conf : Config) (course : Course P) : Type 0 where
+  pub runs : Runs begin_conf course.steps
+  pub behind : course.conf ≡ after_steps begin_conf course.steps
+  pub sound : IsSound course.conf
+  pub free : course.conf.turn ≡ None
 
 -- the marks of all finished calls, CPU by CPU
 abbrev pub marks_by : Config → ℕ → List Mark

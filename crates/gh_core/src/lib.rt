@@ -3,6 +3,7 @@
 
 mod bounds;
 mod calls;
+mod course;
 mod entries;
 mod event;
 mod grace;
@@ -17,6 +18,7 @@ pub use calls::{
     enter_keeps_calls, free_keeps_calls, leave_keeps_calls, look_keeps_calls, pin_keeps_calls,
     quit_keeps_calls, take_keeps_calls, undo_keeps_calls, unpin_keeps_calls, words_keep_calls,
 };
+pub use course::{courses_are_runs, courses_are_sound, courses_end};
 pub use entries::{
     boot_file_has_references, commit_keeps_references, events_keep_state, set_cap_keeps_references,
     start_has_state,
@@ -37,9 +39,10 @@ pub use references::{
     unpin_keeps_references,
 };
 pub use sound::{
-    events_keep_sound, given_call_keeps_sound, granted_objects_stay, looks_find_present,
-    reclaims_spare_calls, rest_is_graced, rest_is_legal, revived_index_is_free, runs_are_bounded,
-    runs_are_sound, start_is_sound, words_count_references,
+    events_keep_sound, given_call_keeps_sound, granted_objects_stay, histories_are_short,
+    indices_stay, looks_find_present, reclaims_spare_calls, rest_is_graced, rest_is_legal,
+    revived_index_is_free, runs_are_bounded, runs_are_sound, start_is_sound,
+    words_count_references,
 };
 pub use start::start_has_references;
 pub use validity::{events_keep_validity, given_call_keeps_validity, start_is_valid};
