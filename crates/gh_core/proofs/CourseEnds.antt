@@ -1,34 +1,27 @@
 -- A course ends: each call has so many items at most, and each program so many calls.
-use Rattle.std.proofs.Common.{◌≡◌, ◌==◌, ◌+◌, ◌-◌, ◌*◌, ◌<◌, ◌≤◌, ◌∙◌, ◌⊎◌, inl, inr, ℕ, zero, suc, Bool, true, false, not, List, [], ◌∷◌, ◌++◌, length, refl, subst, sym, ap, arith, Option, Some, None, map, fold, IsTrue, if◌then◌else◌}
-use Rattle.std.specs.Prelude.{◌&&◌, ◌||◌, Result, Ok, Err, is_some}
-use Rattle.std.specs.List.{list_any, range_with_len}
-use Rattle.std.proofs.lemmas.Bool.{and_parts, eqb-true}
-use Rattle.std.proofs.lemmas.Bool.Decides.{eqb_tells, nat_tests}
+use Rattle.std.proofs.Common.{◌≡◌, ◌==◌, ◌+◌, ◌-◌, ◌<◌, ◌≤◌, ◌∙◌, ◌⊎◌, inl, inr, ℕ, zero, suc, Bool, true, false, List, [], ◌∷◌, ◌++◌, length, refl, subst, sym, ap, arith, Option, Some, None, map, if◌then◌else◌}
+use Rattle.std.specs.Prelude.{◌||◌, Result, Ok, Err, is_some}
+use Rattle.std.specs.List.{list_any}
+use Rattle.std.proofs.lemmas.Bool.{or_left}
+use Rattle.std.proofs.lemmas.Bool.Decides.{eqb_tells}
 use Rattle.std.proofs.lemmas.List.{length-append}
 use Rattle.std.proofs.lemmas.List.Folds.{list_any-append}
 use Rattle.gh_base.specs.declared.call.Call.{Call}
 use Rattle.gh_base.specs.declared.errno.Errno.{Errno}
-use Rattle.gh_base.specs.declared.frame.Frame.{Frame}
 use Rattle.gh_base.specs.declared.frame.Reply.{Reply}
-use Rattle.gh_base.specs.declared.ids.CpuNo.{CpuNo}
 use Rattle.gh_base.specs.declared.limits.TheConstants.{CPUS}
 use Rattle.gh_model.specs.Legal.{exits}
 use Rattle.gh_model.specs.Marks.{Made}
-use Rattle.gh_model.specs.Program.{last_number}
 use Rattle.gh_model.specs.Registers.{call_of, needs_of}
-use Rattle.gh_model.specs.Rows.{cpu_row}
 use Rattle.gh_model.specs.declared.program.Standing.{Standing}
 use Rattle.gh_model.specs.declared.program.Step as program
-use Rattle.gh_model.specs.declared.state.State.{State}
-use Rattle.gh_core.specs.Config.{AtAct, Config, Cpu, Current, DeadPin, Failed, Given, Looked, Reading, Stage, Undone, put}
-use Rattle.gh_core.specs.Course.{AreItems, CallEnds, CallGoesOn, Course, IsItem, advanced, call_of_cpu, called, either_call, ended_call, goes_on, items_at, items_left, items_of_call, items_of_next, round, rounds, with_call, with_item, with_items, with_next_call, next_standing, with_steps}
-use Rattle.gh_core.specs.Sound.{Does, Gives, Step, after_steps, made_by}
+use Rattle.gh_core.specs.Config.{AtAct, Config, Cpu, Current, DeadPin, Failed, Given, Looked, Reading, Stage, Undone}
+use Rattle.gh_core.specs.Course.{AreItems, CallEnds, CallGoesOn, Course, IsItem, call_of_cpu, either_call, ended_call, items_at, items_left, items_of_call, items_of_next, with_call, with_item, with_items, with_next_call, next_standing, with_steps}
+use Rattle.gh_core.specs.Sound.{Does, after_steps, made_by}
 use Rattle.gh_core.specs.Start.{given, refused_frame, with_next}
 use Rattle.gh_core.specs.declared.event.Event.{Event}
-use Rattle.gh_core.proofs.CoursePrograms.{FollowsSoFar}
-use Rattle.gh_core.proofs.CourseStays.{Goes, Stays, call_stays, has_none, item_stays, steps_boot}
+use Rattle.gh_core.proofs.CourseStays.{Goes, Stays, call_stays, item_stays, steps_boot}
 use Rattle.gh_core.proofs.Finding.{put_here, put_other}
-use Rattle.gh_core.proofs.LengthCalls.{put_each}
 
 -- a call has an item left at least
 
@@ -79,16 +72,12 @@ abbrev MoreCalls : Cpu → Cpu → Type 0
 MoreCalls before now =
     (now.made ≡ before.made) ⊎ ((call : Made) × (now.made ≡ before.made ++ call ∷ []))
 
-or_more : (a b : Bool) → a ≡ true → (a || b) ≡ true
-or_more true b is = refl
-or_more false b is = absurd (let never : ⊥ = cc in never)
-
 more_exited : (before now : Cpu) → MoreCalls before now → list_any exits before.made ≡ true
     → list_any exits now.made ≡ true
 more_exited before now (inl same) is = ap (list_any exits) same ∙ is
 more_exited before now (inr one) is =
     ap (list_any exits) one.1 ∙ list_any-append exits before.made (one.0 ∷ [])
-    ∙ or_more (list_any exits before.made) (list_any exits (one.0 ∷ [])) is
+    ∙ or_left (list_any exits before.made) (list_any exits (one.0 ∷ [])) is
 
 more_longer : (before now : Cpu) → MoreCalls before now → length before.made ≤ length now.made
 more_longer before now (inl same) = omega (arith, ap (λ (list : List Made). length list) same)

@@ -1,9 +1,9 @@
 -- What a program comes to behind its replies, and that its next call is one more of its frames.
-use Rattle.std.proofs.Common.{◌≡◌, ◌==◌, ◌+◌, ◌<◌, ◌≤◌, ◌∙◌, ℕ, Bool, true, false, List, [], ◌∷◌, ◌++◌, length, refl, subst, sym, ap, arith, Option, Some, None, map, eq-eqb, if◌then◌else◌}
+use Rattle.std.proofs.Common.{◌≡◌, ◌==◌, ◌+◌, ◌<◌, ◌∙◌, ℕ, Bool, true, false, List, [], ◌∷◌, ◌++◌, length, refl, sym, ap, arith, Option, Some, None, map, eq-eqb, if◌then◌else◌}
 use Rattle.std.specs.Prelude.{◌||◌, option_map}
-use Rattle.std.specs.List.{last_or, list_any}
+use Rattle.std.specs.List.{list_any}
 use Rattle.std.proofs.lemmas.Bool.Decides.{nat_tests}
-use Rattle.std.proofs.lemmas.Bool.{eqb-true}
+use Rattle.std.proofs.lemmas.Bool.{eqb-true, or_parts, or_right}
 use Rattle.std.proofs.lemmas.List.{length-append, length-map, map-append}
 use Rattle.std.proofs.lemmas.List.Folds.{list_any-append}
 use Rattle.gh_base.specs.declared.frame.Frame.{Frame}
@@ -22,10 +22,6 @@ use Rattle.gh_core.specs.Course.{call_of_cpu, last_reply}
 any_exit : (made : List Made) → list_any exits made ≡ list_any is_exit (map frame_of made)
 any_exit [] = refl
 any_exit (one ∷ made) = ap (λ (b : Bool). exits one || b) (any_exit made)
-
-or_none : (a b : Bool) → (a || b) ≡ false → (a ≡ false) × (b ≡ false)
-or_none true b none = absurd (let never : ⊥ = cc in never)
-or_none false b none = (refl, none)
 
 module _ {P : Type 0} (answer : P → Option Reply → Step) (after : P → Option Reply → P) where
   -- the standing of a program behind these replies
@@ -58,7 +54,7 @@ module _ {P : Type 0} (answer : P → Option Reply → Step) (after : P → Opti
   frames_snoc number standing [] reply none = one_frame standing.frame
   frames_snoc number standing (first ∷ replies) reply none =
       let next : Standing P = asked answer after (number + 1) standing.program (Some first) in
-      let both = or_none (is_exit standing.frame) (list_any is_exit (unless_exit standing.frame (frames_on answer after (number + 1) next replies))) none in
+      let both = or_parts (is_exit standing.frame) (list_any is_exit (unless_exit standing.frame (frames_on answer after (number + 1) next replies))) none in
       let going : list_any is_exit (frames_on answer after (number + 1) next replies) ≡ false =
       sym (ap (λ (b : Bool). list_any is_exit (if b then [] else frames_on answer after (number + 1) next replies)) both.0) ∙ both.1 in
       ap (λ (b : Bool). standing.frame ∷ (if b then [] else frames_on answer after (number + 1) next (replies ++ reply ∷ []))) both.0
@@ -129,14 +125,10 @@ module _ {P : Type 0} (answer : P → Option Reply → Step) (after : P → Opti
         → length (made ++ call ∷ []) < last_number
     counted_on_call below none = by_last (length made + 1 == last_number) refl
       where
-        or_last : (a : Bool) {b : Bool} → b ≡ true → (a || b) ≡ true
-        or_last true is = refl
-        or_last false is = is
-
         by_last : (last : Bool) → (length made + 1 == last_number) ≡ last → length (made ++ call ∷ []) < last_number
         by_last true is =
             let exit : exits call ≡ true = its_exit (eqb-true (length made + 1) last_number is) in
-            let some : list_any exits (made ++ call ∷ []) ≡ true = list_any-append exits made (call ∷ []) ∙ or_last (list_any exits made) (ap (λ (b : Bool). b || false) exit) in
+            let some : list_any exits (made ++ call ∷ []) ≡ true = list_any-append exits made (call ∷ []) ∙ or_right (list_any exits made) (exits call || false) (ap (λ (b : Bool). b || false) exit) in
             absurd (let never : ⊥ = cc in never)
         by_last false is =
             let apart : (length made + 1 == last_number) ≡ false = is in

@@ -1,8 +1,8 @@
 -- Rounds of a course: each CPU that goes on makes one call more in each, so that all have ended.
-use Rattle.std.proofs.Common.{◌≡◌, ◌==◌, ◌+◌, ◌<◌, ◌≤◌, ◌∙◌, ◌⊎◌, inl, inr, ℕ, zero, suc, Bool, true, false, not, List, [], ◌∷◌, length, refl, subst, sym, ap, arith, Option, Some, None, fold, if◌then◌else◌}
+use Rattle.std.proofs.Common.{◌≡◌, ◌==◌, ◌+◌, ◌<◌, ◌≤◌, ◌∙◌, ◌⊎◌, inl, inr, ℕ, zero, suc, Bool, true, false, not, List, [], ◌∷◌, length, refl, subst, sym, ap, arith, Option, fold, if◌then◌else◌}
 use Rattle.std.specs.Prelude.{◌&&◌, ◌||◌, is_some}
 use Rattle.std.specs.List.{list_any, range_with_len}
-use Rattle.std.proofs.lemmas.Bool.{and_parts, eqb-true}
+use Rattle.std.proofs.lemmas.Bool.{and_parts, and_right, eqb-true, not-true}
 use Rattle.std.proofs.lemmas.Bool.Decides.{nat_tests}
 use Rattle.gh_base.specs.declared.frame.Reply.{Reply}
 use Rattle.gh_base.specs.declared.ids.CpuNo.{CpuNo}
@@ -19,19 +19,11 @@ use Rattle.gh_core.specs.declared.event.Event.{Event}
 use Rattle.gh_core.proofs.CourseEnds.{Grows, as_was, grows_on, one_advanced, one_called}
 use Rattle.gh_core.proofs.CourseStays.{Goes, Stays, steps_boot}
 
-not_false : (b : Bool) → not b ≡ true → b ≡ false
-not_false true is = absurd (let never : ⊥ = cc in never)
-not_false false is = refl
-
 -- a CPU that goes on is one of the boot and has made no exit call
 goes : (conf : Config) (at : ℕ) → goes_on conf at ≡ true → Goes conf at
 goes conf at is =
     let both = and_parts (is_some (cpu_row conf.boot at)) (not (list_any exits (made_by conf at))) is in
-    record { row = both.0; no_exit = not_false (list_any exits (made_by conf at)) both.1 }
-
-or_same : (a b : Bool) → a ≡ true → (a || b) ≡ true
-or_same true b is = refl
-or_same false b is = absurd (let never : ⊥ = cc in never)
+    record { row = both.0; no_exit = not-true (list_any exits (made_by conf at)) both.1 }
 
 -- one that has ended stays so
 module _ {P : Type 0} (course later : Course P) (grows : Grows course later) (at : ℕ) where
@@ -42,11 +34,7 @@ module _ {P : Type 0} (course later : Course P) (grows : Grows course later) (at
       ap (λ (b : Bool). b && not (list_any exits (made_by later.conf at)))
       (ap (λ (boot : State). is_some (cpu_row boot at)) grows.boot ∙ row)
   ended_by true true row is none =
-      ap (λ (b : Bool). is_some (cpu_row later.conf.boot at) && not b) (grows.exited at is) ∙ and_false (is_some (cpu_row later.conf.boot at))
-    where
-      and_false : (b : Bool) → (b && false) ≡ false
-      and_false true = refl
-      and_false false = refl
+      and_right (is_some (cpu_row later.conf.boot at)) (not (list_any exits (made_by later.conf at))) (ap not (grows.exited at is))
   ended_by true false row is none = absurd (let never : ⊥ = cc in never)
 
   ended_stays : goes_on course.conf at ≡ false → goes_on later.conf at ≡ false

@@ -4,7 +4,7 @@ use Rattle.std.proofs.Common.{◌≡◌, ◌==◌, ◌+◌, ◌<◌, ◌≤◌, 
 use Rattle.std.specs.Prelude.{◌&&◌, ◌||◌, is_some, nat_lt, take}
 use Rattle.std.specs.List.{last_or, list_any, range_with_len}
 use Rattle.std.proofs.Common.{eq-eqb}
-use Rattle.std.proofs.lemmas.Bool.{eqb-true, ltb-true}
+use Rattle.std.proofs.lemmas.Bool.{both_ways, eqb-true, ltb-true, or_parts}
 use Rattle.std.proofs.lemmas.Bool.Decides.{nat_tests}
 use Rattle.std.proofs.lemmas.List.{append-nil}
 use Rattle.std.proofs.lemmas.List.Elements.{filter-append}
@@ -15,10 +15,9 @@ use Rattle.gh_base.specs.declared.mark.Mark.{Mark}
 use Rattle.gh_model.proofs.FittingLemmas.{boot_fitting, cpu_small}
 use Rattle.gh_model.specs.Boot.{boot_fits, boot_state}
 use Rattle.gh_model.specs.Graced.{IsGraced}
-use Rattle.gh_model.specs.History.{Event, entry_of, replay}
-use Rattle.gh_model.specs.Legal.{IsLegal, IsNumbered, exits, is_exit_call}
-use Rattle.gh_model.specs.Marks.{InTurn, Made, mark_of}
-use Rattle.gh_model.specs.Program.{last_number}
+use Rattle.gh_model.specs.History.{entry_of, replay}
+use Rattle.gh_model.specs.Legal.{IsLegal, exits, is_exit_call}
+use Rattle.gh_model.specs.Marks.{Made, mark_of}
 use Rattle.gh_model.specs.Programs.{frames_made}
 use Rattle.gh_model.specs.Rows.{cpu_row}
 use Rattle.gh_model.specs.Run.{IsRun, is_mark_of}
@@ -26,9 +25,9 @@ use Rattle.gh_model.specs.declared.boot_line.BootLine.{BootLine}
 use Rattle.gh_model.specs.declared.program.Step as program
 use Rattle.gh_model.specs.declared.rows.CpuRow.{CpuRow}
 use Rattle.gh_model.specs.declared.state.State.{State}
-use Rattle.gh_core.specs.Config.{Config, Current, Given, IsBetween, present}
-use Rattle.gh_core.specs.Course.{AreItems, Course, IsCourse, advanced, begin, call_of_cpu, course_of, either_call, goes_on, marks_by, marks_of, rounds, scheduled}
-use Rattle.gh_core.specs.Sound.{IsAtRest, IsSound, made_by}
+use Rattle.gh_core.specs.Config.{Config, Current, Given, present}
+use Rattle.gh_core.specs.Course.{AreItems, Course, IsCourse, advanced, begin, call_of_cpu, course_of, either_call, goes_on, marks_by, marks_of, scheduled}
+use Rattle.gh_core.specs.Sound.{IsAtRest, made_by}
 use Rattle.gh_core.specs.Start.{AreIndices, new_cpu, start}
 use Rattle.gh_core.specs.declared.event.Event as machine
 use Rattle.gh_core.proofs.CoursePrograms.{FollowsSoFar}
@@ -39,10 +38,6 @@ use Rattle.gh_core.proofs.SoundRest.{rest_agrees, rest_graced, rest_legal, rest_
 
 -- exit calls
 
-or_none : (a b : Bool) → (a || b) ≡ false → (a ≡ false) × (b ≡ false)
-or_none true b none = absurd (let never : ⊥ = cc in never)
-or_none false b none = (refl, none)
-
 or_later : (a b : Bool) → a ≡ false → (a || b) ≡ true → b ≡ true
 or_later true b none is = absurd (let never : ⊥ = cc in never)
 or_later false b none is = is
@@ -50,10 +45,6 @@ or_later false b none is = is
 or_first : (a : Bool) → (a || false) ≡ true → a ≡ true
 or_first true is = refl
 or_first false is = is
-
-true_false : (b : Bool) → b ≡ true → b ≡ false → ⊥
-true_false true is other = let never : ⊥ = cc in never
-true_false false is other = let never : ⊥ = cc in never
 
 some_none : {X : Type 0} (o : Option X) (x : X) → o ≡ Some x → o ≡ None → ⊥
 some_none None x is none = let never : ⊥ = cc in never
@@ -68,8 +59,8 @@ last_exits : (first : Made) (made : List Made) → NoneBefore (first ∷ made)
     → list_any exits (first ∷ made) ≡ true → is_exit_call (last_or None (first ∷ made)) ≡ true
 last_exits first [] none is = or_first (exits first) is
 last_exits first (second ∷ made) none is =
-    let before : exits first ≡ false = (or_none (exits first) false (none 1 second refl)).0 in
-    last_exits second made (λ i one there. (or_none (exits first) (list_any exits (take i (second ∷ made))) (none (suc i) one there)).1)
+    let before : exits first ≡ false = (or_parts (exits first) false (none 1 second refl)).0 in
+    last_exits second made (λ i one there. (or_parts (exits first) (list_any exits (take i (second ∷ made))) (none (suc i) one there)).1)
     (or_later (exits first) (list_any exits (second ∷ made)) before is)
 
 exit_is_last : (made : List Made) → NoneBefore made → list_any exits made ≡ true
@@ -198,7 +189,7 @@ module _ {P : Type 0} (answer : P → Option Reply → program.Step) (after : P 
         by_exit true is = refl
         by_exit false is =
             let going : goes_on course.conf cpu ≡ true = ap (λ (b : Bool). b && not (list_any exits (made_by course.conf cpu))) there ∙ ap not is in
-            absurd (true_false (goes_on course.conf cpu) going (course_ended.all_ended cpu))
+            absurd (both_ways (goes_on course.conf cpu) (course_ended.all_ended cpu) going)
 
     -- no CPU has a call
     call_none : (cpu : ℕ) (call : Option Given) → call_of_cpu (course.conf.cpu cpu) ≡ call → call_of_cpu (course.conf.cpu cpu) ≡ None
@@ -213,7 +204,7 @@ module _ {P : Type 0} (answer : P → Option Reply → program.Step) (after : P 
             let idle = (stays.sound.calls.calls cpu).idle missing in
             some_none (call_of_cpu (course.conf.cpu cpu)) call is (ap (λ (one : Option Current). either_call one (course.conf.cpu cpu).next) idle.current ∙ idle.next)
         by_row (Some row) there =
-            true_false (list_any exits (made_by course.conf cpu)) (exited cpu (ap is_some there)) none
+            both_ways (list_any exits (made_by course.conf cpu)) none (exited cpu (ap is_some there))
 
     pub rest : IsAtRest course.conf
     rest = record {

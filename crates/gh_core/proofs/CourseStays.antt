@@ -1,17 +1,13 @@
 -- What a course keeps, step by step: its configuration is sound, the turn is free between items, and
 -- each CPU's calls are those of its program.
-use Rattle.std.proofs.Common.{◌≡◌, ◌==◌, ◌+◌, ◌-◌, ◌*◌, ◌<◌, ◌≤◌, ◌∙◌, ◌⊎◌, inl, inr, ℕ, zero, suc, Bool, true, false, not, List, [], ◌∷◌, ◌++◌, length, refl, subst, sym, ap, arith, Option, Some, None, map, fold, if◌then◌else◌}
-use Rattle.std.specs.Prelude.{◌&&◌, Result, Ok, Err, is_some}
-use Rattle.std.specs.List.{last_or, list_any}
-use Rattle.std.proofs.lemmas.Bool.{and_parts}
-use Rattle.std.proofs.lemmas.Bool.Decides.{eqb_tells, nat_tests}
-use Rattle.std.proofs.lemmas.List.{length-append}
+use Rattle.std.proofs.Common.{◌≡◌, ◌==◌, ◌+◌, ◌<◌, ◌∙◌, ◌⊎◌, inl, inr, ℕ, true, false, List, [], ◌∷◌, ◌++◌, length, refl, subst, sym, ap, arith, Option, Some, None, map}
+use Rattle.std.specs.Prelude.{Result, Ok, Err, is_some}
+use Rattle.std.specs.List.{list_any}
+use Rattle.std.proofs.lemmas.Bool.Decides.{eqb_tells}
 use Rattle.std.proofs.lemmas.List.Sums.{fold-append}
 use Rattle.gh_base.specs.declared.call.Call.{Call}
 use Rattle.gh_base.specs.declared.errno.Errno.{Errno}
-use Rattle.gh_base.specs.declared.frame.Frame.{Frame}
 use Rattle.gh_base.specs.declared.frame.Reply.{Reply}
-use Rattle.gh_base.specs.declared.limits.TheConstants.{CALL_NUMBERS, CPUS}
 use Rattle.gh_model.specs.Legal.{exits}
 use Rattle.gh_model.specs.Marks.{Made, frame_of, reply_of}
 use Rattle.gh_model.specs.Program.{last_number}
@@ -20,16 +16,14 @@ use Rattle.gh_model.specs.Registers.{call_of}
 use Rattle.gh_model.specs.Rows.{cpu_row}
 use Rattle.gh_model.specs.declared.program.Standing.{Standing}
 use Rattle.gh_model.specs.declared.program.Step as program
-use Rattle.gh_model.specs.declared.rows.CpuRow.{CpuRow}
-use Rattle.gh_model.specs.declared.state.State.{State}
 use Rattle.gh_core.specs.Calls.{HasCalls}
 use Rattle.gh_core.specs.Config.{Config, Cpu, Current, Given, IsBetween, put}
-use Rattle.gh_core.specs.Course.{AreItems, CallEnds, CallGoesOn, Course, IsItem, call_of_cpu, either_call, goes_on, items_left, last_reply, with_call, with_item, with_next_call, next_standing, with_steps}
+use Rattle.gh_core.specs.Course.{CallEnds, CallGoesOn, Course, IsItem, call_of_cpu, either_call, last_reply, with_call, next_standing, with_steps}
 use Rattle.gh_core.specs.Sound.{Does, Gives, IsSound, Runs, Step, after_step, after_steps, made_by}
 use Rattle.gh_core.specs.Start.{MayGive, given, refused_frame, with_next}
 use Rattle.gh_core.specs.declared.event.Event.{Event}
 use Rattle.gh_core.proofs.CoursePrograms.{FollowsSoFar, behind, counted_on_call, frames_on_call, waits_on_call}
-use Rattle.gh_core.proofs.Finding.{put_here, put_other, same_number}
+use Rattle.gh_core.proofs.Finding.{put_here, put_other}
 use Rattle.gh_core.proofs.SoundEvents.{boot_stays, steps_keep_sound}
 
 -- steps
@@ -229,6 +223,7 @@ module _ {P : Type 0} (answer : P → Option Reply → program.Step) (after : P 
         let going : list_any exits before.made ≡ false = has_none course.conf at call stays.sound.calls has in
         let frame : ends.call.frame ≡ (behind answer after (first at) before.made).frame = ends.frame ∙ was.frame_is call has in
         let none : call_of_cpu now ≡ None = ap (λ (one : Option Current). either_call one now.next) ends.between.none ∙ ends.none in
+        let left : P = (behind answer after (first at) before.made).program in
         let no_call : (one : Given) → call_of_cpu now ≡ Some one → ⊥ = λ one is. let gone : call_of_cpu now ≡ None = none in cc in
         record {
           frames = subst (λ (list : List Made). map frame_of list ≡ frames_made answer after (first at) (map reply_of list)) (sym ends.made)
@@ -236,7 +231,7 @@ module _ {P : Type 0} (answer : P → Option Reply → program.Step) (after : P 
           idle = λ is. ends.between;
           waits = λ is.
               ap (λ (p : P). asked answer after (length now.made + 1) p (last_reply now.made)) (was.program_is call has)
-              ∙ subst (λ (list : List Made). asked answer after (length list + 1) (behind answer after (first at) before.made).program (last_reply list) ≡ behind answer after (first at) list) (sym ends.made)
+              ∙ subst (λ (list : List Made). asked answer after (length list + 1) left (last_reply list) ≡ behind answer after (first at) list) (sym ends.made)
               (waits_on_call answer after (first at) before.made ends.call going was.frames frame);
           program_is = λ one is. absurd (no_call one is);
           frame_is = λ one is. absurd (no_call one is);

@@ -41,6 +41,11 @@ leaving s = count_by is_leaving s.objects
 abbrev plain : State → ℕ
 plain s = count_by is_plain s.caps
 
+-- a truth value counts as one at most
+pub one_most : (b : Bool) → one_if b ≤ 1
+one_most true = let one : one_if true ≡ 1 = refl in omega arith
+one_most false = let none : one_if false ≡ 0 = refl in omega arith
+
 -- changes
 
 -- so many objects are made and capabilities put, and none is retired or reclaimed
@@ -147,10 +152,6 @@ one_adds s cap = record {
   leave = refl;
   plain_most = omega (arith, count_push is_plain s.caps cap, one_most (is_plain cap));
 }
-  where
-    one_most : (b : Bool) → one_if b ≤ 1
-    one_most true = let one : one_if true ≡ 1 = refl in omega arith
-    one_most false = let none : one_if false ≡ 0 = refl in omega arith
 
 effect_adds : (s : State) (call : Call) (changes : List Change) → Effect call changes
     → Adds (one_if (is_create call)) (one_if (is_copy call)) s (changed_all s changes)

@@ -1,6 +1,8 @@
 -- Every event keeps the counts of a history.
 use Rattle.std.proofs.Common.{◌≡◌, ◌==◌, ◌+◌, ◌-◌, ◌*◌, ◌<◌, ◌≤◌, ◌∙◌, ℕ, Bool, true, false, List, [], ◌∷◌, ◌++◌, length, refl, subst, sym, ap, arith, Option, Some, None, if◌then◌else◌}
 use Rattle.std.specs.Prelude.{◌&&◌, ◌||◌, Result, Ok, Err, count_by, is_some, option_map, slice_index}
+use Rattle.std.proofs.lemmas.Bool.{and_left}
+use Rattle.std.proofs.lemmas.List.{length_push}
 use Rattle.std.proofs.lemmas.Bool.Decides.{nat_tests}
 use Rattle.gh_base.specs.declared.call.Call.{Call}
 use Rattle.gh_base.specs.declared.errno.Errno.{Errno}
@@ -36,7 +38,7 @@ use Rattle.gh_core.proofs.EntryCalls.{now_passes, still_fails}
 use Rattle.gh_core.proofs.Finding.{same_number}
 use Rattle.gh_core.proofs.LengthCalls.{acts_same, call_counts, cpu_counts, entry_counts, none_acts, part_counts, turn_counts}
 use Rattle.gh_core.proofs.LengthEntries as allowed
-use Rattle.gh_core.proofs.LengthEntries.{entries_count}
+use Rattle.gh_core.proofs.LengthEntries.{entries_count, one_most}
 
 -- an event that leaves the history
 module _ (conf : Config) (long : HasLength conf) where
@@ -99,12 +101,8 @@ module _ (conf : Config) (long : HasLength conf) where
     end_few =
         let before : one_if (is_some (conf.cpu at).next || is_some (conf.cpu at).current) ≡ 1 = rw alone (ap (λ (one : Option Current). one_if (is_some one)) is_current) in
         let now : one_if (is_some (conf.cpu at).next || false) ≡ 0 = rw alone refl in
-        let longer : length ((conf.cpu at).made ++ finished at call end reply ∷ []) ≡ length (conf.cpu at).made + 1 = length_push (conf.cpu at).made in
+        let longer : length ((conf.cpu at).made ++ finished at call end reply ∷ []) ≡ length (conf.cpu at).made + 1 = length_push (conf.cpu at).made (finished at call end reply) in
         omega (arith, long.calls.numbers at, before, now, longer)
-      where
-        length_push : (made : List Made) → length (made ++ finished at call end reply ∷ []) ≡ length made + 1
-        length_push [] = refl
-        length_push (one ∷ made) = omega (arith, length_push made)
 
   looks_none : (came : Outcome) → is_some (number (end_of_looks came)) ≡ false
   looks_none (Wants slot need) = refl
@@ -140,10 +138,6 @@ module _ (conf : Config) (long : HasLength conf) where
   was_given None [] None call is = absurd (let never : ⊥ = cc in never)
   was_given None [] (Some given) call is = refl
   was_given None (pin ∷ pins) next call is = absurd (let never : ⊥ = cc in never)
-
-  one_most : (b : Bool) → one_if b ≤ 1
-  one_most true = let one : one_if true ≡ 1 = refl in omega arith
-  one_most false = let none : one_if false ≡ 0 = refl in omega arith
 
   take_counts : (at : ℕ) → MayTake conf at → Counts (taken conf at).turn (taken conf at).cpu
   take_counts at may =
@@ -216,21 +210,15 @@ module _ (conf : Config) (long : HasLength conf) where
     was n = ap (λ (turn : Option Holder). acts turn n) may.has_turn.turn
 
     here : before at ≡ has_acted may.holder
-    here = was at ∙ own (may.holder.cpu == at) (has_acted may.holder) (ap (λ (c : ℕ). c == at) may.has_turn.its_cpu ∙ same_number at)
-      where
-        own : (b c : Bool) → b ≡ true → (b && c) ≡ c
-        own true c is = refl
-        own false c is = absurd (let never : ⊥ = cc in never)
+    here =
+        was at
+        ∙ ap (λ (b : Bool). b && has_acted may.holder) (ap (λ (c : ℕ). c == at) may.has_turn.its_cpu ∙ same_number at)
 
     others : (n : ℕ) → (n == at) ≡ false → acts None n ≡ before n
     others n differs =
         let its : may.holder.cpu ≡ at = may.has_turn.its_cpu in
         let apart : (may.holder.cpu == n) ≡ false = grind (arith, nat_tests) in
-        sym (was n ∙ not_own (may.holder.cpu == n) (has_acted may.holder) apart)
-      where
-        not_own : (b c : Bool) → b ≡ false → (b && c) ≡ false
-        not_own true c is = absurd (let never : ⊥ = cc in never)
-        not_own false c is = refl
+        sym (was n ∙ and_left (may.holder.cpu == n) (has_acted may.holder) apart)
 
     ended_by : (end : Option Ending) → ending conf at may.holder may.call ≡ end → is_some end ≡ true
         → Counts None (put conf.cpu at (with_ending at (conf.cpu at) may.call end))
@@ -262,14 +250,10 @@ module _ (conf : Config) (at : ℕ) (number : ℕ) (frame : Frame) (long : HasLe
   given_by (Err errno) =
       cpu_counts conf.history conf.turn conf.cpu at _ long.calls
       (omega (arith, count_push has_entry (conf.cpu at).made (refused_frame at number frame errno), no_entry))
-      (omega (arith, none_next, length_push (conf.cpu at).made, may.counts, may.bounded))
+      (omega (arith, none_next, length_push (conf.cpu at).made (refused_frame at number frame errno), may.counts, may.bounded))
     where
       no_entry : one_if (has_entry (refused_frame at number frame errno)) ≡ 0
       no_entry = refl
-
-      length_push : (made : List Made) → length (made ++ refused_frame at number frame errno ∷ []) ≡ length made + 1
-      length_push [] = refl
-      length_push (one ∷ made) = omega (arith, length_push made)
 
   pub given_length : HasLength (given conf at number frame)
   unfolding given_cpu

@@ -1,6 +1,6 @@
 -- A course: what programs and a schedule make of a boot file, item by item and then by whole calls,
 -- until every program has ended. What an item is, is a parameter.
-use Rattle.std.specs.Prelude.{◌≡◌, ◌==◌, ◌&&◌, ◌+◌, ◌-◌, ◌*◌, ◌<◌, ◌⊎◌, not, ℕ, zero, suc, Bool, true, false, List, [], ◌∷◌, ◌++◌, length, Option, Some, None, flat_map, fold, map, is_some, option_map, if◌then◌else◌}
+use Rattle.std.specs.Prelude.{◌≡◌, ◌==◌, ◌&&◌, ◌+◌, ◌-◌, ◌*◌, ◌<◌, ◌⊎◌, not, ℕ, zero, suc, Bool, false, List, [], ◌∷◌, ◌++◌, length, Option, Some, None, flat_map, fold, map, is_some, option_map, if◌then◌else◌}
 use Rattle.std.specs.List.{last_or, list_any, range_with_len}
 use Rattle.gh_base.specs.declared.frame.Reply.{Reply}
 use Rattle.gh_base.specs.declared.ids.CpuNo.{CpuNo}
