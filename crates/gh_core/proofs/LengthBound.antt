@@ -76,7 +76,7 @@ acts_are_more (event ∷ events) =
     omega (arith, count_cons makes_one event events, count_cons copies_one event events, count_cons is_act event events, one_of (is_act event) event.call, acts_are_more events)
 
 -- a count is at most all
-count_all : {X : Type 0} (p : X → Bool) (xs : List X) → count_by p xs ≤ length xs
+pub count_all : {X : Type 0} (p : X → Bool) (xs : List X) → count_by p xs ≤ length xs
 count_all p [] = let none : count_by p [] ≡ 0 = refl in omega arith
 count_all p (x ∷ xs) = omega (arith, count_cons p x xs, one_most (p x), count_all p xs)
 

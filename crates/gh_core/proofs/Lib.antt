@@ -1,6 +1,7 @@
 pub mod ActCalls
 pub mod ActFits
 pub mod BoundKeeps
+pub mod Boxes
 pub mod CallEffects
 pub mod CallMoves
 pub mod CallsEnd
@@ -21,6 +22,7 @@ pub mod EntryMoves
 pub mod EventObjects
 pub mod EventRuns
 pub mod EventsKeep
+pub mod FewRows
 pub mod Finding
 pub mod FreeCalls
 pub mod GivenCalls
