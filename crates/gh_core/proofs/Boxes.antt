@@ -1,9 +1,10 @@
 -- Rows counted by the boxes that they lie in, and by what holds of each row of a list.
 use Rattle.std.proofs.Common.{◌≡◌, ◌==◌, ◌+◌, ◌<◌, ◌≤◌, ◌∙◌, inl, inr, ℕ, zero, suc, Bool, true, false, List, [], ◌∷◌, length, refl, sym, ap, arith, IsTrue, Option, Some, None, slice_get}
-use Rattle.std.specs.Prelude.{count_by}
+use Rattle.std.specs.Prelude.{count_by, nat_lt}
 use Rattle.std.specs.List.{list_all, range_with_len, sum_by}
-use Rattle.std.proofs.lemmas.Bool.{and_from, and_parts}
+use Rattle.std.proofs.lemmas.Bool.{and_from, and_parts, eq-eqb, ltb-true}
 use Rattle.std.proofs.lemmas.Bool.Decides.{eqb_tells, nat_tests}
+use Rattle.std.proofs.lemmas.List.FromFn.{length-range_with_len}
 use Rattle.std.proofs.lemmas.List.Sums.{sum_by-cons}
 use Rattle.gh_model.specs.QueueCalls.{one_if}
 use Rattle.gh_invariant.proofs.Counting.{count_cons}
@@ -106,3 +107,23 @@ in_range p first (suc n) k low high passes =
 pub ones : {X : Type 0} (xs : List X) → sum_by (λ (x : X). 1) xs ≡ length xs
 ones [] = refl
 ones {X = X} (x ∷ xs) = omega (arith, sum_by-cons (λ (one : X). 1) x xs, ones xs)
+
+-- rows with different numbers below k are at most k
+module _ {R : Type 0} (number : R → ℕ) (k : ℕ) (rows : List R) where
+  numbered : ℕ → R → Bool
+  numbered at row = number row == at
+
+  pub few_numbered : IsTrue (list_all (λ (row : R). nat_lt (number row) k) rows)
+      → ((at : ℕ) → count_by (λ (row : R). number row == at) rows ≤ 1) → length rows ≤ k
+  unfolding numbered
+  few_numbered within once =
+      let each : count_by (λ (row : R). true) rows ≤ sum_by (λ (at : ℕ). count_by (numbered at) rows) (range_with_len 0 k) =
+          in_boxes numbered (range_with_len 0 k) (λ row. true) (λ (row : R). nat_lt (number row) k) rows its within in
+      let most : sum_by (λ (at : ℕ). count_by (numbered at) rows) (range_with_len 0 k) ≤ sum_by (λ (at : ℕ). 1) (range_with_len 0 k) =
+          sum_most numbered (λ at. 1) rows (range_with_len 0 k) once in
+      omega (arith, each, most, ones (range_with_len 0 k), length-range_with_len 0 k, ones rows)
+    where
+      its : (row : R) → IsTrue (nat_lt (number row) k) → true ≡ true
+          → 1 ≤ count_by (λ (at : ℕ). numbered at row) (range_with_len 0 k)
+      its row below here =
+          in_range (λ (at : ℕ). numbered at row) 0 k (number row) (omega arith) (omega (arith, ltb-true (number row) k below)) (eq-eqb (number row) (number row) refl)

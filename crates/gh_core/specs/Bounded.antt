@@ -14,3 +14,7 @@ IsBounded conf = (at : ℕ) → at < OBJECT_INDICES
 -- no object of the boot has more than 2^62 references
 abbrev pub FewReferences : State → (ℕ → ℕ) → Type 0
 FewReferences boot index = (at : ℕ) → at < OBJECT_INDICES → references_at boot index at ≤ 2 ^ 62
+
+-- no object has so many references
+abbrev pub many_references : ℕ
+many_references = 131_072
