@@ -1,5 +1,5 @@
 -- Rows counted by the boxes that they lie in, and by what holds of each row of a list.
-use Rattle.std.proofs.Common.{◌≡◌, ◌==◌, ◌+◌, ◌<◌, ◌≤◌, ◌∙◌, inl, inr, ℕ, zero, suc, Bool, true, false, List, [], ◌∷◌, length, refl, sym, ap, arith, IsTrue, Option, Some, None, slice_get}
+use Rattle.std.proofs.Common.{◌≡◌, ◌==◌, ◌+◌, ◌<◌, ◌≤◌, ◌∙◌, inl, inr, ℕ, zero, suc, Bool, true, false, List, [], ◌∷◌, length, refl, sym, ap, arith, IsTrue, Some, slice_get}
 use Rattle.std.specs.Prelude.{count_by, nat_lt}
 use Rattle.std.specs.List.{list_all, range_with_len, sum_by}
 use Rattle.std.proofs.lemmas.Bool.{and_from, and_parts, eq-eqb, ltb-true}
@@ -118,9 +118,9 @@ module _ {R : Type 0} (number : R → ℕ) (k : ℕ) (rows : List R) where
   unfolding numbered
   few_numbered within once =
       let each : count_by (λ (row : R). true) rows ≤ sum_by (λ (at : ℕ). count_by (numbered at) rows) (range_with_len 0 k) =
-          in_boxes numbered (range_with_len 0 k) (λ row. true) (λ (row : R). nat_lt (number row) k) rows its within in
+      in_boxes numbered (range_with_len 0 k) (λ row. true) (λ (row : R). nat_lt (number row) k) rows its within in
       let most : sum_by (λ (at : ℕ). count_by (numbered at) rows) (range_with_len 0 k) ≤ sum_by (λ (at : ℕ). 1) (range_with_len 0 k) =
-          sum_most numbered (λ at. 1) rows (range_with_len 0 k) once in
+      sum_most numbered (λ at. 1) rows (range_with_len 0 k) once in
       omega (arith, each, most, ones (range_with_len 0 k), length-range_with_len 0 k, ones rows)
     where
       its : (row : R) → IsTrue (nat_lt (number row) k) → true ≡ true

@@ -1,16 +1,16 @@
 -- In a sound configuration each object has few references: its objects have indices, and the CPUs and
 -- links are those of the boot.
-use Rattle.std.proofs.Common.{◌≡◌, ◌==◌, ◌+◌, ◌*◌, ◌<◌, ◌≤◌, ◌∙◌, ℕ, zero, suc, Bool, true, false, List, [], ◌∷◌, ◌++◌, length, refl, subst, sym, ap, arith, IsTrue, Option, Some, None, find, fold, slice_get, if◌then◌else◌}
+use Rattle.std.proofs.Common.{◌≡◌, ◌==◌, ◌+◌, ◌*◌, ◌^◌, ◌<◌, ◌≤◌, ◌∙◌, ℕ, zero, suc, Bool, true, false, List, [], ◌∷◌, ◌++◌, length, refl, sym, ap, arith, IsTrue, Option, Some, None, find, fold, if◌then◌else◌}
 use Rattle.std.specs.Prelude.{◌&&◌, count_by, is_some, nat_lt}
-use Rattle.std.specs.List.{list_all, range_with_len, sum_by}
-use Rattle.std.proofs.lemmas.Bool.{and_parts, eq-eqb, eqb-true, lt-ltb, ltb-true}
+use Rattle.std.specs.List.{list_all}
+use Rattle.std.proofs.lemmas.Bool.{and_parts, eq-eqb, eqb-true, lt-ltb}
 use Rattle.std.proofs.lemmas.Bool.Decides.{nat_tests}
 use Rattle.std.proofs.lemmas.List.{length_push}
-use Rattle.std.proofs.lemmas.List.FromFn.{length-range_with_len}
 use Rattle.gh_base.specs.declared.limits.TheConstants.{CPUS, CSPACES, CSPACE_SLOTS, OBJECT_INDICES}
+use Rattle.gh_model.proofs.FittingLemmas as fitting
 use Rattle.gh_model.proofs.FittingLemmas.{boot_fitting}
 use Rattle.gh_model.specs.Act.{counted}
-use Rattle.gh_model.specs.Boot.{after_line, boot_fits, boot_state, empty_state, is_vm, vm_count}
+use Rattle.gh_model.specs.Boot.{after_line, boot_fits, boot_state, empty_state, is_vm}
 use Rattle.gh_model.specs.Changes.{as_exited, changed, changed_all}
 use Rattle.gh_model.specs.Decide.{verdict}
 use Rattle.gh_model.specs.Fitting.{IsFitting}
@@ -33,14 +33,18 @@ use Rattle.gh_model.specs.declared.state.State.{State}
 use Rattle.gh_invariant.specs.Events.{judged_by, made_by}
 use Rattle.gh_invariant.specs.Lives.{lives}
 use Rattle.gh_invariant.specs.Valid.{IsValid}
+use Rattle.std.specs.Option.{option_map_or}
+use Rattle.gh_invariant.proofs.BootValid.{boot_valid}
 use Rattle.gh_invariant.proofs.ChangedRow.{count_change_kept}
 use Rattle.gh_invariant.proofs.Counting.{count_cons, count_unfound}
 use Rattle.gh_invariant.proofs.EventWords.{judged_sets}
 use Rattle.gh_invariant.proofs.SetsOne.{is_of_calls}
-use Rattle.gh_core.specs.Bounded.{many_references}
+use Rattle.gh_core.specs.Bounded.{HasBound, many_references}
 use Rattle.gh_core.specs.Config.{Config, is_at, object_at, present}
 use Rattle.gh_core.specs.References.{ArePlaced}
 use Rattle.gh_core.specs.Replayed.{HasState}
+use Rattle.gh_core.proofs.BoundKeeps.{start_bounded}
+use Rattle.gh_core.specs.Start.{start}
 use Rattle.gh_core.proofs.Boxes.{Each, all_of, few_numbered, more_pass, one_of, ones}
 use Rattle.gh_core.proofs.EntryMoves.{RowOf, row_of, there_lives}
 use Rattle.gh_core.proofs.LengthBoot.{few_capabilities}
@@ -66,7 +70,7 @@ call_seats s (change.AddCpu row) calls = absurd (let never : ⊥ = cc in never)
 call_seats s (change.AddLink row) calls = absurd (let never : ⊥ = cc in never)
 call_seats s (change.Exit cpu) calls =
     let same : count_by (λ (row : CpuRow). true) (changed s (change.Exit cpu)).cpus ≡ count_by (λ (row : CpuRow). true) s.cpus =
-        count_change_kept (λ (row : CpuRow). true) (is_cpu cpu.0) as_exited s.cpus (λ row. refl) in
+    count_change_kept (λ (row : CpuRow). true) (is_cpu cpu.0) as_exited s.cpus (λ row. refl) in
     record { links = refl; cpus = omega (arith, same, ones (changed s (change.Exit cpu)).cpus, ones s.cpus) }
 call_seats s _ calls = record { links = refl; cpus = refl }
 
@@ -189,8 +193,8 @@ module _ (conf : Config) (valid : IsValid (present conf)) (state : HasState conf
       let own : RowOf (present conf) row.serial.0 = row_of (present conf) row.serial.0 (member_lives i row there) in
       let other : RowOf (present conf) found.serial.0 = row_of (present conf) found.serial.0 (there_lives (present conf) conf.index at found is) in
       let same_index : conf.index own.row.serial.0 ≡ conf.index other.row.serial.0 =
-          ap conf.index own.serial_is ∙ eqb-true (conf.index row.serial.0) at here
-          ∙ sym (ap conf.index other.serial_is ∙ eqb-true (conf.index found.serial.0) at (found_passes (is_at conf.index at) objects found is)) in
+      ap conf.index own.serial_is ∙ eqb-true (conf.index row.serial.0) at here
+      ∙ sym (ap conf.index other.serial_is ∙ eqb-true (conf.index found.serial.0) at (found_passes (is_at conf.index at) objects found is)) in
       let same : row.serial.0 ≡ found.serial.0 = sym own.serial_is ∙ placed.unique own.row other.row own.is_row other.is_row same_index ∙ other.serial_is in
       eq-eqb row.serial.0 found.serial.0 same
 
@@ -220,4 +224,33 @@ module _ (conf : Config) (valid : IsValid (present conf)) (state : HasState conf
           ap (λ (links : List LinkRow). length links) seats.links,
           few_cpus,
           few_links,
+        )
+
+-- of a boot file too
+references_found : (boot : State) (most : ℕ) → ((serial : ℕ) → references boot serial ≤ most) → (found : Option ObjectRow)
+    → option_map_or (λ (row : ObjectRow). references boot row.serial.0) found 0 ≤ most
+references_found boot most few None = omega arith
+references_found boot most few (Some row) = few row.serial.0
+
+pub boot_bound : (lines : List BootLine) (index : ℕ → ℕ) → IsTrue (boot_fits lines)
+    → HasBound (start (boot_state lines) index)
+boot_bound lines index fits =
+    let valid : IsValid (boot_state lines) = boot_valid lines fits in
+    let slots : length (boot_state lines).caps ≤ CSPACES * CSPACE_SLOTS = few_capabilities (boot_state lines) valid in
+    record {
+      bounded = start_bounded (boot_state lines) index (λ at within. references_found (boot_state lines) (2 ^ 62) few (object_at (boot_state lines) index at));
+      few_cpus = boot_cpus lines fits;
+      few_links = omega (arith, boot_links lines, slots);
+    }
+  where
+    few : (serial : ℕ) → references (boot_state lines) serial ≤ 2 ^ 62
+    few serial =
+        let valid : IsValid (boot_state lines) = boot_valid lines fits in
+        omega (
+          arith,
+          few_references (boot_state lines) valid serial,
+          fitting.few_objects (boot_state lines) (boot_fitting lines fits),
+          few_capabilities (boot_state lines) valid,
+          boot_cpus lines fits,
+          boot_links lines,
         )

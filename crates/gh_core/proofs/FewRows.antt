@@ -1,13 +1,12 @@
 -- A valid state has few rows of each kind, and so each object has few references.
-use Rattle.std.proofs.Common.{◌≡◌, ◌==◌, ◌+◌, ◌*◌, ◌<◌, ◌≤◌, ◌∙◌, ℕ, Bool, true, false, not, List, [], ◌∷◌, length, refl, subst, sym, ap, arith, IsTrue, Option, Some, None, find, slice_get}
-use Rattle.std.specs.Prelude.{◌&&◌, ◌||◌, count_by, is_some, nat_lt, nat_le}
-use Rattle.std.specs.List.{list_all, range_with_len, sum_by}
-use Rattle.std.proofs.lemmas.Bool.{and_from, and_parts, eqb-true}
+use Rattle.std.proofs.Common.{◌≡◌, ◌==◌, ◌+◌, ◌*◌, ◌≤◌, ℕ, Bool, true, false, List, [], ◌∷◌, length, refl, ap, arith, IsTrue, Option, Some, None, find}
+use Rattle.std.specs.Prelude.{count_by, is_some, nat_lt, nat_le}
+use Rattle.std.specs.List.{list_all, sum_by}
+use Rattle.std.proofs.lemmas.Bool.{and_parts}
 use Rattle.std.proofs.lemmas.Bool.Decides.{nat_tests}
 use Rattle.std.proofs.lemmas.List.Sums.{sum_by-cons}
 use Rattle.gh_base.specs.declared.kind.Kind.{Kind}
 use Rattle.gh_base.specs.declared.kind.Kind.TheVariants as kind
-use Rattle.gh_base.specs.declared.limits.TheConstants.{CSPACES, CSPACE_SLOTS}
 use Rattle.gh_model.specs.Boot.{is_of_kind, is_row_of}
 use Rattle.gh_model.specs.QueueCalls.{one_if}
 use Rattle.gh_model.specs.References.{is_attached_to, is_boot_partition, is_capability_of, is_child_of, is_inhabitant_of, is_link_of, is_mapping_of, is_root_extent, is_share_of, is_slot_of, references}
@@ -15,14 +14,12 @@ use Rattle.gh_model.specs.Rows.{is_extent, is_object, is_partition}
 use Rattle.gh_model.specs.declared.rows.ExtentRow.{ExtentRow}
 use Rattle.gh_model.specs.declared.rows.MappingRow.{MappingRow}
 use Rattle.gh_model.specs.declared.rows.ObjectRow.{ObjectRow}
-use Rattle.gh_model.specs.declared.rows.PartitionRow.{PartitionRow}
 use Rattle.gh_model.specs.declared.state.State.{State}
 use Rattle.gh_invariant.specs.Lives.{lives, lives_as, mapping_stands, spans_row}
 use Rattle.gh_invariant.specs.Valid.{IsValid}
 use Rattle.gh_invariant.proofs.Counting.{all_by, count_most, count_same, found_one}
 use Rattle.gh_core.proofs.Boxes.{Each, all_of, in_boxes, one_of, ones, sum_most}
 use Rattle.gh_core.proofs.Finding.{same_number}
-use Rattle.gh_core.proofs.LengthBoot.{few_capabilities}
 use Rattle.gh_core.proofs.LengthBound.{count_all}
 use Rattle.gh_core.proofs.LengthEntries.{one_most}
 
@@ -59,9 +56,9 @@ module _ {R : Type 0} (objects : List ObjectRow) (name : R → ℕ) (k : ℕ) (r
   unfolding named
   few_named live few =
       let each : count_by (λ (row : R). true) rows ≤ sum_by (λ (object : ObjectRow). count_by (named object) rows) objects =
-          in_boxes named objects (λ row. true) (λ (row : R). lives objects (name row)) rows (λ row lives_so here. found_lives objects (name row) lives_so) live in
+      in_boxes named objects (λ row. true) (λ (row : R). lives objects (name row)) rows (λ row lives_so here. found_lives objects (name row) lives_so) live in
       let most : sum_by (λ (object : ObjectRow). count_by (named object) rows) objects ≤ sum_by (λ (object : ObjectRow). k) objects =
-          sum_most named (λ object. k) rows objects (λ object. few object.serial.0) in
+      sum_most named (λ object. k) rows objects (λ object. few object.serial.0) in
       omega (arith, each, most, times_all k objects, ones rows)
 
 module _ (s : State) (valid : IsValid s) where
@@ -69,7 +66,7 @@ module _ (s : State) (valid : IsValid s) where
   space_named : (serial : ℕ) → count_by (λ (row : MappingRow). serial == row.space.0) s.mappings ≤ 64
   space_named serial =
       let same : count_by (λ (row : MappingRow). serial == row.space.0) s.mappings ≡ count_by (is_row_of serial) s.mappings =
-          count_same (λ (row : MappingRow). serial == row.space.0) (is_row_of serial) s.mappings (λ row. turned serial row.space.0) in
+      count_same (λ (row : MappingRow). serial == row.space.0) (is_row_of serial) s.mappings (λ row. turned serial row.space.0) in
       omega (arith, same, valid.mappings.few serial)
 
   mapping_lives : (row : MappingRow) → IsTrue (mapping_stands s.objects s.extents row) → IsTrue (lives s.objects row.space.0)
@@ -90,7 +87,7 @@ module _ (s : State) (valid : IsValid s) where
   span_named : (serial : ℕ) → count_by (λ (row : ExtentRow). serial == row.serial.0) s.extents ≤ 1
   span_named serial =
       let same : count_by (λ (row : ExtentRow). serial == row.serial.0) s.extents ≡ count_by (is_extent serial) s.extents =
-          count_same (λ (row : ExtentRow). serial == row.serial.0) (is_extent serial) s.extents (λ row. turned serial row.serial.0) in
+      count_same (λ (row : ExtentRow). serial == row.serial.0) (is_extent serial) s.extents (λ row. turned serial row.serial.0) in
       omega (arith, same, valid.rows.extents serial, one_most (lives_as s.objects serial kind.Extent))
 
   extent_lives : Each (λ (row : ExtentRow). lives s.objects row.serial.0 ≡ true) s.extents
@@ -111,7 +108,7 @@ module _ (s : State) (valid : IsValid s) where
   one_boot : (serial : ℕ) → count_by (is_boot_partition serial) s.partitions ≤ 1
   one_boot serial =
       let fewer : count_by (is_boot_partition serial) s.partitions ≤ count_by (is_partition serial) s.partitions =
-          count_most (is_boot_partition serial) (is_partition serial) s.partitions (λ row is. (and_parts (row.serial.0 == serial) (row.parent.0 == 0) is).0) in
+      count_most (is_boot_partition serial) (is_partition serial) s.partitions (λ row is. (and_parts (row.serial.0 == serial) (row.parent.0 == 0) is).0) in
       omega (arith, fewer, valid.rows.partitions serial, one_most (lives_as s.objects serial kind.Partition))
 
   -- so references are few where objects, CPUs and links are

@@ -15,7 +15,7 @@ use Rattle.gh_model.specs.History.{state_at}
 use Rattle.gh_model.specs.Act.{Verdict, Done, Refused}
 use Rattle.gh_model.specs.History as history
 use Rattle.gh_model.specs.Legal.{is_short}
-use Rattle.gh_model.specs.Marks.{Made, Outcome, Wants, Fails, Grants, number}
+use Rattle.gh_model.specs.Marks.{Outcome, Wants, Fails, Grants, number}
 use Rattle.gh_model.specs.QueueCalls.{one_if}
 use Rattle.gh_model.specs.Registers.{call_of}
 use Rattle.gh_model.specs.declared.entry.Entry.{Entry}

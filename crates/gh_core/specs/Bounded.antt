@@ -1,6 +1,6 @@
--- How much is owed: never more than a reference word can count.
-use Rattle.std.specs.Prelude.{◌+◌, ◌<◌, ◌≤◌, ◌^◌, ℕ}
-use Rattle.gh_base.specs.declared.limits.TheConstants.{OBJECT_INDICES}
+-- How much is owed: never more than a reference word can count. And how many references there are.
+use Rattle.std.specs.Prelude.{◌+◌, ◌*◌, ◌<◌, ◌≤◌, ◌^◌, ℕ, length}
+use Rattle.gh_base.specs.declared.limits.TheConstants.{CPUS, CSPACES, CSPACE_SLOTS, OBJECT_INDICES}
 use Rattle.gh_model.specs.declared.state.State.{State}
 use Rattle.gh_core.specs.Config.{Config, live_references, references_at}
 use Rattle.gh_core.specs.References.{owed_at}
@@ -18,3 +18,10 @@ FewReferences boot index = (at : ℕ) → at < OBJECT_INDICES → references_at 
 -- no object has so many references
 abbrev pub many_references : ℕ
 many_references = 131_072
+
+-- references and what is owed have their bound, and the boot has few CPUs and links, each of which
+-- takes two slots
+pub record HasBound (conf : Config) : Type 0 where
+  pub bounded : IsBounded conf
+  pub few_cpus : length conf.boot.cpus ≤ CPUS
+  pub few_links : 2 * length conf.boot.links ≤ CSPACES * CSPACE_SLOTS

@@ -40,8 +40,8 @@ pub use references::{
 };
 pub use sound::{
     events_keep_sound, given_call_keeps_sound, granted_objects_stay, histories_are_short,
-    indices_stay, looks_find_present, reclaims_spare_calls, rest_is_graced, rest_is_legal,
-    revived_index_is_free, runs_are_bounded, runs_are_sound, start_is_sound,
+    indices_stay, looks_find_present, reclaims_spare_calls, references_are_few, rest_is_graced,
+    rest_is_legal, revived_index_is_free, runs_are_bounded, runs_are_sound, start_is_sound,
     words_count_references,
 };
 pub use start::start_has_references;

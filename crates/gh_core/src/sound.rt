@@ -9,7 +9,7 @@ ghost use Rattle.gh_base.specs.declared.ids.CpuNo.{CpuNo};
 ghost use Rattle.gh_base.specs.declared.ids.ObjIndex.{ObjIndex};
 ghost use Rattle.gh_base.specs.declared.ids.Serial.{Serial};
 ghost use Rattle.gh_base.specs.declared.limits.TheConstants.{OBJECT_INDICES};
-ghost use Rattle.gh_core.specs.Bounded.{FewReferences, IsBounded};
+ghost use Rattle.gh_core.specs.Bounded.{IsBounded, many_references};
 ghost use Rattle.gh_core.specs.Calls.{pinned_looks};
 ghost use Rattle.gh_core.specs.Config.{Config, Current, came_to, pin_of, present};
 ghost use Rattle.gh_core.specs.Events.{Possible, after};
@@ -62,11 +62,18 @@ pub fn runs_are_sound()
         → IsSound (after_steps (start (boot_state lines) index) steps) }
 {}
 
-/// And where no object of the boot has more than 2^62 references, every such list leaves the
-/// references of an object and what is owed at its index within that together.
+/// And leaves the references of an object and what is owed at its index within 2^62 together.
 pub fn runs_are_bounded()
-    ensures { (boot : State) (index : ℕ → ℕ) (steps : List Step) → FewReferences boot index
-        → Runs (start boot index) steps → IsBounded (after_steps (start boot index) steps) }
+    ensures { (lines : List BootLine) (index : ℕ → ℕ) (steps : List Step)
+        → IsTrue (boot_fits lines) → AreIndices (boot_state lines) index
+        → Runs (start (boot_state lines) index) steps
+        → IsBounded (after_steps (start (boot_state lines) index) steps) }
+{}
+
+/// An object has fewer than 131,072 references.
+pub fn references_are_few()
+    ensures { (conf : Config) (serial : ℕ) → IsSound conf
+        → references (present conf) serial < many_references }
 {}
 
 /// No history is as long as 12,500,000 entries: neither that of a sound configuration, nor that of any
