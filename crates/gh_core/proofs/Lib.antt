@@ -22,6 +22,7 @@ pub mod EntryMoves
 pub mod EventObjects
 pub mod EventRuns
 pub mod EventsKeep
+pub mod FewPins
 pub mod FewReferences
 pub mod FewRows
 pub mod Finding
