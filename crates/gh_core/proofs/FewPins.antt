@@ -1,7 +1,7 @@
 -- A call has at most two looks, and a CPU at most as many pins, so every count of a reference word
 -- stays below 2^63.
-use Rattle.std.proofs.Common.{◌≡◌, ◌==◌, ◌+◌, ◌-◌, ◌*◌, ◌^◌, ◌<◌, ◌≤◌, ◌∙◌, ◌⊎◌, inl, inr, ℕ, zero, suc, Bool, true, false, List, [], ◌∷◌, ◌++◌, length, refl, subst, sym, ap, arith, Option, Some, None, map, slice_get, take, if◌then◌else◌}
-use Rattle.std.specs.Prelude.{Result, Ok, Err, count_by, is_some}
+use Rattle.std.proofs.Common.{◌≡◌, ◌==◌, ◌-◌, ◌<◌, ◌≤◌, ℕ, zero, suc, Bool, true, false, List, [], ◌∷◌, length, refl, subst, sym, ap, arith, Option, Some, None, map, slice_get, take, if◌then◌else◌}
+use Rattle.std.specs.Prelude.{Result, Ok, Err, is_some}
 use Rattle.std.proofs.lemmas.List.{length-map, length-take-le}
 use Rattle.std.proofs.lemmas.Option.{slice_get_within}
 use Rattle.gh_base.specs.declared.call.Call.{Call}

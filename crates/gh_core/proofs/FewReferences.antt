@@ -239,6 +239,7 @@ boot_bound lines index fits =
     let slots : length (boot_state lines).caps ≤ CSPACES * CSPACE_SLOTS = few_capabilities (boot_state lines) valid in
     record {
       bounded = start_bounded (boot_state lines) index (λ at within. references_found (boot_state lines) (2 ^ 62) few (object_at (boot_state lines) index at));
+      few_pins = λ cpu. omega arith;
       few_cpus = boot_cpus lines fits;
       few_links = omega (arith, boot_links lines, slots);
     }

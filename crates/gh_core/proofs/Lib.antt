@@ -8,6 +8,7 @@ pub mod CallsEnd
 pub mod CallsGoOn
 pub mod CallsKeep
 pub mod CausesHeld
+pub mod CountsFit
 pub mod CourseEnds
 pub mod CoursePrograms
 pub mod CourseRounds

@@ -28,6 +28,7 @@ use Rattle.gh_core.proofs.BoundKeeps.{event_bounded}
 use Rattle.gh_core.proofs.CallsEnd.{leave_keeps_calls}
 use Rattle.gh_core.proofs.CallsGoOn.{enter_keeps_calls, undo_keeps_calls, unpin_keeps_calls}
 use Rattle.gh_core.proofs.EventsKeep.{event_graced, event_sound}
+use Rattle.gh_core.proofs.FewPins.{event_pins, given_pins}
 use Rattle.gh_core.proofs.FewReferences.{boot_bound}
 use Rattle.gh_core.proofs.FreeCalls.{free_keeps_calls}
 use Rattle.gh_core.proofs.GivenCalls.{given_keeps_calls}
@@ -170,9 +171,11 @@ boot_stays conf (Join cpu) = refl
 boot_stays conf (Split cpu) = refl
 
 -- every event keeps the bounds
-event_bound : (conf : Config) (event : Event) → HasBound conf → Possible conf event → HasBound (after conf event)
-event_bound conf event bound may = record {
+event_bound : (conf : Config) (event : Event) → HasBound conf → HasCalls (after conf event) → Possible conf event
+    → HasBound (after conf event)
+event_bound conf event bound calls may = record {
   bounded = event_bounded conf event bound.bounded may;
+  few_pins = event_pins conf event bound.few_pins calls may;
   few_cpus = subst (λ (boot : State). length boot.cpus ≤ CPUS) (sym (boot_stays conf event)) bound.few_cpus;
   few_links = subst (λ (boot : State). 2 * length boot.links ≤ CSPACES * CSPACE_SLOTS) (sym (boot_stays conf event)) bound.few_links;
 }
@@ -196,7 +199,7 @@ event_keeps_sound conf event sound may =
       words = event_shows conf event sound.references sound.state sound.valid sound.words (has_room (after conf event) long calls begins) may;
       begins = begins;
       long = long;
-      bound = event_bound conf event sound.bound may;
+      bound = event_bound conf event sound.bound calls may;
     }
 
 -- runs
@@ -216,7 +219,7 @@ given_keeps_sound conf at number frame sound may = record {
   words = record { filled = sound.words.filled; attached = sound.words.attached; empty = sound.words.empty; within = sound.words.within };
   begins = sound.begins;
   long = given_length conf at number frame sound.long may;
-  bound = record { bounded = sound.bound.bounded; few_cpus = sound.bound.few_cpus; few_links = sound.bound.few_links };
+  bound = record { bounded = sound.bound.bounded; few_pins = given_pins conf at number frame sound.bound.few_pins; few_cpus = sound.bound.few_cpus; few_links = sound.bound.few_links };
 }
 
 pub step_keeps_sound : (conf : Config) (step : Step) → IsSound conf → MayStep conf step

@@ -39,10 +39,10 @@ pub use references::{
     unpin_keeps_references,
 };
 pub use sound::{
-    events_keep_sound, given_call_keeps_sound, granted_objects_stay, histories_are_short,
-    indices_stay, looks_find_present, reclaims_spare_calls, references_are_few, rest_is_graced,
-    rest_is_legal, revived_index_is_free, runs_are_bounded, runs_are_sound, start_is_sound,
-    words_count_references,
+    counts_fit, events_keep_sound, given_call_keeps_sound, granted_objects_stay,
+    histories_are_short, indices_stay, looks_find_present, reclaims_spare_calls,
+    references_are_few, rest_is_graced, rest_is_legal, revived_index_is_free, runs_are_bounded,
+    runs_are_sound, start_is_sound, words_count_references,
 };
 pub use start::start_has_references;
 pub use validity::{events_keep_validity, given_call_keeps_validity, start_is_valid};

@@ -1,7 +1,7 @@
 //! Every run from a boot file is sound, and what that means for objects, words and calls. The
 //! functions do nothing; their clauses are laws.
 
-ghost use Rattle.std.specs.Prelude.{◌≡◌, ◌+◌, ◌<◌, ◌≤◌, ℕ, List, [], Some, None, IsSome, IsTrue, false, length, slice_get, true};
+ghost use Rattle.std.specs.Prelude.{◌≡◌, ◌+◌, ◌^◌, ◌<◌, ◌≤◌, ℕ, List, [], Some, None, IsSome, IsTrue, false, length, slice_get, true};
 ghost use Rattle.std.specs.List.{last_or};
 ghost use Rattle.gh_base.specs.declared.errno.Errno.TheVariants.{CapNull, CapRevoked};
 ghost use Rattle.gh_base.specs.declared.frame.Frame.{Frame};
@@ -74,6 +74,12 @@ pub fn runs_are_bounded()
 pub fn references_are_few()
     ensures { (conf : Config) (serial : ℕ) → IsSound conf
         → references (present conf) serial < many_references }
+{}
+
+/// And every count of a reference word is below 2^63, so that it and the dead mark fit 64 bits.
+pub fn counts_fit()
+    ensures { (conf : Config) (at : ℕ) → IsSound conf → at < OBJECT_INDICES
+        → conf.count at < 2 ^ 63 }
 {}
 
 /// No history is as long as 12,500,000 entries: neither that of a sound configuration, nor that of any
