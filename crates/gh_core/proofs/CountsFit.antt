@@ -57,12 +57,12 @@ module _ (conf : Config) (sound : IsSound conf) where
   alive_fits at within alive None is some = absurd (let never : ⊥ = cc in never)
   alive_fits at within alive (Some found) is some =
       let one : LivesAt (present conf) conf.index at found.serial.0 = lives_there (present conf) conf.index at found is in
-      let counts : conf.count (conf.index one.row.serial.0) ≡ references (present conf) one.row.serial.0 + (pins_at conf.cpu (conf.index one.row.serial.0) + owed_at conf.turn (conf.index one.row.serial.0)) =
+      let its : ℕ = conf.index one.row.serial.0 in
+      let counts : conf.count its ≡ references (present conf) one.row.serial.0 + (pins_at conf.cpu its + owed_at conf.turn its) =
       sound.references.counted.counts one.row one.is (ap conf.dead one.there ∙ alive) in
-      let few : references (present conf) one.row.serial.0 + owed_at conf.turn (conf.index one.row.serial.0) ≤ 2 ^ 62 =
+      let few : references (present conf) one.row.serial.0 + owed_at conf.turn its ≤ 2 ^ 62 =
       objects_bounded conf sound.references sound.state sound.bound.bounded one.row one.is in
-      let fits : conf.count (conf.index one.row.serial.0) < 2 ^ 63 =
-      omega (arith, counts, few, all_pins (conf.index one.row.serial.0)) in
+      let fits : conf.count its < 2 ^ 63 = omega (arith, counts, few, all_pins its) in
       subst (λ (n : ℕ). conf.count n < 2 ^ 63) one.there fits
 
   home_fits : (at : ℕ) → at < OBJECT_INDICES → conf.dead at ≡ false → HasHome conf at → conf.count at < 2 ^ 63

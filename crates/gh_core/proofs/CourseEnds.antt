@@ -177,7 +177,8 @@ module _ {P : Type 0} (answer : P → Option Reply → program.Step) (after : P 
           → CallGoesOn (course.conf.cpu at) (next.conf.cpu at) ⊎ CallEnds call (course.conf.cpu at) (next.conf.cpu at)
           → HasCalled course (with_items answer after items n next at) at
       by_end others (inl on) =
-          let rest : HasCalled next (with_items answer after items n next at) at = others (on.same ∙ has) (omega (arith, on.fewer, few)) in
+          let rest : HasCalled next (with_items answer after items n next at) at =
+          others (on.same ∙ has) (omega (arith, on.fewer, few)) in
           record {
             stays = rest.stays;
             grows = grows_on course next (with_items answer after items n next at) done.grows rest.grows;
@@ -190,7 +191,8 @@ module _ {P : Type 0} (answer : P → Option Reply → program.Step) (after : P 
             stays = done.stays;
             grows = done.grows;
             none = none;
-            one_more = ap (λ (list : List Made). length list) ends.made ∙ length-append (course.conf.cpu at).made (ends.call ∷ []);
+            one_more = ap (λ (list : List Made). length list) ends.made
+                ∙ length-append (course.conf.cpu at).made (ends.call ∷ []);
           })
 
   -- a CPU without a call is given its program's next one, which has ended at once where its frame is
@@ -226,7 +228,8 @@ module _ {P : Type 0} (answer : P → Option Reply → program.Step) (after : P 
         inr (refl, (now, ap (λ (one : Option Current). either_call one (Some now)) free_cpu))
     given_either (Err errno) = inl (length-append (made_by course.conf at) (refused_frame at its standing.frame errno ∷ []), none)
 
-    given_more : (shape : Result Call Errno) → MoreCalls (course.conf.cpu at) (with_next at its standing.frame (course.conf.cpu at) shape)
+    given_more : (shape : Result Call Errno)
+        → MoreCalls (course.conf.cpu at) (with_next at its standing.frame (course.conf.cpu at) shape)
     given_more (Ok call) = inl refl
     given_more (Err errno) = inr (refused_frame at its standing.frame errno, refl)
 
@@ -291,6 +294,7 @@ module _ {P : Type 0} (answer : P → Option Reply → program.Step) (after : P 
         is : IsGiven course middle at
         is = next_given (call_of_cpu (course.conf.cpu at)) refl
 
-        by_call : (call : Option Given) → call_of_cpu (middle.conf.cpu at) ≡ call → Kept (with_item answer after items middle at)
+        by_call : (call : Option Given) → call_of_cpu (middle.conf.cpu at) ≡ call
+            → Kept (with_item answer after items middle at)
         by_call None none = subst (λ (later : Course P). Kept later) (sym (no_item middle at none)) is.stays
         by_call (Some call) has = (item_done middle at call is.stays within has).stays

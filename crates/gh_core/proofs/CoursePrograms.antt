@@ -54,9 +54,11 @@ module _ {P : Type 0} (answer : P → Option Reply → Step) (after : P → Opti
   frames_snoc number standing [] reply none = one_frame standing.frame
   frames_snoc number standing (first ∷ replies) reply none =
       let next : Standing P = asked answer after (number + 1) standing.program (Some first) in
-      let both = or_parts (is_exit standing.frame) (list_any is_exit (unless_exit standing.frame (frames_on answer after (number + 1) next replies))) none in
+      let both =
+      or_parts (is_exit standing.frame) (list_any is_exit (unless_exit standing.frame (frames_on answer after (number + 1) next replies))) none in
       let going : list_any is_exit (frames_on answer after (number + 1) next replies) ≡ false =
-      sym (ap (λ (b : Bool). list_any is_exit (if b then [] else frames_on answer after (number + 1) next replies)) both.0) ∙ both.1 in
+      sym (ap (λ (b : Bool). list_any is_exit (if b then [] else frames_on answer after (number + 1) next replies)) both.0)
+      ∙ both.1 in
       ap (λ (b : Bool). standing.frame ∷ (if b then [] else frames_on answer after (number + 1) next (replies ++ reply ∷ []))) both.0
       ∙ ap (λ (others : List Frame). standing.frame ∷ others) (frames_snoc (number + 1) next replies reply going)
       ∙ ap (λ (b : Bool). standing.frame ∷ ((if b then [] else frames_on answer after (number + 1) next replies) ++ (standing_on (number + 1) next replies).frame ∷ [])) (sym both.0)
@@ -99,7 +101,8 @@ module _ {P : Type 0} (answer : P → Option Reply → Step) (after : P → Opti
 
     pub frames_on_call : map frame_of (made ++ call ∷ []) ≡ frames_made answer after first (map reply_of (made ++ call ∷ []))
     frames_on_call =
-        let none : list_any is_exit (frames_made answer after first (map reply_of made)) ≡ false = sym (ap (list_any is_exit) frames) ∙ sym (any_exit made) ∙ going in
+        let none : list_any is_exit (frames_made answer after first (map reply_of made)) ≡ false =
+        sym (ap (list_any is_exit) frames) ∙ sym (any_exit made) ∙ going in
         map-append frame_of made (call ∷ [])
         ∙ ap (λ (list : List Frame). list ++ call.frame ∷ []) frames
         ∙ ap (λ (one : Frame). frames_made answer after first (map reply_of made) ++ one ∷ []) frame
@@ -109,7 +112,8 @@ module _ {P : Type 0} (answer : P → Option Reply → Step) (after : P → Opti
     pub waits_on_call : asked answer after (length (made ++ call ∷ []) + 1) (behind first made).program (last_reply (made ++ call ∷ []))
         ≡ behind first (made ++ call ∷ [])
     waits_on_call =
-        let longer : length (made ++ call ∷ []) + 1 ≡ 1 + length (map reply_of made) + 1 = omega (arith, length-append made (call ∷ []), length-map made reply_of) in
+        let longer : length (made ++ call ∷ []) + 1 ≡ 1 + length (map reply_of made) + 1 =
+        omega (arith, length-append made (call ∷ []), length-map made reply_of) in
         ap (λ (n : ℕ). asked answer after n (behind first made).program (last_reply (made ++ call ∷ []))) longer
         ∙ ap (λ (last : Option Made). asked answer after (1 + length (map reply_of made) + 1) (behind first made).program (option_map reply_of last)) (last_or_snoc None made call)
         ∙ sym (standing_snoc 1 (asked answer after 1 first None) (map reply_of made) (reply_of call))
@@ -128,7 +132,9 @@ module _ {P : Type 0} (answer : P → Option Reply → Step) (after : P → Opti
         by_last : (last : Bool) → (length made + 1 == last_number) ≡ last → length (made ++ call ∷ []) < last_number
         by_last true is =
             let exit : exits call ≡ true = its_exit (eqb-true (length made + 1) last_number is) in
-            let some : list_any exits (made ++ call ∷ []) ≡ true = list_any-append exits made (call ∷ []) ∙ or_right (list_any exits made) (exits call || false) (ap (λ (b : Bool). b || false) exit) in
+            let some : list_any exits (made ++ call ∷ []) ≡ true =
+            list_any-append exits made (call ∷ [])
+            ∙ or_right (list_any exits made) (exits call || false) (ap (λ (b : Bool). b || false) exit) in
             absurd (let never : ⊥ = cc in never)
         by_last false is =
             let apart : (length made + 1 == last_number) ≡ false = is in

@@ -184,7 +184,8 @@ module _ {P : Type 0} (answer : P → Option Reply → program.Step) (after : P 
         each = λ at. both course one (rounds answer after items n one) at rest.is.grows (round_made course at stays) (rest.each at);
       }
     where
-      both : (first_one middle later : Course P) (at : ℕ) → Grows middle later → HasMade first_one middle 1 at → HasMade middle later n at
+      both : (first_one middle later : Course P) (at : ℕ) → Grows middle later → HasMade first_one middle 1 at
+          → HasMade middle later n at
           → HasMade first_one later (suc n) at
       both first_one middle later at grows (inl ended) rest = inl (ended_stays middle later grows at ended)
       both first_one middle later at grows (inr made) (inl ended) = inl ended
@@ -195,7 +196,8 @@ module _ {P : Type 0} (answer : P → Option Reply → program.Step) (after : P 
     pub stays : Kept course
     pub all_ended : (at : ℕ) → goes_on course.conf at ≡ false
 
-  no_more : (course later : Course P) (at : ℕ) → Kept later → HasMade course later last_number at → (on : Bool) → goes_on later.conf at ≡ on
+  no_more : (course later : Course P) (at : ℕ) → Kept later → HasMade course later last_number at → (on : Bool)
+      → goes_on later.conf at ≡ on
       → on ≡ false
   no_more course later at stays made false is = refl
   no_more course later at stays (inl ended) true is = sym is ∙ ended
@@ -205,7 +207,8 @@ module _ {P : Type 0} (answer : P → Option Reply → program.Step) (after : P 
 
   pub rounds_end : (course : Course P) → Kept course → HasEnded (rounds answer after items last_number course)
   rounds_end course stays =
-      let run : HasRun course (rounds answer after items last_number course) last_number = rounds_run last_number course stays in
+      let run : HasRun course (rounds answer after items last_number course) last_number =
+      rounds_run last_number course stays in
       record {
         stays = run.is.stays;
         all_ended = λ at. no_more course (rounds answer after items last_number course) at run.is.stays (run.each at) (goes_on (rounds answer after items last_number course).conf at) refl;

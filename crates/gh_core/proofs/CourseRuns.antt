@@ -188,11 +188,13 @@ module _ {P : Type 0} (answer : P → Option Reply → program.Step) (after : P 
         by_exit : (any : Bool) → list_any exits (made_by course.conf cpu) ≡ any → any ≡ true
         by_exit true is = refl
         by_exit false is =
-            let going : goes_on course.conf cpu ≡ true = ap (λ (b : Bool). b && not (list_any exits (made_by course.conf cpu))) there ∙ ap not is in
+            let going : goes_on course.conf cpu ≡ true =
+            ap (λ (b : Bool). b && not (list_any exits (made_by course.conf cpu))) there ∙ ap not is in
             absurd (both_ways (goes_on course.conf cpu) (course_ended.all_ended cpu) going)
 
     -- no CPU has a call
-    call_none : (cpu : ℕ) (call : Option Given) → call_of_cpu (course.conf.cpu cpu) ≡ call → call_of_cpu (course.conf.cpu cpu) ≡ None
+    call_none : (cpu : ℕ) (call : Option Given) → call_of_cpu (course.conf.cpu cpu) ≡ call
+        → call_of_cpu (course.conf.cpu cpu) ≡ None
     call_none cpu None is = is
     call_none cpu (Some call) is = absurd (by_row (cpu_row course.conf.boot cpu) refl)
       where
@@ -212,11 +214,13 @@ module _ {P : Type 0} (answer : P → Option Reply → program.Step) (after : P 
       between = λ cpu. (stays.follow cpu).idle (call_none cpu (call_of_cpu (course.conf.cpu cpu)) refl);
     }
 
-    last_is_exit : (cpu : ℕ) → IsSome (cpu_row course.conf.boot cpu) → IsTrue (is_exit_call (last_or None (made_by course.conf cpu)))
+    last_is_exit : (cpu : ℕ) → IsSome (cpu_row course.conf.boot cpu)
+        → IsTrue (is_exit_call (last_or None (made_by course.conf cpu)))
     last_is_exit cpu there =
         exit_is_last (made_by course.conf cpu) (λ i one is. (rest_numbered course.conf stays.sound rest cpu i one is).no_exit) (exited cpu there)
 
-    pub exits_last : (cpu : ℕ) → IsSome (cpu_row (boot_state lines) cpu) → IsTrue (is_exit_call (last_or None (made_by course.conf cpu)))
+    pub exits_last : (cpu : ℕ) → IsSome (cpu_row (boot_state lines) cpu)
+        → IsTrue (is_exit_call (last_or None (made_by course.conf cpu)))
     exits_last cpu there = last_is_exit cpu (subst (λ (boot : State). IsSome (cpu_row boot cpu)) (sym boot_is) there)
 
     as_course : (one : Course P) → Kept one → IsCourse begin_conf one

@@ -108,7 +108,8 @@ module _ {P : Type 0} (answer : P → Option Reply → program.Step) (after : P 
               (subst (λ (one : Cpu). FollowsSoFar answer after (first cpu) one (course.programs cpu)) (sym (others cpu differs.0)) (stays.follow cpu))
         ]
 
-    each_as_was : left ≡ course.programs at → (cpu : ℕ) → FollowsSoFar answer after (first cpu) (conf.cpu cpu) (course.programs cpu)
+    each_as_was : left ≡ course.programs at → (cpu : ℕ)
+        → FollowsSoFar answer after (first cpu) (conf.cpu cpu) (course.programs cpu)
     each_as_was same cpu =
         elim (eqb_tells cpu at) as (λ _. FollowsSoFar answer after (first cpu) (conf.cpu cpu) (course.programs cpu)) [
           | inl here ↦
@@ -162,7 +163,8 @@ module _ {P : Type 0} (answer : P → Option Reply → program.Step) (after : P 
         → FollowsSoFar answer after (first at) (with_next at (length made + 1) standing.frame cpu call) standing.program
     given_follows (Ok call) =
         let now : Given = record { number = length made + 1; frame = standing.frame; call = call } in
-        let has : either_call cpu.current (Some now) ≡ Some now = ap (λ (one : Option Current). either_call one (Some now)) between.none in
+        let has : either_call cpu.current (Some now) ≡ Some now =
+        ap (λ (one : Option Current). either_call one (Some now)) between.none in
         record {
           frames = own.frames;
           idle = λ is. absurd (let never : ⊥ = cc in never);
@@ -213,8 +215,10 @@ module _ {P : Type 0} (answer : P → Option Reply → program.Step) (after : P 
           frames = subst (λ (list : List Made). map frame_of list ≡ frames_made answer after (first at) (map reply_of list)) (sym on.made) was.frames;
           idle = λ is. absurd (let never : ⊥ = cc in never);
           waits = λ is. absurd (let never : ⊥ = cc in never);
-          program_is = λ one is. was.program_is one (sym on.same ∙ is) ∙ ap (λ (list : List Made). (behind answer after (first at) list).program) (sym on.made);
-          frame_is = λ one is. was.frame_is one (sym on.same ∙ is) ∙ ap (λ (list : List Made). (behind answer after (first at) list).frame) (sym on.made);
+          program_is = λ one is. was.program_is one (sym on.same ∙ is)
+              ∙ ap (λ (list : List Made). (behind answer after (first at) list).program) (sym on.made);
+          frame_is = λ one is. was.frame_is one (sym on.same ∙ is)
+              ∙ ap (λ (list : List Made). (behind answer after (first at) list).frame) (sym on.made);
           counted = subst (λ (list : List Made). list_any exits list ≡ false → length list < last_number) (sym on.made) was.counted;
         }
 
@@ -222,9 +226,11 @@ module _ {P : Type 0} (answer : P → Option Reply → program.Step) (after : P 
     ended_follows now ends =
         let going : list_any exits before.made ≡ false = has_none course.conf at call stays.sound.calls has in
         let frame : ends.call.frame ≡ (behind answer after (first at) before.made).frame = ends.frame ∙ was.frame_is call has in
-        let none : call_of_cpu now ≡ None = ap (λ (one : Option Current). either_call one now.next) ends.between.none ∙ ends.none in
+        let none : call_of_cpu now ≡ None =
+        ap (λ (one : Option Current). either_call one now.next) ends.between.none ∙ ends.none in
         let left : P = (behind answer after (first at) before.made).program in
-        let no_call : (one : Given) → call_of_cpu now ≡ Some one → ⊥ = λ one is. let gone : call_of_cpu now ≡ None = none in cc in
+        let no_call : (one : Given) → call_of_cpu now ≡ Some one → ⊥ =
+        λ one is. let gone : call_of_cpu now ≡ None = none in cc in
         record {
           frames = subst (λ (list : List Made). map frame_of list ≡ frames_made answer after (first at) (map reply_of list)) (sym ends.made)
               (frames_on_call answer after (first at) before.made ends.call going was.frames frame);

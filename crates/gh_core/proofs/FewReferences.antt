@@ -112,7 +112,8 @@ history_seats : (s : State) (events : List Event) → KeepsSeats s (replay s eve
 history_seats s [] = same_seats s
 history_seats s (event ∷ events) =
     let first : KeepsSeats s (after_event s event) = entry_seats s event event.entry in
-    let rest : KeepsSeats (after_event s event) (replay (after_event s event) events) = history_seats (after_event s event) events in
+    let rest : KeepsSeats (after_event s event) (replay (after_event s event) events) =
+    history_seats (after_event s event) events in
     record { links = rest.links ∙ first.links; cpus = rest.cpus ∙ first.cpus }
 
 -- and are few
@@ -191,11 +192,13 @@ module _ (conf : Config) (valid : IsValid (present conf)) (state : HasState conf
   unfolding at_index
   member_same at found is i row there here =
       let own : RowOf (present conf) row.serial.0 = row_of (present conf) row.serial.0 (member_lives i row there) in
-      let other : RowOf (present conf) found.serial.0 = row_of (present conf) found.serial.0 (there_lives (present conf) conf.index at found is) in
+      let other : RowOf (present conf) found.serial.0 =
+      row_of (present conf) found.serial.0 (there_lives (present conf) conf.index at found is) in
       let same_index : conf.index own.row.serial.0 ≡ conf.index other.row.serial.0 =
       ap conf.index own.serial_is ∙ eqb-true (conf.index row.serial.0) at here
       ∙ sym (ap conf.index other.serial_is ∙ eqb-true (conf.index found.serial.0) at (found_passes (is_at conf.index at) objects found is)) in
-      let same : row.serial.0 ≡ found.serial.0 = sym own.serial_is ∙ placed.unique own.row other.row own.is_row other.is_row same_index ∙ other.serial_is in
+      let same : row.serial.0 ≡ found.serial.0 =
+      sym own.serial_is ∙ placed.unique own.row other.row own.is_row other.is_row same_index ∙ other.serial_is in
       eq-eqb row.serial.0 found.serial.0 same
 
   one_at : (at : ℕ) (found : Option ObjectRow) → find (at_index at) objects ≡ found → count_by (at_index at) objects ≤ 1
@@ -206,9 +209,15 @@ module _ (conf : Config) (valid : IsValid (present conf)) (state : HasState conf
   pub few_objects : length objects ≤ OBJECT_INDICES
   unfolding at_index
   few_objects =
-      few_numbered (λ (row : ObjectRow). conf.index row.serial.0) OBJECT_INDICES objects
-      (all_of (λ (row : ObjectRow). nat_lt (conf.index row.serial.0) OBJECT_INDICES) objects (λ i row is. lt-ltb (conf.index row.serial.0) OBJECT_INDICES (state.within row.serial.0 (member_lives i row is))))
+      few_numbered index_of OBJECT_INDICES objects (all_of (λ (row : ObjectRow). nat_lt (index_of row) OBJECT_INDICES) objects each_within)
       (λ at. one_at at (find (at_index at) objects) refl)
+    where
+      index_of : ObjectRow → ℕ
+      index_of row = conf.index row.serial.0
+
+      each_within : Each (λ (row : ObjectRow). nat_lt (conf.index row.serial.0) OBJECT_INDICES ≡ true) objects
+      each_within i row is =
+          lt-ltb (conf.index row.serial.0) OBJECT_INDICES (state.within row.serial.0 (member_lives i row is))
 
   -- so each has few references
   module _ (few_cpus : length conf.boot.cpus ≤ CPUS) (few_links : 2 * length conf.boot.links ≤ CSPACES * CSPACE_SLOTS) where

@@ -92,7 +92,8 @@ module _ (s : State) (valid : IsValid s) where
 
   extent_lives : Each (λ (row : ExtentRow). lives s.objects row.serial.0 ≡ true) s.extents
   extent_lives i row is =
-      let one : 1 ≤ count_by (is_extent row.serial.0) s.extents = one_of (is_extent row.serial.0) s.extents i row is (same_number row.serial.0) in
+      let one : 1 ≤ count_by (is_extent row.serial.0) s.extents =
+      one_of (is_extent row.serial.0) s.extents i row is (same_number row.serial.0) in
       kind_there kind.Extent (find (is_object row.serial.0) s.objects)
       (counted (lives_as s.objects row.serial.0 kind.Extent) (omega (arith, one, valid.rows.extents row.serial.0)))
     where

@@ -114,7 +114,8 @@ steps_keep : (conf : Config) (steps : List Step) → KeepsIndices conf (after_st
 steps_keep conf [] = kept conf
 steps_keep conf (step ∷ steps) =
     let first : KeepsIndices conf (after_step conf step) = step_keeps conf step in
-    let rest : KeepsIndices (after_step conf step) (after_steps (after_step conf step) steps) = steps_keep (after_step conf step) steps in
+    let rest : KeepsIndices (after_step conf step) (after_steps (after_step conf step) steps) =
+    steps_keep (after_step conf step) steps in
     record {
       index = λ serial made. rest.index serial (omega (arith, made, first.rises)) ∙ first.index serial made;
       rises = omega (arith, first.rises, rest.rises);

@@ -107,7 +107,8 @@ module _ (s : State) (valid : IsValid s) where
       let passes : is_home object row ≡ true = and_from _ _ home (found_passes (is_object row.cspace.0) s.objects object is) in
       some_one (find (λ (one : ObjectRow). is_home one row) s.objects) refl (finds (is_object row.cspace.0) (λ (one : ObjectRow). is_home one row) s.objects object is passes)
     where
-      some_one : (one : Option ObjectRow) → find (λ (object : ObjectRow). is_home object row) s.objects ≡ one → is_some one ≡ true
+      some_one : (one : Option ObjectRow) → find (λ (object : ObjectRow). is_home object row) s.objects ≡ one
+          → is_some one ≡ true
           → 1 ≤ count_by (λ (object : ObjectRow). is_home object row) s.objects
       some_one None same some = absurd (let never : ⊥ = cc in never)
       some_one (Some object) same some = found_one (λ (object : ObjectRow). is_home object row) s.objects object same

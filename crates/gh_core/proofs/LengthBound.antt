@@ -43,7 +43,8 @@ start_length lines index fits = record {
 
 -- each entry is of one kind
 
-kind_of : (entry : Event) (kind : Entry) → entry.entry ≡ kind → one_if (is_act entry) + (one_if (parts entry) + (one_if (retires_one entry) + one_if (reclaims_one entry))) ≡ 1
+kind_of : (entry : Event) (kind : Entry) → entry.entry ≡ kind
+    → one_if (is_act entry) + (one_if (parts entry) + (one_if (retires_one entry) + one_if (reclaims_one entry))) ≡ 1
 kind_of entry (Acted cpu number) is = rw is refl
 kind_of entry (Part cpu number space slot) is = rw is refl
 kind_of entry (Retired serial seen) is = rw is refl
@@ -94,7 +95,8 @@ module _ (conf : Config) (long : HasLength conf) (sound : HasCalls conf) where
   acts_few : (at : ℕ) (now : Bool) → acts conf.turn at ≡ now
       → count_by has_entry (conf.cpu at).made + one_if now ≤ calls_given (conf.cpu at)
   acts_few at true is =
-      let one : one_if (is_some (conf.cpu at).next || is_some (conf.cpu at).current) ≡ 1 = rw (acting at conf.turn refl is) (ap one_if (or_right (is_some (conf.cpu at).next) true refl)) in
+      let one : one_if (is_some (conf.cpu at).next || is_some (conf.cpu at).current) ≡ 1 =
+      rw (acting at conf.turn refl is) (ap one_if (or_right (is_some (conf.cpu at).next) true refl)) in
       let now : one_if true ≡ 1 = refl in
       omega (arith, count_all has_entry (conf.cpu at).made)
   acts_few at false is = let none : one_if false ≡ 0 = refl in omega (arith, count_all has_entry (conf.cpu at).made)

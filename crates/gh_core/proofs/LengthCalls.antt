@@ -33,7 +33,8 @@ total_most (suc n) most f few = grind (arith, total_most n most f few, few n)
 total_more : (f g : ℕ → ℕ) (at more : ℕ) → at < CPUS → ((i : ℕ) → g i ≡ put f at (f at + more) i)
     → total CPUS g ≡ total CPUS f + more
 total_more f g at more within same =
-    let all : total CPUS g ≡ total CPUS (λ i. put f at (f at + more) i) = total_same CPUS g (λ i. put f at (f at + more) i) same in
+    let all : total CPUS g ≡ total CPUS (λ i. put f at (f at + more) i) =
+    total_same CPUS g (λ i. put f at (f at + more) i) same in
     omega (arith, all, total_put f at (f at + more) (λ n. n) CPUS within)
 
 -- what holds of the value that was put and of the others, holds of each
@@ -95,7 +96,8 @@ module _ (events : List history.Event) (turn : Option Holder) (cpus : ℕ → Cp
 pub turn_counts : (events : List history.Event) (old new : Option Holder) (cpus : ℕ → Cpu)
     → ((n : ℕ) → acts new n ≡ acts old n) → CallsCount events old cpus → CallsCount events new cpus
 turn_counts events old new cpus same counts = record {
-  acts = counts.acts ∙ total_same CPUS (acts_of old cpus) (acts_of new cpus) (λ n. ap (λ (b : Bool). count_by has_entry (cpus n).made + one_if b) (sym (same n)));
+  acts = counts.acts
+      ∙ total_same CPUS (acts_of old cpus) (acts_of new cpus) (λ n. ap (λ (b : Bool). count_by has_entry (cpus n).made + one_if b) (sym (same n)));
   numbers = counts.numbers;
 }
 

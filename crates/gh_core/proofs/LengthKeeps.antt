@@ -99,9 +99,11 @@ module _ (conf : Config) (long : HasLength conf) where
       (alone : (conf.cpu at).next ≡ None) (end : End) (reply : Reply) where
     end_few : calls_given (with_end (conf.cpu at) (finished at call end reply)) ≤ CALL_NUMBERS
     end_few =
-        let before : one_if (is_some (conf.cpu at).next || is_some (conf.cpu at).current) ≡ 1 = rw alone (ap (λ (one : Option Current). one_if (is_some one)) is_current) in
+        let before : one_if (is_some (conf.cpu at).next || is_some (conf.cpu at).current) ≡ 1 =
+        rw alone (ap (λ (one : Option Current). one_if (is_some one)) is_current) in
         let now : one_if (is_some (conf.cpu at).next || false) ≡ 0 = rw alone refl in
-        let longer : length ((conf.cpu at).made ++ finished at call end reply ∷ []) ≡ length (conf.cpu at).made + 1 = length_push (conf.cpu at).made (finished at call end reply) in
+        let longer : length ((conf.cpu at).made ++ finished at call end reply ∷ []) ≡ length (conf.cpu at).made + 1 =
+        length_push (conf.cpu at).made (finished at call end reply) in
         omega (arith, long.calls.numbers at, before, now, longer)
 
   looks_none : (came : Outcome) → is_some (number (end_of_looks came)) ≡ false
@@ -200,7 +202,8 @@ module _ (conf : Config) (long : HasLength conf) where
   its_end at holder call end true acted is =
       acted_end (entries conf) (judged (state_at conf.boot conf.history (entries conf - 1)) at call) end is ∙ sym acted
   its_end at holder call end false acted is =
-      unacted_end holder (present conf) (entries conf) call.given.call (judged (present conf) at call) end (has_part holder) is ∙ sym acted
+      unacted_end holder (present conf) (entries conf) call.given.call (judged (present conf) at call) end (has_part holder) is
+      ∙ sym acted
 
   module _ (at : ℕ) (may : MayEnd conf at) (alone : (conf.cpu at).next ≡ None) where
     abbrev before : ℕ → Bool
@@ -224,7 +227,8 @@ module _ (conf : Config) (long : HasLength conf) where
         → Counts None (put conf.cpu at (with_ending at (conf.cpu at) may.call end))
     ended_by None is some = absurd (let never : ⊥ = cc in never)
     ended_by (Some end) is some =
-        let has : is_some (number end.end) ≡ has_acted may.holder = its_end at may.holder may.call end (has_acted may.holder) refl is in
+        let has : is_some (number end.end) ≡ has_acted may.holder =
+        its_end at may.holder may.call end (has_acted may.holder) refl is in
         let entry : one_if (is_some (number end.end)) ≡ one_if (before at) = ap one_if (has ∙ sym here) in
         part_counts conf.history conf.turn None conf.cpu at _ long.calls
         (omega (arith, count_push has_entry (conf.cpu at).made (finished at may.call end.end end.reply), entry)) others
@@ -293,7 +297,8 @@ module _ (conf : Config) (at : ℕ) (entry : Entry) (index : State → ℕ → �
   acts_on : CallsCount (conf.history ++ logged entry call ∷ []) (option_map behind conf.turn) conf.cpu
   unfolding behind
   acts_on =
-      let counts : CallsCount conf.history (Some holder) conf.cpu = subst (λ (turn : Option Holder). CallsCount conf.history turn conf.cpu) allows.has_turn.turn long.calls in
+      let counts : CallsCount conf.history (Some holder) conf.cpu =
+      subst (λ (turn : Option Holder). CallsCount conf.history turn conf.cpu) allows.has_turn.turn long.calls in
       let its : holder.cpu < CPUS = subst (λ (n : ℕ). n < CPUS) (sym allows.has_turn.its_cpu) within in
       subst (λ (turn : Option Holder). CallsCount (conf.history ++ logged entry call ∷ []) (option_map behind turn) conf.cpu) (sym allows.has_turn.turn)
       (entry_counts conf.history (logged entry call) holder (behind holder) conf.cpu its allows.not_acted refl (has_one (is_acted entry) refl) counts)
@@ -332,7 +337,8 @@ event_length conf (Kill cpu object) valid long may = killed_length conf object.0
 event_length conf (Commit cpu entry) valid long may =
     committed_length conf cpu.0 entry (λ new. conf.index) may.holder may.call may.allows may.is_cpu valid long
 event_length conf (SetCap cpu entry space slot word) valid long may =
-    let behind = committed_length conf cpu.0 entry (λ new. index_after conf new word) may.holder may.call may.allows may.is_cpu valid long in
+    let behind =
+    committed_length conf cpu.0 entry (λ new. index_after conf new word) may.holder may.call may.allows may.is_cpu valid long in
     record { entries = behind.entries; calls = behind.calls; few_objects = behind.few_objects; few_capabilities = behind.few_capabilities }
 event_length conf (Free cpu true) valid long may =
     stays conf long _ refl refl (end_counts conf long cpu.0 may ((valid.cpus cpu.0).alone (ap is_some may.in_act.is_current)))
