@@ -1,6 +1,7 @@
 pub mod ActCalls
 pub mod ActFits
 pub mod BoundKeeps
+pub mod Boxes
 pub mod CallEffects
 pub mod CallItems
 pub mod CallMakes
@@ -10,6 +11,12 @@ pub mod CallsGoOn
 pub mod CallsKeep
 pub mod CausesHeld
 pub mod ChangeLives
+pub mod CountsFit
+pub mod CourseEnds
+pub mod CoursePrograms
+pub mod CourseRounds
+pub mod CourseRuns
+pub mod CourseStays
 pub mod CpuMoves
 pub mod CpusRun
 pub mod DeathsOn
@@ -20,6 +27,9 @@ pub mod EntryReferences
 pub mod EventObjects
 pub mod EventRuns
 pub mod EventsKeep
+pub mod FewPins
+pub mod FewReferences
+pub mod FewRows
 pub mod Finding
 pub mod FreeCalls
 pub mod GivenCalls
@@ -39,6 +49,7 @@ pub mod GraceScans
 pub mod GraceSpares
 pub mod GraceTurn
 pub mod HolderCalls
+pub mod IndicesStay
 pub mod KillKeeps
 pub mod LeaveKeeps
 pub mod LengthBoot

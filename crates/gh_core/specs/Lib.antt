@@ -3,6 +3,7 @@ pub mod CallEvents
 pub mod Calls
 pub mod Committing
 pub mod Config
+pub mod Course
 pub mod Entries
 pub mod Events
 pub mod Grace
