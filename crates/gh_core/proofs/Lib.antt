@@ -12,6 +12,7 @@ pub mod ChangeLives
 pub mod CpuMoves
 pub mod CpusRun
 pub mod DeathsOn
+pub mod EntryBalance
 pub mod EntryCalls
 pub mod EntryKeeps
 pub mod EntryMoves
@@ -45,6 +46,7 @@ pub mod LookCalls
 pub mod LookKeeps
 pub mod NoPins
 pub mod OweKeeps
+pub mod Owing
 pub mod PartCalls
 pub mod PinCalls
 pub mod PinKeeps
