@@ -1,6 +1,7 @@
 pub mod ActCalls
 pub mod ActFits
 pub mod BoundKeeps
+pub mod CallEffects
 pub mod CallItems
 pub mod CallMakes
 pub mod CallMoves
@@ -41,6 +42,11 @@ pub mod GraceTurn
 pub mod HolderCalls
 pub mod KillKeeps
 pub mod LeaveKeeps
+pub mod LengthBoot
+pub mod LengthBound
+pub mod LengthCalls
+pub mod LengthEntries
+pub mod LengthKeeps
 pub mod Living
 pub mod LookCalls
 pub mod LookKeeps

@@ -49,7 +49,7 @@ use Rattle.gh_core.proofs.Places.{calls_within, looks_within}
 use Rattle.gh_core.proofs.RetiredSince.{given_serial}
 
 -- the entries of a history are counted
-entries_all : (s : State) (events : List Event) → (replay s events).entries ≡ s.entries + length events
+pub entries_all : (s : State) (events : List Event) → (replay s events).entries ≡ s.entries + length events
 entries_all s [] = omega arith
 entries_all s (event ∷ events) =
     let one : (after_event s event).entries ≡ s.entries + 1 = entry_counts s event event.entry in

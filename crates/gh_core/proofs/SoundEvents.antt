@@ -1,7 +1,6 @@
 -- Sound configurations: the start of each boot file, every event, every call that is given, and so
 -- every run.
-use Rattle.std.proofs.Common.{◌≡◌, ◌==◌, ◌<◌, ◌∙◌, ℕ, Bool, true, false, Option, Some, None, if◌then◌else◌, List, [], ◌∷◌, refl, subst, sym, ap, arith, fold, IsTrue}
-use Rattle.gh_base.specs.CapWord.{settings}
+use Rattle.std.proofs.Common.{◌≡◌, ◌==◌, ◌<◌, ◌∙◌, ℕ, Bool, true, false, Option, Some, None, if◌then◌else◌, List, [], ◌∷◌, length, refl, sym, ap, fold, IsTrue}
 use Rattle.gh_base.specs.declared.frame.Frame.{Frame}
 use Rattle.gh_invariant.proofs.BootValid.{boot_unretired}
 use Rattle.gh_model.specs.Boot.{after_line, boot_fits, boot_state, empty_state}
@@ -12,14 +11,16 @@ use Rattle.gh_model.specs.declared.entry.Entry.{Entry}
 use Rattle.gh_model.specs.declared.rows.ObjectRow.{ObjectRow}
 use Rattle.gh_model.specs.declared.state.State.{State}
 use Rattle.gh_core.specs.Bounded.{IsBounded}
-use Rattle.gh_core.specs.Calls.{HasCalls}
+use Rattle.gh_core.specs.Calls.{BeginsAtBoot, HasCalls}
 use Rattle.gh_core.specs.Config.{Config, Current, object_at, present, put}
 use Rattle.gh_core.specs.Entries.{index_after}
 use Rattle.gh_core.specs.Events.{Possible, after}
 use Rattle.gh_core.specs.HolderEvents.{kill_failed, with_turn, without_scans}
-use Rattle.gh_core.specs.Sound.{Does, Gives, Goes, IsSound, MayStep, Runs, Step, after_step, after_steps}
+use Rattle.gh_core.specs.Length.{HasLength, too_long}
+use Rattle.gh_core.specs.Sound.{Does, Gives, IsSound, MayStep, Runs, Step, after_step, after_steps}
 use Rattle.gh_core.specs.Start.{AreIndices, MayGive, given, new_cpu, start}
 use Rattle.gh_core.specs.TurnEvents.{committed_by}
+use Rattle.gh_core.specs.Words.{HasRoom}
 use Rattle.gh_core.specs.declared.event.Event.{Event}
 use Rattle.gh_core.specs.declared.event.Event.TheVariants.{Enter, Leave, Take, Look, Pin, Unpin, Undo, Kill, Commit, SetCap, Free, Scan, Revive, Join, Split}
 use Rattle.gh_core.proofs.BoundKeeps.{event_bounded}
@@ -32,6 +33,8 @@ use Rattle.gh_core.proofs.GivenKeeps.{given_keeps}
 use Rattle.gh_core.proofs.GraceGiven.{given_graced}
 use Rattle.gh_core.proofs.GraceTurn.{start_graced}
 use Rattle.gh_core.proofs.HolderCalls.{kill_keeps_calls, owe_keeps_calls, quit_keeps_calls, revive_keeps_calls, scan_keeps_calls, settle_keeps_calls}
+use Rattle.gh_core.proofs.LengthBound.{has_room, history_is_short, start_length}
+use Rattle.gh_core.proofs.LengthKeeps.{event_length, given_length}
 use Rattle.gh_core.proofs.LookCalls.{look_keeps_calls}
 use Rattle.gh_core.proofs.PartCalls.{commit_keeps_calls, set_cap_keeps_calls}
 use Rattle.gh_core.proofs.PinCalls.{pin_keeps_calls}
@@ -88,10 +91,14 @@ start_is_sound lines index fits indices =
       saw = free_saw;
       words = start_shows lines index fits indices;
       begins = none;
-      room = subst (λ (n : ℕ). n < settings) (sym none) (omega arith);
+      long = start_length lines index fits;
     }
 
 -- events
+
+-- the number of each entry fits into a word
+room_of : (conf : Config) → IsSound conf → HasRoom conf
+room_of conf sound = has_room conf sound.long sound.calls sound.begins
 
 -- every event keeps sound calls
 event_calls : (conf : Config) (event : Event) → IsSound conf → Possible conf event
@@ -100,7 +107,7 @@ event_calls conf (Enter cpu) sound may = enter_keeps_calls conf cpu.0 sound.call
 event_calls conf (Leave cpu) sound may = leave_keeps_calls conf cpu.0 sound.calls may
 event_calls conf (Take cpu) sound may = take_keeps_calls conf cpu.0 sound.calls may
 event_calls conf (Look cpu slot) sound may =
-    look_keeps_calls conf cpu.0 slot sound.calls sound.valid sound.words sound.room may sound.begins
+    look_keeps_calls conf cpu.0 slot sound.calls sound.valid sound.words (room_of conf sound) may sound.begins
 event_calls conf (Pin cpu object false) sound may =
     pin_keeps_calls conf cpu.0 object.0 sound.calls sound.references sound.valid may
 event_calls conf (Pin cpu object true) sound may = owe_keeps_calls conf object.0 sound.calls
@@ -159,22 +166,26 @@ boot_stays conf (Revive cpu object count) = refl
 boot_stays conf (Join cpu) = refl
 boot_stays conf (Split cpu) = refl
 
--- every event that goes keeps a sound configuration
+-- every event keeps a sound configuration
 pub event_keeps_sound : (conf : Config) (event : Event) → IsSound conf → Possible conf event
-    → Goes conf event → IsSound (after conf event)
-event_keeps_sound conf event sound may goes = record {
-  references = event_sound conf event sound.references sound.grace sound.state sound.valid.valid sound.words sound.room may;
-  grace = event_graced conf event sound.references sound.grace sound.state sound.valid.valid may;
-  state = event_keeps_state conf event sound.state may;
-  valid = event_keeps_valid conf event sound.valid may;
-  calls = event_calls conf event sound may;
-  order = event_in_order conf event sound.order sound.grace may;
-  between = event_between conf event sound may;
-  saw = event_saw conf event sound.saw;
-  words = event_shows conf event sound.references sound.state sound.valid sound.words goes may;
-  begins = ap (λ (boot : State). boot.entries) (boot_stays conf event) ∙ sound.begins;
-  room = goes;
-}
+    → IsSound (after conf event)
+event_keeps_sound conf event sound may =
+    let calls : HasCalls (after conf event) = event_calls conf event sound may in
+    let long : HasLength (after conf event) = event_length conf event sound.valid sound.long may in
+    let begins : BeginsAtBoot (after conf event) = ap (λ (boot : State). boot.entries) (boot_stays conf event) ∙ sound.begins in
+    record {
+      references = event_sound conf event sound.references sound.grace sound.state sound.valid.valid sound.words (room_of conf sound) may;
+      grace = event_graced conf event sound.references sound.grace sound.state sound.valid.valid may;
+      state = event_keeps_state conf event sound.state may;
+      valid = event_keeps_valid conf event sound.valid may;
+      calls = calls;
+      order = event_in_order conf event sound.order sound.grace may;
+      between = event_between conf event sound may;
+      saw = event_saw conf event sound.saw;
+      words = event_shows conf event sound.references sound.state sound.valid sound.words (has_room (after conf event) long calls begins) may;
+      begins = begins;
+      long = long;
+    }
 
 -- runs
 
@@ -192,13 +203,13 @@ given_keeps_sound conf at number frame sound may = record {
   saw = sound.saw;
   words = record { filled = sound.words.filled; attached = sound.words.attached; empty = sound.words.empty; within = sound.words.within };
   begins = sound.begins;
-  room = sound.room;
+  long = given_length conf at number frame sound.long may;
 }
 
 step_keeps_sound : (conf : Config) (step : Step) → IsSound conf → MayStep conf step
     → IsSound (after_step conf step)
 step_keeps_sound conf (Gives at number frame) sound may = given_keeps_sound conf at number frame sound may
-step_keeps_sound conf (Does event) sound may = event_keeps_sound conf event sound may.may may.goes
+step_keeps_sound conf (Does event) sound may = event_keeps_sound conf event sound may
 
 steps_keep_sound : (conf : Config) (steps : List Step) → IsSound conf → Runs conf steps
     → IsSound (after_steps conf steps)
@@ -213,10 +224,18 @@ pub run_is_sound : (lines : List BootLine) (index : ℕ → ℕ) (steps : List S
 run_is_sound lines index steps fits indices runs =
     steps_keep_sound (start (boot_state lines) index) steps (start_is_sound lines index fits indices) runs
 
+-- and its history short
+pub run_is_short : (lines : List BootLine) (index : ℕ → ℕ) (steps : List Step) → IsTrue (boot_fits lines)
+    → AreIndices (boot_state lines) index → Runs (start (boot_state lines) index) steps
+    → length (after_steps (start (boot_state lines) index) steps).history < too_long
+run_is_short lines index steps fits indices runs =
+    let sound : IsSound (after_steps (start (boot_state lines) index) steps) = run_is_sound lines index steps fits indices runs in
+    history_is_short (after_steps (start (boot_state lines) index) steps) sound.long sound.calls
+
 step_keeps_bound : (conf : Config) (step : Step) → IsBounded conf → MayStep conf step
     → IsBounded (after_step conf step)
 step_keeps_bound conf (Gives at number frame) bounded may = bounded
-step_keeps_bound conf (Does event) bounded may = event_bounded conf event bounded may.may
+step_keeps_bound conf (Does event) bounded may = event_bounded conf event bounded may
 
 -- and what is owed stays within its bound
 pub steps_keep_bound : (conf : Config) (steps : List Step) → IsBounded conf → Runs conf steps

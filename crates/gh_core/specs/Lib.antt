@@ -9,12 +9,15 @@ pub mod Grace
 pub mod HolderEvents
 pub mod Indices
 pub mod Items
+pub mod Length
 pub mod References
 pub mod Replayed
 pub mod Rising
+pub mod Running
 pub mod Sound
 pub mod Start
 pub mod Sweep
+pub mod Tables
 pub mod Trace
 pub mod TurnEvents
 pub mod ValidState

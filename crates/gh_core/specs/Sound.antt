@@ -11,11 +11,12 @@ use Rattle.gh_core.specs.Calls.{BeginsAtBoot, HasCalls, SawPins}
 use Rattle.gh_core.specs.Config.{Config, IsBetween}
 use Rattle.gh_core.specs.Events.{Possible, after}
 use Rattle.gh_core.specs.Grace.{AreBetween, HasGrace}
+use Rattle.gh_core.specs.Length.{HasLength}
 use Rattle.gh_core.specs.References.{HasReferences}
 use Rattle.gh_core.specs.Replayed.{HasState}
 use Rattle.gh_core.specs.Start.{MayGive, given}
 use Rattle.gh_core.specs.ValidState.{HasValid}
-use Rattle.gh_core.specs.Words.{HasRoom, ShowsWords}
+use Rattle.gh_core.specs.Words.{ShowsWords}
 use Rattle.gh_core.specs.declared.event.Event.{Event}
 
 -- the counters that entries keep are in order
@@ -51,28 +52,18 @@ pub record IsSound (conf : Config) : Type 0 where
   pub words : ShowsWords conf
   -- no entry was counted before the boot
   pub begins : BeginsAtBoot conf
-  -- and the number of each fits into a word
-  pub room : HasRoom conf
-
--- what is asked of an event beside that it is possible: an entry's number fits into a word. A bound
--- on the length of histories is to give it
-abbrev pub Goes : Config → Event → Type 0
-Goes conf event = HasRoom (after conf event)
+  -- and the history is no longer than its boot and its calls let it be
+  pub long : HasLength conf
 
 -- a step of a run: a CPU is given its call of this number, or an event
 pub data Step : Type 0 where
   Gives : ℕ → ℕ → Frame → Step
   Does : Event → Step
 
--- the event is possible and goes
-pub record MayGo (conf : Config) (event : Event) : Type 0 where
-  pub may : Possible conf event
-  pub goes : Goes conf event
-
 -- the step may come next
 abbrev pub MayStep : Config → Step → Type 0
 MayStep conf (Gives at number frame) = MayGive conf at number
-MayStep conf (Does event) = MayGo conf event
+MayStep conf (Does event) = Possible conf event
 
 -- the configuration behind a step
 abbrev pub after_step : Config → Step → Config

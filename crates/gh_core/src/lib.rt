@@ -3,14 +3,20 @@
 
 mod bounds;
 mod calls;
+mod config;
+mod cpu;
+mod current;
 mod entries;
 mod event;
 mod grace;
+mod holder;
 mod items;
+mod log;
 mod references;
 mod rising;
 mod sound;
 mod start;
+mod table;
 mod validity;
 mod words;
 
@@ -19,6 +25,7 @@ pub use calls::{
     enter_keeps_calls, free_keeps_calls, leave_keeps_calls, look_keeps_calls, pin_keeps_calls,
     quit_keeps_calls, take_keeps_calls, undo_keeps_calls, unpin_keeps_calls, words_keep_calls,
 };
+pub use config::Config;
 pub use entries::{
     boot_file_has_references, commit_keeps_references, events_keep_state, set_cap_keeps_references,
     start_has_state,

@@ -14,8 +14,9 @@ ghost use Rattle.gh_core.specs.Calls.{pinned_looks};
 ghost use Rattle.gh_core.specs.Config.{Config, Current, came_to, pin_of, present};
 ghost use Rattle.gh_core.specs.Events.{Possible, after};
 ghost use Rattle.gh_core.specs.Grace.{granting_at, holds_grant};
+ghost use Rattle.gh_core.specs.Length.{too_long};
 ghost use Rattle.gh_core.specs.References.{IsGranted, IsPinned, IsRow, owed_at, pins_at};
-ghost use Rattle.gh_core.specs.Sound.{Goes, IsAtRest, IsReclaimedBehind, IsSound, Runs, Step, after_steps, made_by};
+ghost use Rattle.gh_core.specs.Sound.{IsAtRest, IsReclaimedBehind, IsSound, Runs, Step, after_steps, made_by};
 ghost use Rattle.gh_core.specs.Start.{AreIndices, MayGive, given, start};
 ghost use Rattle.gh_core.specs.declared.event.Event.{Event};
 ghost use Rattle.gh_core.specs.declared.event.Event.TheVariants.{Commit, Look, Revive};
@@ -41,10 +42,10 @@ pub fn start_is_sound()
         → AreIndices (boot_state lines) index → IsSound (start (boot_state lines) index) }
 {}
 
-/// Every possible event keeps a sound configuration, where the premises that are left hold of it.
+/// Every possible event keeps a sound configuration.
 pub fn events_keep_sound()
     ensures { (conf : Config) (event : Event) → IsSound conf → Possible conf event
-        → Goes conf event → IsSound (after conf event) }
+        → IsSound (after conf event) }
 {}
 
 /// So does a call that a CPU is given.
@@ -66,6 +67,18 @@ pub fn runs_are_sound()
 pub fn runs_are_bounded()
     ensures { (boot : State) (index : ℕ → ℕ) (steps : List Step) → FewReferences boot index
         → Runs (start boot index) steps → IsBounded (after_steps (start boot index) steps) }
+{}
+
+/// No history is as long as 12,500,000 entries: neither that of a sound configuration, nor that of any
+/// list of such steps from a boot file on. An act is one of a call, of which a CPU has 458,752 at
+/// most; and retirements, reclaims and parts are counted against objects and capabilities, of which a
+/// boot file has few and an act makes one.
+pub fn histories_are_short()
+    ensures sound { (conf : Config) → IsSound conf → length conf.history < too_long }
+    ensures runs { (lines : List BootLine) (index : ℕ → ℕ) (steps : List Step)
+        → IsTrue (boot_fits lines) → AreIndices (boot_state lines) index
+        → Runs (start (boot_state lines) index) steps
+        → length (after_steps (start (boot_state lines) index) steps).history < too_long }
 {}
 
 /// The word of a live object that isn't dead is its references, all pins on it and what the holder

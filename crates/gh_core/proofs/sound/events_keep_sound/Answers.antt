@@ -3,4 +3,4 @@ use Rattle.gh_core.proofs.SoundEvents.{event_keeps_sound}
 use Rattle.gh_core.proofs.sound.events_keep_sound.Goals as goal
 
 pub returns : goal.returns
-returns c = λ conf event sound may goes. event_keeps_sound conf event sound may goes
+returns c = λ conf event sound may. event_keeps_sound conf event sound may
