@@ -43,9 +43,13 @@ use Rattle.gh_invariant.proofs.SetsOne.{keeps_objects}
 
 use Rattle.gh_core.specs.HolderEvents.{is_create}
 
--- what the decision makes leaves the objects that live
+-- what the decision makes leaves the objects that live, by three changes at most
+abbrev pub is_few : List Change → Bool
+is_few changes = nat_le (length changes) 3
+
 abbrev pub Keeps : Decision → Type 0
-Keeps decision = IsTrue (list_all keeps_objects (made_by decision))
+Keeps decision =
+    IsTrue (is_few (made_by decision) && list_all keeps_objects (made_by decision))
 
 module _ (s : State) where
   keeps_unless : (refused : Bool) (errno : Errno) (others : Decision) → Keeps others → Keeps (if refused then Refuse errno else others)

@@ -38,6 +38,15 @@ count_at index serials at = count_by (is_indexed index at) serials
 
 -- objects that live, by their indices
 
+-- what lives has a serial
+pub lives_some : (old : State) → IsValid old → (object : ℕ) → lives old.objects object ≡ true
+    → 0 < object
+lives_some old valid object alive =
+    elim (eqb_tells object 0) as (λ _. 0 < object) [
+      | inl none ↦ let one : RowOf old object = row_of old object alive in let found : 1 ≤ count_by (is_object 0) old.objects = found_one (is_object 0) old.objects one.row (subst (λ (n : ℕ). find (is_object n) old.objects ≡ Some one.row) (one.serial_is ∙ none.1) one.is_row) in absurd (omega (arith, found, valid.objects.none))
+      | inr some ↦ omega (arith, some.1)
+    ]
+
 module _ (s : State) (index : ℕ → ℕ) (indices : AreIndices s index) where
   same_index : (object : ℕ) (serial : Serial) → lives s.objects object ≡ true
       → lives s.objects serial.0 ≡ true
@@ -156,21 +165,12 @@ pub record Births (s new : State) (index later extra : ℕ → ℕ) (gains losse
 
 module _ (s new : State) (index later extra : ℕ → ℕ) (gains losses : List Serial)
     (births : Births s new index later extra gains losses) where
-  pub owed_gains : List Serial
+  unfoldable pub owed_gains : List Serial
   owed_gains = filter (is_made s.next_serial) gains
 
   gains_alive : AllLive s.objects owed_gains
   unfolding owed_gains
   gains_alive = made_live s s.next_serial gains births.gained
-
-  -- what lives has a serial
-  pub lives_some : (old : State) → IsValid old → (object : ℕ) → lives old.objects object ≡ true
-      → 0 < object
-  lives_some old valid object alive =
-      elim (eqb_tells object 0) as (λ _. 0 < object) [
-        | inl none ↦ let one : RowOf old object = row_of old object alive in let found : 1 ≤ count_by (is_object 0) old.objects = found_one (is_object 0) old.objects one.row (subst (λ (n : ℕ). find (is_object n) old.objects ≡ Some one.row) (one.serial_is ∙ none.1) one.is_row) in absurd (omega (arith, found, valid.objects.none))
-        | inr some ↦ omega (arith, some.1)
-      ]
 
   -- the indices behind the entry
   unique_by : (object other : ℕ) → (lives s.objects object ≡ true) ⊎ IsNewAt s index later extra gains object
@@ -232,7 +232,7 @@ module _ (s new : State) (index later extra : ℕ → ℕ) (gains losses : List 
           absurd (other_there found is (births.came found.serial.0 (there_lives new later (index object) found is)))
 
   -- what is owed at an index before the entry
-  pub owed_there : ℕ → ℕ
+  unfoldable pub owed_there : ℕ → ℕ
   owed_there at = count_at index owed_gains at + extra at
 
   abbrev pub Balanced : ℕ → Type 0

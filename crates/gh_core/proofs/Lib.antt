@@ -10,6 +10,7 @@ pub mod CallsGoOn
 pub mod CallsKeep
 pub mod CausesHeld
 pub mod ChangeLives
+pub mod Commits
 pub mod CpuMoves
 pub mod CpusRun
 pub mod DeathsOn
@@ -21,6 +22,7 @@ pub mod EntryReferences
 pub mod EventObjects
 pub mod EventRuns
 pub mod EventsKeep
+pub mod FewReferences
 pub mod Finding
 pub mod FreeCalls
 pub mod GivenCalls

@@ -19,13 +19,9 @@ use Rattle.gh_core.specs.Trace.{after_all}
 use Rattle.gh_core.specs.declared.event.Event.{Event}
 use Rattle.gh_core.proofs.EntryBalance.{count_at, is_indexed}
 use Rattle.gh_core.proofs.Finding.{put_here, put_other, same_number}
+use Rattle.gh_core.proofs.SoundEvents.{event_keeps_sound}
 use Rattle.gh_core.proofs.TraceLaws.{Leads, leads_none}
 use Rattle.gh_core.proofs.WordsMove.{with_words}
-
--- every event keeps a sound configuration
-abbrev pub KeepsSound : Type 0
-KeepsSound = (conf : Config) (event : Event) → IsSound conf → Possible conf event
-    → IsSound (after conf event)
 
 -- the amounts that the holder owes, and the counts with them
 abbrev pub with_amounts : Holder → (ℕ → ℕ) → Holder
@@ -56,8 +52,7 @@ AllWithin base [] = ⊤
 AllWithin base (serial ∷ serials) =
     (base.index serial.0 < OBJECT_INDICES) × AllWithin base serials
 
-module _ (base : Config) (holder : Holder) (at : ℕ) (is_cpu : at < CPUS) (its : holder.cpu ≡ at)
-    (keeps : KeepsSound) where
+module _ (base : Config) (holder : Holder) (at : ℕ) (is_cpu : at < CPUS) (its : holder.cpu ≡ at) where
   turn_of : (count owed : ℕ → ℕ) → HasTurn (at_owed base holder count owed) at (with_amounts holder owed)
   turn_of count owed = record { turn = refl; its_cpu = its }
 
@@ -111,7 +106,7 @@ module _ (base : Config) (holder : Holder) (at : ℕ) (is_cpu : at < CPUS) (its 
       let amounts : ℕ → ℕ = put owed (base.index serial.0) (owed (base.index serial.0) + 1) in
       let rest : Leads (at_owed base holder more amounts) (map (owe at base.index) serials) (IsOwing base holder (λ i. amounts i + count_at base.index serials i)) =
       owes_lead serials more amounts owable.1 (room_on owed (base.index serial.0) (length serials) (λ i. omega (arith, room i)))
-      (keeps (at_owed base holder count owed) (owe at base.index serial) sound may) in
+      (event_keeps_sound (at_owed base holder count owed) (owe at base.index serial) sound may) in
       record {
         done = (may, rest.done);
         behind = (let last : IsOwing base holder (λ i. amounts i + count_at base.index serials i) (after_all (at_owed base holder more amounts) (map (owe at base.index) serials)) = rest.behind in
@@ -186,5 +181,5 @@ module _ (base : Config) (holder : Holder) (at : ℕ) (is_cpu : at < CPUS) (its 
         let rest : ℕ → ℕ = put owed (base.index serial.0) (owed (base.index serial.0) - 1) in
         let on : Leads (at_owed base holder less rest) (map (settle at base.index) serials) (IsOwing base holder (λ i. 0)) =
         settles_lead serials less rest within.1 (one_less_at owed serial serials amounts)
-        (keeps (at_owed base holder count owed) (settle at base.index serial) sound may) in
+        (event_keeps_sound (at_owed base holder count owed) (settle at base.index serial) sound may) in
         record { done = (may, on.done); behind = on.behind }
