@@ -43,6 +43,7 @@ pub mod GraceSpares
 pub mod GraceTurn
 pub mod HolderCalls
 pub mod KillKeeps
+pub mod KilledNone
 pub mod LeaveKeeps
 pub mod LengthBoot
 pub mod LengthBound
@@ -63,6 +64,7 @@ pub mod RetiredSince
 pub mod ReviveKeeps
 pub mod RisingRows
 pub mod SawPins
+pub mod Scanning
 pub mod SetCapWords
 pub mod SlotHomes
 pub mod SlotsCame
@@ -78,6 +80,8 @@ pub mod StartCalls
 pub mod StartSound
 pub mod StartWords
 pub mod StateKeeps
+pub mod SweepKills
+pub mod SweepSteps
 pub mod TakeCalls
 pub mod TakeKeeps
 pub mod TraceLaws
