@@ -81,6 +81,7 @@ pub mod StartSound
 pub mod StartWords
 pub mod StateKeeps
 pub mod SweepKills
+pub mod SweepRounds
 pub mod SweepSteps
 pub mod TakeCalls
 pub mod TakeKeeps

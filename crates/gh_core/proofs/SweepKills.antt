@@ -48,6 +48,24 @@ grew_on a b c Fact first (inr still) =
     subst (λ (events : List history.Event). Grew a (record c { history = events })) (sym log)
     (subst (λ (one : State). Grew a (record c { history = b.history; boot = one })) (sym boot) (record { entries = first.entries; left = first.left }))
 
+-- entries were added behind where nothing changed
+pub still_grew : (a b c : Config) → IsStill a b → Grew b c → Grew a c
+still_grew a b c still more =
+    let log : b.history ≡ a.history = still.history in
+    let boot : b.boot ≡ a.boot = still.boot in
+    let go : Grew (record b { history = a.history; boot = a.boot }) c =
+    subst (λ (events : List history.Event). Grew (record b { history = events; boot = a.boot }) c) log
+    (subst (λ (one : State). Grew (record b { boot = one }) c) boot more) in
+    record { entries = go.entries; left = go.left }
+
+pub still_still : (a b c : Config) → IsStill a b → IsStill b c → IsStill a c
+still_still a b c first more = record {
+  history = more.history ∙ first.history;
+  boot = more.boot ∙ first.boot;
+  counter = more.counter ∙ first.counter;
+  failed = λ serial some. more.failed serial (first.failed serial some);
+}
+
 -- the holder scanned, and all else is as it was
 pub scanned_on : (conf : Config) (at : ℕ) (call : Current) (sweeping : IsSweeping conf at call) (new : Config)
     → ScansTo conf sweeping.holder sweeping.holder.scans 0 CPUS new → IsScanned new at call
@@ -205,16 +223,6 @@ module _ (at : ℕ) (call : Current) (serial : Serial) where
         },
         record { history = refl; boot = refl; counter = refl; failed = λ x some. sym (ap (λ (turn : Option Holder). is_some (failed_of turn x)) dying.active.has_turn.turn) ∙ some },
       )
-
-  -- entries were added behind where nothing changed
-  still_grew : (a b c : Config) → IsStill a b → Grew b c → Grew a c
-  still_grew a b c still more =
-      let log : b.history ≡ a.history = still.history in
-      let boot : b.boot ≡ a.boot = still.boot in
-      let go : Grew (record b { history = a.history; boot = a.boot }) c =
-      subst (λ (events : List history.Event). Grew (record b { history = events; boot = a.boot }) c) log
-      (subst (λ (one : State). Grew (record b { boot = one }) c) boot more) in
-      record { entries = go.entries; left = go.left }
 
   abbrev Done : Config → Config → Type 0
   Done conf new = IsScanned new at call × Grew conf new
