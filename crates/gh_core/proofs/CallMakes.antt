@@ -38,9 +38,7 @@ use Rattle.gh_model.specs.declared.rows.PartitionRow.{PartitionRow}
 use Rattle.gh_model.specs.declared.state.State.{State}
 use Rattle.gh_model.specs.declared.state_reads.QueueFill.{QueueFill}
 use Rattle.gh_invariant.specs.Events.{made_by}
-
 use Rattle.gh_invariant.proofs.SetsOne.{keeps_objects}
-
 use Rattle.gh_core.specs.HolderEvents.{is_create}
 
 -- what the decision makes leaves the objects that live, by three changes at most

@@ -215,8 +215,7 @@ module _ (conf : Config) (at : ℕ) (entry : Entry) (holder : Holder) (call : Cu
   owable [] all referred = tt
   owable (serial ∷ serials) all referred =
       let alive = and_parts (lives_here s.objects serial) (list_all (lives_here s.objects) serials) all in
-      let has = and_parts (is_referred s serial) (list_all (is_referred s) serials) referred in
-      (
+      let has = and_parts (is_referred s serial) (list_all (is_referred s) serials) referred in (
         record { within = active.sound.state.within serial.0 alive.0; alive = alive_by serial alive.0 has.0 (conf.dead (conf.index serial.0)) refl },
         owable serials alive.1 has.1,
       )

@@ -81,11 +81,13 @@ pub mod StartSound
 pub mod StartWords
 pub mod StateKeeps
 pub mod SweepKills
+pub mod SweepLaw
 pub mod SweepRounds
 pub mod SweepSteps
 pub mod TakeCalls
 pub mod TakeKeeps
 pub mod TraceLaws
+pub mod TraceSound
 pub mod TurnCalls
 pub mod TurnKeeps
 pub mod UndoKeeps

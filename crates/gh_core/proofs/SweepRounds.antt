@@ -41,9 +41,9 @@ AllFacts Fact (x ∷ xs) new = Fact x new × AllFacts Fact xs new
 module _ (at : ℕ) (call : Current) (plan : Serial → Config → List Event)
     (Fact : Serial → Config → Type 0)
     (each : (x : Serial) (conf : Config) → IsScanned conf at call
-        → Leads conf (plan x conf) (λ new. IsScanned new at call × Steps conf (Fact x) new))
+    → Leads conf (plan x conf) (λ new. IsScanned new at call × Steps conf (Fact x) new))
     (stable : (x : Serial) (conf new : Config) → IsScanned conf at call → IsScanned new at call
-        → IsStill conf new → Fact x conf → Fact x new) where
+    → IsStill conf new → Fact x conf → Fact x new) where
   joined : (conf mid new : Config) (x : Serial) (xs : List Serial) → IsScanned mid at call
       → IsScanned new at call → Steps conf (Fact x) mid → Steps mid (AllFacts Fact xs) new
       → Steps conf (AllFacts Fact (x ∷ xs)) new
