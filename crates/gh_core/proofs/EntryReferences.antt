@@ -10,6 +10,7 @@ use Rattle.gh_model.specs.Act.{counted, grants_of}
 use Rattle.gh_model.specs.Changes.{changed, changed_all}
 use Rattle.gh_model.specs.Decide.{has_moved, verdict}
 use Rattle.gh_model.specs.History.{Event, after_entry, after_event, after_verdict, is_retired, is_unretired, may_act, may_part, numbered, took}
+use Rattle.gh_model.specs.Legal.{is_revoke}
 use Rattle.gh_model.specs.References.{is_doomed, references}
 use Rattle.gh_model.specs.Rows.{fills, is_object, object_row}
 use Rattle.gh_model.specs.declared.change.Change.{Change}
@@ -37,7 +38,7 @@ use Rattle.gh_core.specs.Committing.{added, adds, is_made}
 use Rattle.gh_core.specs.Config.{is_acted}
 use Rattle.gh_core.specs.Entries.{or_else, slot_set}
 use Rattle.gh_core.specs.HolderEvents.{is_create}
-use Rattle.gh_core.proofs.CallMakes.{Makes, MakesNew, decision_makes, is_few}
+use Rattle.gh_core.proofs.CallMakes.{Makes, MakesNew, decision_makes, keeps_all}
 use Rattle.gh_core.proofs.ChangeLives.{AllLive, both_live, gains_live, lives_here, losses_live, sets_lives}
 use Rattle.gh_core.proofs.EntryKeeps.{lives_same, none_of}
 use Rattle.gh_core.proofs.EventObjects.{Goes, IsReclaimed, IsRetired, change_life, changes_life, entry_goes, life}
@@ -284,8 +285,8 @@ module _ (s : State) (event : Event) (valid : IsValid s) where
       → ReclaimsOne s (if allowed then after_verdict s (verdict s decision) else numbered s) (if allowed then made_by decision else [])
       ⊎ ((is_create event.call ≡ true) × MakesNew s (grants_of event.call event.words) (if allowed then made_by decision else []))
   acted_makes cpu number allowed decision may calls (inl keep) =
-      let parts = and_parts (is_few (made_by decision)) (list_all keeps_objects (made_by decision)) keep in
-      inl (by_keeps _ (if allowed then made_by decision else []) may calls (if_keeps allowed (made_by decision) parts.1) (behind_lived s allowed decision parts.1))
+      let all : IsTrue (list_all keeps_objects (made_by decision)) = keeps_all (is_revoke event.call) decision keep in
+      inl (by_keeps _ (if allowed then made_by decision else []) may calls (if_keeps allowed (made_by decision) all) (behind_lived s allowed decision all))
   acted_makes cpu number true decision may calls (inr makes) = inr makes
   acted_makes cpu number false decision may calls (inr makes) =
       inl (record { none = refl; gained = refl; lost = refl; lived = λ serial alive. alive; home = λ place is. absurd (let never : ⊥ = cc in never) })

@@ -12,6 +12,7 @@ use Rattle.gh_model.specs.Act.{grants_of}
 use Rattle.gh_model.specs.Changes.{changed}
 use Rattle.gh_model.specs.Decide.{has_moved}
 use Rattle.gh_model.specs.History.{Event, after_event, is_retired, is_unretired, may_act, may_part, replay}
+use Rattle.gh_model.specs.Legal.{is_revoke}
 use Rattle.gh_model.specs.QueueCalls.{one_if}
 use Rattle.gh_model.specs.References.{is_doomed, references}
 use Rattle.gh_model.specs.Rows.{fills, object_row}
@@ -33,7 +34,7 @@ use Rattle.gh_core.specs.Committing.{HasFewReferences}
 use Rattle.gh_core.specs.Config.{Config, live_references, object_at, present}
 use Rattle.gh_core.specs.Length.{too_long}
 use Rattle.gh_core.specs.Sound.{IsSound}
-use Rattle.gh_core.proofs.CallMakes.{Makes, decision_makes, is_few}
+use Rattle.gh_core.proofs.CallMakes.{Makes, decision_makes, is_few, keeps_few}
 use Rattle.gh_core.proofs.EntryMoves.{there_lives}
 use Rattle.gh_core.proofs.EntryBalance.{lives_some}
 use Rattle.gh_core.proofs.EntryReferences.{event_moved}
@@ -102,7 +103,7 @@ few_by false changes few = omega arith
 decision_few : (s : State) (event : Event) (decision : Decision)
     → Makes s event.call (grants_of event.call event.words) decision → length (made_by decision) ≤ 3
 decision_few s event decision (inl keep) =
-    let few : is_few (made_by decision) ≡ true = (and_parts (is_few (made_by decision)) (list_all keeps_objects (made_by decision)) keep).0 in
+    let few : is_few (made_by decision) ≡ true = keeps_few (is_revoke event.call) decision keep in
     grind (arith, nat_tests)
 decision_few s event decision (inr makes) =
     let two : length (made_by decision) ≡ 2 = ap length makes.1.is in

@@ -1,4 +1,5 @@
 pub mod ActCalls
+pub mod Acting
 pub mod ActFits
 pub mod BoundKeeps
 pub mod CallEffects
@@ -89,6 +90,7 @@ pub mod TakeKeeps
 pub mod TraceLaws
 pub mod TraceSound
 pub mod TurnCalls
+pub mod TurnItems
 pub mod TurnKeeps
 pub mod UndoKeeps
 pub mod UnpinKeeps
