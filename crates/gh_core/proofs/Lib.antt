@@ -1,5 +1,6 @@
 pub mod ActCalls
 pub mod ActFits
+pub mod Acting
 pub mod BoundKeeps
 pub mod Boxes
 pub mod CallEffects
@@ -11,6 +12,7 @@ pub mod CallsGoOn
 pub mod CallsKeep
 pub mod CausesHeld
 pub mod ChangeLives
+pub mod Commits
 pub mod CountsFit
 pub mod CourseEnds
 pub mod CoursePrograms
@@ -20,6 +22,7 @@ pub mod CourseStays
 pub mod CpuMoves
 pub mod CpusRun
 pub mod DeathsOn
+pub mod EntryBalance
 pub mod EntryCalls
 pub mod EntryKeeps
 pub mod EntryMoves
@@ -27,6 +30,7 @@ pub mod EntryReferences
 pub mod EventObjects
 pub mod EventRuns
 pub mod EventsKeep
+pub mod FewGains
 pub mod FewPins
 pub mod FewReferences
 pub mod FewRows
@@ -51,6 +55,7 @@ pub mod GraceTurn
 pub mod HolderCalls
 pub mod IndicesStay
 pub mod KillKeeps
+pub mod KilledNone
 pub mod LeaveKeeps
 pub mod LengthBoot
 pub mod LengthBound
@@ -62,6 +67,7 @@ pub mod LookCalls
 pub mod LookKeeps
 pub mod NoPins
 pub mod OweKeeps
+pub mod Owing
 pub mod PartCalls
 pub mod PinCalls
 pub mod PinKeeps
@@ -70,6 +76,7 @@ pub mod RetiredSince
 pub mod ReviveKeeps
 pub mod RisingRows
 pub mod SawPins
+pub mod Scanning
 pub mod SetCapWords
 pub mod SlotHomes
 pub mod SlotsCame
@@ -85,10 +92,16 @@ pub mod StartCalls
 pub mod StartSound
 pub mod StartWords
 pub mod StateKeeps
+pub mod SweepKills
+pub mod SweepLaw
+pub mod SweepRounds
+pub mod SweepSteps
 pub mod TakeCalls
 pub mod TakeKeeps
 pub mod TraceLaws
+pub mod TraceSound
 pub mod TurnCalls
+pub mod TurnItems
 pub mod TurnKeeps
 pub mod UndoKeeps
 pub mod UnpinKeeps
