@@ -2,6 +2,7 @@ pub mod ActCalls
 pub mod ActFits
 pub mod BoundKeeps
 pub mod CallMoves
+pub mod CallTests
 pub mod CallsEnd
 pub mod CallsGoOn
 pub mod CallsKeep
@@ -34,11 +35,14 @@ pub mod GraceScans
 pub mod GraceSpares
 pub mod GraceTurn
 pub mod HolderCalls
+pub mod HolderTests
 pub mod KillKeeps
 pub mod LeaveKeeps
 pub mod Living
+pub mod LogLemmas
 pub mod LookCalls
 pub mod LookKeeps
+pub mod LookRoom
 pub mod NoPins
 pub mod OweKeeps
 pub mod PartCalls
@@ -63,10 +67,12 @@ pub mod StartCalls
 pub mod StartSound
 pub mod StartWords
 pub mod StateKeeps
+pub mod TableLemmas
 pub mod TakeCalls
 pub mod TakeKeeps
 pub mod TurnCalls
 pub mod TurnKeeps
+pub mod TurnTests
 pub mod UndoKeeps
 pub mod UnpinKeeps
 pub mod ValidCalls

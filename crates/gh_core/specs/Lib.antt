@@ -12,6 +12,7 @@ pub mod Running
 pub mod Sound
 pub mod Start
 pub mod Tables
+pub mod Tests
 pub mod TurnEvents
 pub mod ValidState
 pub mod Words
