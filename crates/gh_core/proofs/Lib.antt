@@ -7,6 +7,7 @@ pub mod CallEffects
 pub mod CallItems
 pub mod CallMakes
 pub mod CallMoves
+pub mod CallTests
 pub mod CallsEnd
 pub mod CallsGoOn
 pub mod CallsKeep
@@ -53,6 +54,7 @@ pub mod GraceScans
 pub mod GraceSpares
 pub mod GraceTurn
 pub mod HolderCalls
+pub mod HolderTests
 pub mod IndicesStay
 pub mod KillKeeps
 pub mod KilledNone
@@ -63,8 +65,10 @@ pub mod LengthCalls
 pub mod LengthEntries
 pub mod LengthKeeps
 pub mod Living
+pub mod LogLemmas
 pub mod LookCalls
 pub mod LookKeeps
+pub mod LookRoom
 pub mod NoPins
 pub mod OweKeeps
 pub mod Owing
@@ -96,6 +100,7 @@ pub mod SweepKills
 pub mod SweepLaw
 pub mod SweepRounds
 pub mod SweepSteps
+pub mod TableLemmas
 pub mod TakeCalls
 pub mod TakeKeeps
 pub mod TraceLaws
@@ -103,6 +108,7 @@ pub mod TraceSound
 pub mod TurnCalls
 pub mod TurnItems
 pub mod TurnKeeps
+pub mod TurnTests
 pub mod UndoKeeps
 pub mod UnpinKeeps
 pub mod ValidCalls

@@ -19,6 +19,7 @@ pub mod Sound
 pub mod Start
 pub mod Sweep
 pub mod Tables
+pub mod Tests
 pub mod Trace
 pub mod TurnEvents
 pub mod ValidState

@@ -1,7 +1,9 @@
 //! The machine of all interleavings: its configurations and its events, one atomic step each.
 #![tactic(auto)]
 
+mod acts;
 mod bounds;
+mod call_events;
 mod calls;
 mod config;
 mod course;
@@ -11,13 +13,18 @@ mod entries;
 mod event;
 mod grace;
 mod holder;
+mod holder_events;
+mod indices;
 mod items;
 mod log;
+mod lookups;
+mod reads;
 mod references;
 mod rising;
 mod sound;
 mod start;
 mod table;
+mod turn_events;
 mod validity;
 mod words;
 
