@@ -1,0 +1,16 @@
+mod BodyChangeLemmas
+mod BodyLemmas
+mod FoundRows
+mod IndexLemmas
+mod Options
+mod QueueChanges
+mod QueueLemmas
+mod Reindexed
+mod SharesLemmas
+mod SlotLemmas
+mod StandsBells
+mod StandsBodies
+mod StandsCounts
+mod StandsObjects
+mod StandsOwed
+mod StandsQueues

@@ -1,0 +1,67 @@
+//! The slots of one capability space: their words, and the serials that the words' indices stand
+//! for.
+
+ghost use Rattle.std.specs.Prelude.{◌≡◌, position};
+ghost use Rattle.gh_cspace.specs.Cspace.{IsFreeSlot};
+ghost use Rattle.gh_model.specs.Rows.{change_row};
+ghost use Rattle.gh_state.specs.Slots.{filled, is_home, new_slots, words_of};
+
+use gh_base::{CSPACE_SLOTS, CapWord, Sequence, Serial};
+use gh_cspace::Cspace;
+
+/// How many slots a capability space has; slot `s` lies at place `s - 1`.
+const PLACES: usize = CSPACE_SLOTS as usize;
+
+/// The slots of a capability space. A word names its object by the index, which is given to another
+/// object behind a reclaim; the serial stays that of the word's own.
+#[derive(Debug, Drop)]
+pub struct Slots {
+    pub cspace: Serial,
+    pub words: Cspace,
+    pub names: [Serial; PLACES],
+}
+
+impl Slots {
+    /// Slots that are all free, set by no entry.
+    pub fn new(cspace: Serial) -> Slots
+        ensures { result ≡ new_slots cspace }
+    {
+        Slots {
+            cspace,
+            words: Cspace::new(),
+            names: [Serial(0); PLACES],
+        }
+    }
+
+    /// Fills a free slot with a word of the object.
+    fn fill(&mut self, slot: u8, word: CapWord, object: Serial)
+        requires { IsFreeSlot self.old.words slot }
+        ensures { self.new ≡ filled slot word object self.old }
+    {
+        self.words.insert(slot, word);
+        self.names[slot as usize - 1] = object;
+    }
+}
+
+/// The place of a capability space's slots in the list of all.
+fn home(all: &[Slots], cspace: Serial) -> Option<usize>
+    ensures { result ≡ position (is_home cspace.0) all.now }
+{
+    all.iter().position(|slots| slots.cspace == cspace)
+}
+
+/// Fills a free slot of a capability space with a word of the object.
+pub(crate) fn fill_slot(
+    all: &mut Sequence<Slots>,
+    cspace: Serial,
+    slot: u8,
+    word: CapWord,
+    object: Serial,
+)
+    requires { IsFreeSlot (words_of all.old cspace.0) slot }
+    ensures { all.new ≡ change_row (is_home cspace.0) (filled slot word object) all.old }
+{
+    if let Some(at) = home(all.as_slice(), cspace) {
+        all.as_mut_slice()[at].fill(slot, word, object);
+    }
+}
