@@ -94,8 +94,8 @@ module _ (headers : List (Option Header)) (counts : List (Option Count)) (s : St
       ]
 
   -- the counts stand for the references and the other list
-  pub recounted : ReferencesStand headers now after s
-  recounted = record {
+  pub references_recounted : ReferencesStand headers now after s
+  references_recounted = record {
     each = λ x.
         elim (cases_eq x object) [
           | inl same ↦

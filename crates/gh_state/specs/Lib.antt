@@ -1,7 +1,9 @@
 pub mod Bodies
 pub mod BodyChanges
 pub mod Index
+pub mod Making
 pub mod Owing
 pub mod Shares
+pub mod SlotChanges
 pub mod Slots
 pub mod Stands

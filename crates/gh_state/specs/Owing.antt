@@ -1,15 +1,33 @@
--- References that are counted and not in the rows, in the midst of a change, and how many can be.
-use Rattle.std.specs.Prelude.{◌+◌, ◌-◌, ◌<◌, ◌^◌, ℕ, List}
+-- References that are counted and not in the rows, in the midst of a change.
+use Rattle.std.specs.Prelude.{◌≡◌, ℕ, Option, Some, None, IfSome}
 use Rattle.gh_base.specs.declared.ids.Serial.{Serial}
-use Rattle.gh_invariant.specs.Effects.{times}
-use Rattle.gh_model.specs.References.{references}
-use Rattle.gh_model.specs.declared.state.State.{State}
+use Rattle.gh_objects.specs.Counts.{count_at, count_changed, without_reference}
+use Rattle.gh_objects.specs.Headers.{header_at}
+use Rattle.gh_objects.specs.declared.count.Count.{Count}
+use Rattle.gh_state.specs.Index.{AreIndexed, index_of}
+use Rattle.gh_state.specs.declared.parts.Parts.{Parts}
 
--- the rows of the state, and the references that are counted beside them, once for each
-pub record Owing : Type 0 where
-  pub owed : List Serial
-  pub rows : State
+-- the count of the live object with this serial
+abbrev pub count_for : Parts → ℕ → Option Count
+count_for parts serial = count_at parts.journal.counts (index_of parts.table.headers serial)
 
--- one reference more to the object fits 64 bits
-abbrev pub IsCountable : Owing → ℕ → Type 0
-IsCountable at object = references at.rows object + times object at.owed < 2 ^ 64 - 1
+-- the parts with the count of an object changed
+abbrev pub recounted : (Count → Count) → Parts → ℕ → Parts
+recounted change parts serial = record parts {
+  journal = record (parts.journal) {
+    counts = count_changed change parts.journal.counts (index_of parts.table.headers serial);
+  };
+}
+
+-- an object is found by its serial, no count is where no object is, and the object's count, if there
+-- is the object, is so
+pub record HasCount (parts : Parts) (serial : ℕ) (is : ℕ → Type 0) : Type 0 where
+  pub indexed : AreIndexed parts.table.headers
+  pub bare : (index : ℕ) → header_at parts.table.headers index ≡ None
+      → count_at parts.journal.counts index ≡ None
+  pub count : IfSome (count_for parts serial) (λ (count : Count). is count.references)
+
+-- the parts with a reference less counted to an object that is named
+abbrev pub settled : Option Serial → Parts → Parts
+settled None parts = parts
+settled (Some object) parts = recounted without_reference parts object.0

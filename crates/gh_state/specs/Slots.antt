@@ -1,12 +1,12 @@
 -- The slots of the live capability spaces: a list with one set of slots for each of them, and how a
 -- slot in it is filled, emptied and revoked.
-use Rattle.std.specs.Prelude.{◌≡◌, ◌==◌, ◌-◌, ℕ, Bool, List, [], Option, find, replicate, slice_index_or, slice_set}
+use Rattle.std.specs.Prelude.{◌≡◌, ◌==◌, ◌-◌, ℕ, Bool, false, List, [], Option, Some, None, find, replicate, slice_index_or, slice_set, if◌then◌else◌}
 use Rattle.std.specs.Option.{option_map_or}
-use Rattle.gh_base.specs.CapWord.{revoked_bits}
+use Rattle.gh_base.specs.CapWord.{state_of}
 use Rattle.gh_base.specs.declared.cap_word.CapWord.{CapWord}
 use Rattle.gh_base.specs.declared.ids.Serial.{Serial}
 use Rattle.gh_base.specs.declared.limits.TheConstants.{CSPACE_SLOTS}
-use Rattle.gh_cspace.specs.Cspace.{never_set, empty_word, revoked_word, with_word, word_at}
+use Rattle.gh_cspace.specs.Cspace.{IsSlot, empty_word, is_free, is_valid, never_set, revoked_word, with_word, word_at}
 use Rattle.gh_state.specs.declared.slots.Slots.{Slots}
 
 -- no object has this serial
@@ -58,3 +58,18 @@ word_in all cspace slot = word_at (words_of all cspace) slot
 
 abbrev pub name_in : List Slots → ℕ → ℕ → Serial
 name_in all cspace slot = slice_index_or (names_of all cspace) (slot - 1) no_serial
+
+-- the slot is filled
+pub record IsFilledSlot (words : List CapWord) (slot : ℕ) : Type 0 where
+  pub within : IsSlot slot
+  pub filled : is_free (word_at words slot) ≡ false
+
+-- the object of the valid capability in a slot, if there is one
+abbrev pub granted_in : ℕ → Slots → Option Serial
+granted_in slot slots =
+    if is_valid (state_of (word_at slots.words slot).0)
+    then Some (slice_index_or slots.names (slot - 1) no_serial) else None
+
+abbrev pub granted_by : ℕ → Option Slots → Option Serial
+granted_by slot None = None
+granted_by slot (Some slots) = granted_in slot slots

@@ -1,6 +1,6 @@
 -- What the parts stand for: the rows of the state, one record for each kind of row. Rows are looked
 -- up by their serials, each at its object's index.
-use Rattle.std.specs.Prelude.{◌≡◌, ◌==◌, ◌+◌, ◌-◌, ◌<◌, ℕ, Bool, true, IsTrue, All, List, [], ◌∷◌, length, replicate, Option, Some, None, is_some, find, filter, slice_index_or}
+use Rattle.std.specs.Prelude.{◌≡◌, ◌==◌, ◌+◌, ◌-◌, ◌<◌, ℕ, Bool, true, IsTrue, List, [], ◌∷◌, length, replicate, Option, Some, None, is_some, find, filter, slice_index_or}
 use Rattle.std.specs.Option.{option_map}
 use Rattle.gh_base.specs.CapWord.{filled_bits}
 use Rattle.gh_base.specs.declared.cap_word.CapWord.{CapWord}
@@ -138,7 +138,8 @@ pub record SlotsStand (headers : List (Option Header)) (all : List Slots)
     (objects : List ObjectRow) (caps : List CapabilityRow) (set_at : List SetAtRow) : Type 0 where
   pub homes : (serial : ℕ)
       → is_some (find (is_home serial) all) ≡ lives_as objects serial kind.Cspace
-  pub sized : All HavePlaces all
+  pub sized : (serial : ℕ) (slots : Slots) → find (is_home serial) all ≡ Some slots
+      → HavePlaces slots
   pub words : (cspace slot : ℕ) → IsTrue (is_slot slot)
       → ShowsSlot headers (word_in all cspace slot) (name_in all cspace slot)
       (find (fills cspace slot) caps) (setting_number (find (tells_setting cspace slot) set_at))

@@ -1,9 +1,8 @@
 //! References that are counted before a row has them, and still counted once it has them no more.
 
-ghost use Rattle.std.specs.Prelude.{◌≡◌, ◌<◌, ◌≤◌, ◌∷◌, IfSome};
+ghost use Rattle.std.specs.Prelude.{◌≡◌, ◌<◌, ◌≤◌, IfSome};
 ghost use Rattle.gh_objects.specs.Counts.{count_at, count_changed, with_reference, without_reference};
-ghost use Rattle.gh_state.specs.Owing.{IsCountable, Owing};
-ghost use Rattle.gh_state.specs.Stands.{StandsOwing};
+ghost use Rattle.gh_state.specs.Owing.{HasCount, recounted};
 
 use crate::parts::Parts;
 use gh_base::{OBJECT_INDICES, ObjIndex, Serial};
@@ -36,10 +35,8 @@ fn lower(counts: &mut Counts, index: ObjIndex)
 impl Parts {
     /// Counts a reference to an object, which a row is about to have.
     pub(crate) fn owe(&mut self, object: Serial)
-        ghost at: { Owing }
-        requires stands { StandsOwing at.owed self.old at.rows }
-        requires few { IsCountable at object.0 }
-        ensures { StandsOwing (object ∷ at.owed) self.new at.rows }
+        requires { HasCount self.old object.0 (λ n. n < u64.MAX) }
+        ensures { self.new ≡ recounted with_reference self.old object.0 }
     {
         if let Some(index) = self.index(object) {
             raise(&mut self.journal.counts, index);
@@ -48,9 +45,8 @@ impl Parts {
 
     /// Counts a reference to an object no more, which a row had.
     pub(crate) fn settle(&mut self, object: Serial)
-        ghost at: { Owing }
-        requires { StandsOwing (object ∷ at.owed) self.old at.rows }
-        ensures { StandsOwing at.owed self.new at.rows }
+        requires { HasCount self.old object.0 (λ n. 1 ≤ n) }
+        ensures { self.new ≡ recounted without_reference self.old object.0 }
     {
         if let Some(index) = self.index(object) {
             lower(&mut self.journal.counts, index);

@@ -4,6 +4,7 @@
 
 mod bells;
 mod body;
+mod capabilities;
 mod counts;
 mod cpus;
 mod journal;

@@ -1,12 +1,12 @@
 //! The slots of one capability space: their words, and the serials that the words' indices stand
 //! for.
 
-ghost use Rattle.std.specs.Prelude.{◌≡◌, position};
-ghost use Rattle.gh_cspace.specs.Cspace.{IsFreeSlot};
+ghost use Rattle.std.specs.Prelude.{◌≡◌, find, position};
+ghost use Rattle.gh_cspace.specs.Cspace.{IsFreeSlot, IsSlot};
 ghost use Rattle.gh_model.specs.Rows.{change_row};
-ghost use Rattle.gh_state.specs.Slots.{filled, is_home, new_slots, words_of};
+ghost use Rattle.gh_state.specs.Slots.{IsFilledSlot, emptied, filled, granted_by, granted_in, is_home, new_slots, revoked, words_of};
 
-use gh_base::{CSPACE_SLOTS, CapWord, Sequence, Serial};
+use gh_base::{CSPACE_SLOTS, CapState, CapWord, Sequence, Serial};
 use gh_cspace::Cspace;
 
 /// How many slots a capability space has; slot `s` lies at place `s - 1`.
@@ -41,6 +41,35 @@ impl Slots {
         self.words.insert(slot, word);
         self.names[slot as usize - 1] = object;
     }
+
+    /// Empties a filled slot.
+    fn empty(&mut self, slot: u8, entry: u32)
+        requires { IsFilledSlot self.old.words slot }
+        ensures { self.new ≡ emptied slot entry self.old }
+    {
+        let _ = self.words.delete(slot as u64, entry);
+    }
+
+    /// Revokes the capability in a filled slot, also a master one.
+    fn revoke(&mut self, slot: u8, entry: u32)
+        requires { IsFilledSlot self.old.words slot }
+        ensures { self.new ≡ revoked slot entry self.old }
+    {
+        let word = self.words.get(slot as u64);
+        self.empty(slot, entry);
+        self.words.insert(slot, word.revoked(entry));
+    }
+
+    /// The object of the valid capability in a slot; none where there is none.
+    fn granted(&self, slot: u8) -> Option<Serial>
+        requires { IsSlot slot }
+        ensures { result ≡ granted_in slot self.now }
+    {
+        match self.words.get(slot as u64).state() {
+            CapState::Valid => Some(self.names[slot as usize - 1]),
+            CapState::Empty | CapState::Revoked => None,
+        }
+    }
 }
 
 /// The place of a capability space's slots in the list of all.
@@ -48,6 +77,17 @@ fn home(all: &[Slots], cspace: Serial) -> Option<usize>
     ensures { result ≡ position (is_home cspace.0) all.now }
 {
     all.iter().position(|slots| slots.cspace == cspace)
+}
+
+/// The object of the valid capability in a slot of a capability space; none where there is none.
+pub(crate) fn granted(all: &[Slots], cspace: Serial, slot: u8) -> Option<Serial>
+    requires { IsSlot slot }
+    ensures { result ≡ granted_by slot (find (is_home cspace.0) all.now) }
+{
+    match home(all, cspace) {
+        None => None,
+        Some(at) => all[at].granted(slot),
+    }
 }
 
 /// Fills a free slot of a capability space with a word of the object.
@@ -63,5 +103,25 @@ pub(crate) fn fill_slot(
 {
     if let Some(at) = home(all.as_slice(), cspace) {
         all.as_mut_slice()[at].fill(slot, word, object);
+    }
+}
+
+/// Empties a filled slot of a capability space.
+pub(crate) fn empty_slot(all: &mut Sequence<Slots>, cspace: Serial, slot: u8, entry: u32)
+    requires { IsFilledSlot (words_of all.old cspace.0) slot }
+    ensures { all.new ≡ change_row (is_home cspace.0) (emptied slot entry) all.old }
+{
+    if let Some(at) = home(all.as_slice(), cspace) {
+        all.as_mut_slice()[at].empty(slot, entry);
+    }
+}
+
+/// Revokes the capability in a filled slot of a capability space.
+pub(crate) fn revoke_slot(all: &mut Sequence<Slots>, cspace: Serial, slot: u8, entry: u32)
+    requires { IsFilledSlot (words_of all.old cspace.0) slot }
+    ensures { all.new ≡ change_row (is_home cspace.0) (revoked slot entry) all.old }
+{
+    if let Some(at) = home(all.as_slice(), cspace) {
+        all.as_mut_slice()[at].revoke(slot, entry);
     }
 }
