@@ -16,9 +16,11 @@ mod StandsBodies
 mod StandsCapabilities
 mod StandsCounts
 mod StandsDropped
+mod StandsExit
 mod StandsMoved
 mod StandsObjects
 mod StandsOwed
 mod StandsQueues
+mod StandsRetired
 mod StandsSlots
 mod WordLemmas

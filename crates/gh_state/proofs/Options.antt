@@ -14,7 +14,7 @@ pub record Like {R V : Type 0} (see : R → V) (found : Option R) (row : R) : Ty
   pub is : found ≡ Some one
   pub seen : see one ≡ see row
 
-some_same : {V : Type 0} (a b : V) → Some a ≡ Some b → a ≡ b
+pub some_same : {V : Type 0} (a b : V) → Some a ≡ Some b → a ≡ b
 some_same a b is = ap (λ (o : Option _). option_map_or (λ x. x) o a) is
 
 like_by : {R V : Type 0} (see : R → V) (found : Option R) (row : R)
