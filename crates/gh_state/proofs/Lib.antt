@@ -11,12 +11,14 @@ mod Reindexed
 mod SharesLemmas
 mod SlotLemmas
 mod SlotNumbers
+mod StandsAttached
 mod StandsBells
 mod StandsBodies
 mod StandsCapabilities
 mod StandsCounts
 mod StandsDropped
 mod StandsExit
+mod StandsFilled
 mod StandsMoved
 mod StandsObjects
 mod StandsOwed

@@ -10,7 +10,7 @@ use Rattle.gh_state.proofs.FoundRows.{unplaced_none}
 use Rattle.gh_base.specs.declared.cap_word.CapWord.{CapWord}
 use Rattle.gh_base.specs.CapWord.{revoked_bits}
 use Rattle.gh_cspace.specs.Cspace.{empty_word, revoked_word, with_word, word_at}
-use Rattle.gh_state.specs.Slots.{emptied, granted_by, granted_in, is_home, revoked, words_of}
+use Rattle.gh_state.specs.Slots.{emptied, granted_by, granted_in, is_home, revoked, set_at_by, set_at_in, words_of}
 use Rattle.gh_state.specs.declared.slots.Slots.{Slots}
 
 -- the slots at the place of a capability space are found
@@ -44,6 +44,15 @@ revoked_over slot entry slots empty word new words was without bits put =
     ∙ ap (with_word slots.words slot) now in
     ap (λ (s : Slots). record s { words = words }) without
     ∙ ap (λ (ws : List CapWord). record slots { words = ws }) all
+
+-- the number that set a slot at a place of the list
+pub set_at_home : (all : List Slots) (cspace slot at : ℕ) (d : Slots) → position (is_home cspace) all ≡ Some at
+    → set_at_in slot (get_or all at d) ≡ set_at_by slot (find (is_home cspace) all)
+set_at_home all cspace slot at d is = ap (set_at_by slot) (sym (found_home all cspace at d is))
+
+pub set_at_none : (all : List Slots) (cspace slot : ℕ) → position (is_home cspace) all ≡ None
+    → 0 ≡ set_at_by slot (find (is_home cspace) all)
+set_at_none all cspace slot none = ap (set_at_by slot) (sym (unplaced_none (is_home cspace) all none))
 
 -- the object of the valid capability at a place of the list
 pub granted_home : (all : List Slots) (cspace slot at : ℕ) (d : Slots) → position (is_home cspace) all ≡ Some at

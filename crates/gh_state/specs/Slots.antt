@@ -2,7 +2,7 @@
 -- slot in it is filled, emptied and revoked.
 use Rattle.std.specs.Prelude.{◌≡◌, ◌==◌, ◌-◌, ℕ, Bool, false, List, [], Option, Some, None, find, replicate, slice_index_or, slice_set, if◌then◌else◌}
 use Rattle.std.specs.Option.{option_map_or}
-use Rattle.gh_base.specs.CapWord.{state_of}
+use Rattle.gh_base.specs.CapWord.{set_at_of, state_of}
 use Rattle.gh_base.specs.declared.cap_word.CapWord.{CapWord}
 use Rattle.gh_base.specs.declared.ids.Serial.{Serial}
 use Rattle.gh_base.specs.declared.limits.TheConstants.{CSPACE_SLOTS}
@@ -73,3 +73,11 @@ granted_in slot slots =
 abbrev pub granted_by : ℕ → Option Slots → Option Serial
 granted_by slot None = None
 granted_by slot (Some slots) = granted_in slot slots
+
+-- the number of the entry that last set a slot
+abbrev pub set_at_in : ℕ → Slots → ℕ
+set_at_in slot slots = set_at_of (word_at slots.words slot).0
+
+abbrev pub set_at_by : ℕ → Option Slots → ℕ
+set_at_by slot None = 0
+set_at_by slot (Some slots) = set_at_in slot slots

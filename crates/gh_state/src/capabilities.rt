@@ -3,8 +3,8 @@
 ghost use Rattle.std.specs.Prelude.{◌≡◌, ◌<◌, ◌≤◌, IfSome};
 ghost use Rattle.gh_base.specs.declared.kind.Kind.{Kind};
 ghost use Rattle.gh_cspace.specs.Cspace.{IsFreeSlot};
-ghost use Rattle.gh_model.specs.Changes.{drop_capability, put_capability, revoke_capability};
-ghost use Rattle.gh_model.specs.declared.change.Change.TheVariants.{DropCapability, PutCapability, RevokeCapability};
+ghost use Rattle.gh_model.specs.Changes.{drop_capability, fill_slot, put_capability, revoke_capability};
+ghost use Rattle.gh_model.specs.declared.change.Change.TheVariants.{DropCapability, FillSlot, PutCapability, RevokeCapability};
 ghost use Rattle.gh_model.specs.declared.state.State.{State};
 ghost use Rattle.gh_state.specs.Index.{AreIndexed, index_of};
 ghost use Rattle.gh_state.specs.Making.{CanMake};
@@ -14,7 +14,7 @@ ghost use Rattle.gh_state.specs.Slots.{IsFilledSlot, emptied, revoked, words_of}
 ghost use Rattle.gh_state.specs.Stands.{Stands};
 
 use crate::parts::Parts;
-use crate::slots::{empty_slot, fill_slot, granted, revoke_slot};
+use crate::slots::{empty_slot, granted, put_word, revoke_slot, set_at};
 use gh_base::{CapWord, OBJECT_INDICES, Serial};
 use gh_model::CapabilityRow;
 
@@ -28,7 +28,7 @@ impl Parts {
     {
         if let Some(object) = self.index(row.serial) {
             let word = CapWord::filled(row.valid, row.kind, row.master, object, row.rights, entry);
-            fill_slot(
+            put_word(
                 &mut self.journal.slots,
                 row.cspace,
                 row.slot,
@@ -64,6 +64,18 @@ impl Parts {
         ensures { self.new ≡ with_slots cspace.0 (revoked slot entry) self.old }
     {
         revoke_slot(&mut self.journal.slots, cspace, slot, entry);
+    }
+
+    /// A free slot is filled before the first entry, and so its setting stays.
+    pub fn fill_slot(&mut self, row: CapabilityRow)
+        ghost s: { State }
+        requires { CanMake self.old s (FillSlot row) }
+        ensures { Stands self.new (fill_slot row s) }
+    {
+        self.owe(row.serial);
+        self.owe(row.cspace);
+        let entry = set_at(self.journal.slots.as_slice(), row.cspace, row.slot);
+        self.fill(row, entry);
     }
 
     /// Counts a reference no more to an object that is named.

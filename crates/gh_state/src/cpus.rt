@@ -1,16 +1,16 @@
 //! Changes of CPUs and of the resource manager's bell.
 
-ghost use Rattle.std.specs.Prelude.{◌≡◌, ◌<◌, find, position};
-ghost use Rattle.gh_model.specs.Changes.{as_exited, exit_cpu, ring};
+ghost use Rattle.std.specs.Prelude.{◌≡◌, ◌<◌, ◌++◌, ◌∷◌, [], OnErr, OnOk, find, position};
+ghost use Rattle.gh_model.specs.Changes.{add_cpu, as_exited, exit_cpu, ring};
 ghost use Rattle.gh_model.specs.Rows.{change_row, is_cpu};
-ghost use Rattle.gh_model.specs.declared.change.Change.TheVariants.{Exit};
+ghost use Rattle.gh_model.specs.declared.change.Change.TheVariants.{AddCpu, Exit};
 ghost use Rattle.gh_model.specs.declared.state.State.{State};
 ghost use Rattle.gh_state.specs.Making.{CanMake};
 ghost use Rattle.gh_state.specs.NumberChanges.{with_cpus};
 ghost use Rattle.gh_state.specs.Stands.{Stands};
 
 use crate::parts::Parts;
-use gh_base::{CpuNo, Sequence};
+use gh_base::{CpuNo, NoMemory, Sequence};
 use gh_model::CpuRow;
 
 /// The place of a CPU's row.
@@ -66,6 +66,29 @@ impl Parts {
                 self.settle(row.space);
             }
         }
+    }
+
+    /// Puts a CPU's row last.
+    fn push_cpu(&mut self, row: CpuRow) -> Result<(), NoMemory>
+        ensures ok { OnOk result
+            (self.new ≡ with_cpus (self.old.journal.cpus ++ row ∷ []) self.old) }
+        ensures err { OnErr result (self.new ≡ self.old) }
+    {
+        self.journal.cpus.push(row)?;
+        Ok(())
+    }
+
+    /// A CPU is attached to its capability space and its address space.
+    pub fn add_cpu(&mut self, row: CpuRow) -> Result<(), NoMemory>
+        ghost s: { State }
+        requires { CanMake self.old s (AddCpu row) }
+        ensures ok { OnOk result (Stands self.new (add_cpu row s)) }
+        ensures err { OnErr result (self.new ≡ self.old) }
+    {
+        self.push_cpu(row)?;
+        self.owe(row.space);
+        self.owe(row.cspace);
+        Ok(())
     }
 
     /// The resource manager's bell rings.

@@ -4,7 +4,7 @@
 ghost use Rattle.std.specs.Prelude.{◌≡◌, find, position};
 ghost use Rattle.gh_cspace.specs.Cspace.{IsFreeSlot, IsSlot};
 ghost use Rattle.gh_model.specs.Rows.{change_row};
-ghost use Rattle.gh_state.specs.Slots.{IsFilledSlot, emptied, filled, granted_by, granted_in, is_home, new_slots, revoked, words_of};
+ghost use Rattle.gh_state.specs.Slots.{IsFilledSlot, emptied, filled, granted_by, granted_in, is_home, new_slots, revoked, set_at_by, set_at_in, words_of};
 
 use gh_base::{CSPACE_SLOTS, CapState, CapWord, Sequence, Serial};
 use gh_cspace::Cspace;
@@ -60,6 +60,13 @@ impl Slots {
         self.words.insert(slot, word.revoked(entry));
     }
 
+    /// The number of the entry that last set a slot.
+    fn set_at(&self, slot: u8) -> u32
+        ensures { result ≡ set_at_in slot self.now }
+    {
+        self.words.get(slot as u64).set_at()
+    }
+
     /// The object of the valid capability in a slot; none where there is none.
     fn granted(&self, slot: u8) -> Option<Serial>
         requires { IsSlot slot }
@@ -90,8 +97,19 @@ pub(crate) fn granted(all: &[Slots], cspace: Serial, slot: u8) -> Option<Serial>
     }
 }
 
+/// The number of the entry that last set a slot of a capability space; 0 where there is no such
+/// space.
+pub(crate) fn set_at(all: &[Slots], cspace: Serial, slot: u8) -> u32
+    ensures { result ≡ set_at_by slot (find (is_home cspace.0) all.now) }
+{
+    match home(all, cspace) {
+        None => 0,
+        Some(at) => all[at].set_at(slot),
+    }
+}
+
 /// Fills a free slot of a capability space with a word of the object.
-pub(crate) fn fill_slot(
+pub(crate) fn put_word(
     all: &mut Sequence<Slots>,
     cspace: Serial,
     slot: u8,

@@ -6,7 +6,7 @@ use Rattle.gh_cspace.specs.Cspace.{IsFreeSlot}
 use Rattle.gh_model.proofs.RowLemmas.{row_changed}
 use Rattle.gh_state.specs.Slots.{filled, is_home, words_of}
 use Rattle.gh_state.proofs.SlotLemmas.{words_at_home}
-use Rattle.gh_state.proofs.slots.fill_slot.Goals as goal
+use Rattle.gh_state.proofs.slots.put_word.Goals as goal
 
 pub fill-requires : goal.fill-requires
 fill-requires c =
