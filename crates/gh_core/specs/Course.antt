@@ -1,5 +1,6 @@
 -- A course: what programs and a schedule make of a boot file, item by item and then by whole calls,
--- until every program has ended. What an item is, is a parameter.
+-- until every program has ended. What an item is, is a parameter. A program that waits for a ring is
+-- asked again at once: so this isn't yet the course of a resource manager.
 use Rattle.std.specs.Prelude.{◌≡◌, ◌==◌, ◌&&◌, ◌+◌, ◌-◌, ◌*◌, ◌<◌, ◌⊎◌, not, ℕ, zero, suc, Bool, false, List, [], ◌∷◌, ◌++◌, length, Option, Some, None, flat_map, fold, map, is_some, option_map, if◌then◌else◌}
 use Rattle.std.specs.List.{last_or, list_any, range_with_len}
 use Rattle.gh_base.specs.declared.frame.Reply.{Reply}
@@ -121,11 +122,13 @@ module _ {P : Type 0} (answer : P → Option Reply → program.Step)
       (last_reply (made_by course.conf at))
 
   -- the CPU is given this call
+  abbrev pub giving : Course P → ℕ → Standing P → Step
+  giving course at standing = Gives at (length (made_by course.conf at) + 1) standing.frame
+
   abbrev pub with_call : Course P → ℕ → Standing P → Course P
-  with_call course at standing =
-      record (with_steps course (Gives at (length (made_by course.conf at) + 1) standing.frame ∷ [])) {
-        programs = put course.programs at standing.program;
-      }
+  with_call course at standing = record (with_steps course (giving course at standing ∷ [])) {
+    programs = put course.programs at standing.program;
+  }
 
   -- a CPU without a call is given its program's next one
   abbrev pub with_next_call : Course P → ℕ → Course P

@@ -1,7 +1,7 @@
-//! What programs and a schedule make of a boot file, item by item and then by whole calls, is a run.
-//! The functions do nothing; their clauses are laws.
+//! What programs and a schedule make of a boot file, item by item and then by whole calls, is a
+//! run. The functions do nothing; their clauses are laws.
 
-ghost use Rattle.std.specs.Prelude.{ℕ, List, None, IsSome, IsTrue, map};
+ghost use Rattle.std.specs.Prelude.{◌≡◌, ℕ, List, None, IsSome, IsTrue, false, map};
 ghost use Rattle.std.specs.List.{last_or};
 ghost use Rattle.gh_base.specs.declared.ids.CpuNo.{CpuNo};
 ghost use Rattle.gh_core.specs.Config.{Config, present};
@@ -9,7 +9,7 @@ ghost use Rattle.gh_core.specs.Course.{AreItems, IsCourse, course_of, marks_of, 
 ghost use Rattle.gh_core.specs.Sound.{IsAtRest, made_by};
 ghost use Rattle.gh_core.specs.Start.{AreIndices, start};
 ghost use Rattle.gh_core.specs.declared.event.Event.{Event};
-ghost use Rattle.gh_model.specs.Boot.{boot_fits, boot_state};
+ghost use Rattle.gh_model.specs.Boot.{boot_fits, boot_state, has_manager};
 ghost use Rattle.gh_model.specs.History.{entry_of};
 ghost use Rattle.gh_model.specs.Legal.{is_exit_call};
 ghost use Rattle.gh_model.specs.Programs.{frames_made};
@@ -48,12 +48,12 @@ pub fn courses_end<P: Program>()
         (made_by (course_of P.answer P.after items boot index programs schedule).conf cpu))) }
 {}
 
-/// So a whole course is a run: its history is legal and graced, and each CPU's calls are, in order,
-/// those of its program for the replies in them.
+/// So a whole course of a boot file without a resource manager is a run: its history is legal and
+/// graced, and each CPU's calls are, in order, those of its program for the replies in them.
 pub fn courses_are_runs<P: Program>()
     ensures { (items : Config → ℕ → List Event) (boot : List BootLine) (index : ℕ → ℕ)
         (programs : ℕ → P) (schedule : List CpuNo) → AreItems items → IsTrue (boot_fits boot)
-        → AreIndices (boot_state boot) index
+        → has_manager boot ≡ false → AreIndices (boot_state boot) index
         → IsRun boot (λ cpu. frames_made P.answer P.after (programs cpu))
         (map entry_of (course_of P.answer P.after items boot index programs schedule).conf.history)
         (marks_of (course_of P.answer P.after items boot index programs schedule).conf)

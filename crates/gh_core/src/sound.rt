@@ -82,10 +82,10 @@ pub fn counts_fit()
         → conf.count at < 2 ^ 63 }
 {}
 
-/// No history is as long as 12,500,000 entries: neither that of a sound configuration, nor that of any
-/// list of such steps from a boot file on. An act is one of a call, of which a CPU has 458,752 at
-/// most; and retirements, reclaims and parts are counted against objects and capabilities, of which a
-/// boot file has few and an act makes one.
+/// No history is as long as 12,500,000 entries: neither that of a sound configuration, nor that of
+/// any list of such steps from a boot file on. An act is one of a call, of which a CPU has 458,752
+/// at most; and retirements, reclaims and parts are counted against objects and capabilities, of
+/// which a boot file has few and an act makes one.
 pub fn histories_are_short()
     ensures sound { (conf : Config) → IsSound conf → length conf.history < too_long }
     ensures runs { (lines : List BootLine) (index : ℕ → ℕ) (steps : List Step)
