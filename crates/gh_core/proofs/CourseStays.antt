@@ -129,7 +129,7 @@ module _ {P : Type 0} (answer : P → Option Reply → program.Step) (after : P 
     made = made_by course.conf at
 
     abbrev standing : Standing P
-    standing = next_standing answer after items course at
+    standing = next_standing answer after course at
 
     own : FollowsSoFar answer after (first at) cpu (course.programs at)
     own = stays.follow at
@@ -189,7 +189,7 @@ module _ {P : Type 0} (answer : P → Option Reply → program.Step) (after : P 
         no_call : (one : Given) → call_of_cpu cpu ≡ Some one → ⊥
         no_call one is = let gone : call_of_cpu cpu ≡ None = none in cc
 
-    pub call_stays : Stays (with_call answer after items course at standing)
+    pub call_stays : Stays (with_call answer after course at standing)
     call_stays =
         steps_stay course (Gives at (length made + 1) standing.frame ∷ []) (put course.programs at standing.program) stays
         (may_give, tt) stays.free

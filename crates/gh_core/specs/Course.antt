@@ -1,8 +1,9 @@
 -- A course: what programs and a schedule make of a boot file, item by item and then by whole calls,
 -- until every program has ended. What an item is, is a parameter. A program that waits for a ring is
 -- asked again at once: so this isn't yet the course of a resource manager.
-use Rattle.std.specs.Prelude.{◌≡◌, ◌==◌, ◌&&◌, ◌+◌, ◌-◌, ◌*◌, ◌<◌, ◌⊎◌, not, ℕ, zero, suc, Bool, false, List, [], ◌∷◌, ◌++◌, length, Option, Some, None, flat_map, fold, map, is_some, option_map, if◌then◌else◌}
+use Rattle.std.specs.Prelude.{◌≡◌, ◌==◌, ◌&&◌, ◌+◌, ◌-◌, ◌*◌, ◌<◌, ◌⊎◌, ⊤, not, ℕ, zero, suc, Bool, false, List, [], ◌∷◌, ◌++◌, length, Option, Some, None, flat_map, fold, map, is_some, option_map, if◌then◌else◌}
 use Rattle.std.specs.List.{last_or, list_any, range_with_len}
+use Rattle.gh_base.specs.declared.frame.Frame.{Frame}
 use Rattle.gh_base.specs.declared.frame.Reply.{Reply}
 use Rattle.gh_base.specs.declared.ids.CpuNo.{CpuNo}
 use Rattle.gh_base.specs.declared.limits.TheConstants.{CPUS}
@@ -18,8 +19,9 @@ use Rattle.gh_model.specs.declared.boot_line.BootLine.{BootLine}
 use Rattle.gh_model.specs.declared.program.Standing.{Standing}
 use Rattle.gh_model.specs.declared.program.Step as program
 use Rattle.gh_core.specs.Config.{AtAct, Config, Cpu, Current, DeadPin, Failed, Given, IsBetween, Looked, Reading, Stage, Undone, put}
+use Rattle.gh_core.specs.Events.{Possible}
 use Rattle.gh_core.specs.Sound.{Does, Gives, IsSound, Runs, Step, after_steps, made_by}
-use Rattle.gh_core.specs.Start.{start}
+use Rattle.gh_core.specs.Start.{MayGive, start}
 use Rattle.gh_core.specs.declared.event.Event.{Event}
 
 -- items
@@ -112,9 +114,9 @@ last_reply made = option_map reply_of (last_or None made)
 abbrev pub goes_on : Config → ℕ → Bool
 goes_on conf at = is_some (cpu_row conf.boot at) && not (list_any exits (made_by conf at))
 
--- programs by their answers and the states after them, and the items of calls
+-- programs by their answers and the states after them
 module _ {P : Type 0} (answer : P → Option Reply → program.Step)
-    (after : P → Option Reply → P) (items : Config → ℕ → List Event) where
+    (after : P → Option Reply → P) where
   -- what the program of a CPU comes to when it is asked for its next call
   abbrev pub next_standing : Course P → ℕ → Standing P
   next_standing course at =
@@ -136,6 +138,32 @@ module _ {P : Type 0} (answer : P → Option Reply → program.Step)
       if is_some (call_of_cpu (course.conf.cpu at)) then course
       else with_call course at (next_standing course at)
 
+  -- in an interleaving the next step is a call that a CPU's program makes next, or any event that is
+  -- possible
+  pub record IsNextCall (course : Course P) (at number : ℕ) (frame : Frame) : Type 0 where
+    pub may : MayGive course.conf at number
+    pub its_frame : frame ≡ (next_standing course at).frame
+
+  abbrev pub MayCome : Course P → Step → Type 0
+  MayCome course (Gives at number frame) = IsNextCall course at number frame
+  MayCome course (Does event) = Possible course.conf event
+
+  -- the course behind a step
+  abbrev pub behind_step : Course P → Step → Course P
+  behind_step course (Gives at number frame) = record (with_steps course (Gives at number frame ∷ [])) {
+    programs = put course.programs at (next_standing course at).program;
+  }
+  behind_step course (Does event) = with_steps course (Does event ∷ [])
+
+  -- each step may come where it comes
+  abbrev pub Interleave : Course P → List Step → Type 0
+  Interleave course [] = ⊤
+  Interleave course (step ∷ steps) =
+      MayCome course step × Interleave (behind_step course step) steps
+
+-- and the items of calls
+module _ {P : Type 0} (answer : P → Option Reply → program.Step)
+    (after : P → Option Reply → P) (items : Config → ℕ → List Event) where
   -- one item of the call. One whose frame was refused has ended, without an event
   abbrev pub with_item : Course P → ℕ → Course P
   with_item course at =
@@ -150,7 +178,7 @@ module _ {P : Type 0} (answer : P → Option Reply → program.Step)
   -- the CPU is advanced by one item; one that has ended does nothing
   abbrev pub advanced : Course P → CpuNo → Course P
   advanced course cpu =
-      if goes_on course.conf cpu.0 then with_item (with_next_call course cpu.0) cpu.0 else course
+      if goes_on course.conf cpu.0 then with_item (with_next_call answer after course cpu.0) cpu.0 else course
 
   -- the CPU finishes the call in progress, or else makes one whole call
   abbrev pub ended_call : Course P → ℕ → Course P
@@ -158,7 +186,7 @@ module _ {P : Type 0} (answer : P → Option Reply → program.Step)
 
   abbrev pub called : Course P → ℕ → Course P
   called course at =
-      if goes_on course.conf at then ended_call (with_next_call course at) at else course
+      if goes_on course.conf at then ended_call (with_next_call answer after course at) at else course
 
   -- the CPUs in rising order
   abbrev pub round : Course P → Course P
