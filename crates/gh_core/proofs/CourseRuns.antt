@@ -30,7 +30,7 @@ use Rattle.gh_core.specs.Course.{AreItems, Course, IsCourse, advanced, begin, ca
 use Rattle.gh_core.specs.Sound.{IsAtRest, made_by}
 use Rattle.gh_core.specs.Start.{AreIndices, new_cpu, start}
 use Rattle.gh_core.specs.declared.event.Event as machine
-use Rattle.gh_core.proofs.CoursePrograms.{FollowsSoFar}
+use Rattle.gh_core.proofs.CoursePrograms.{FollowsSoFar, new_follows}
 use Rattle.gh_core.proofs.CourseRounds.{HasEnded, rounds_end, schedule_stays}
 use Rattle.gh_core.proofs.CourseStays.{Stays, has_none, steps_boot}
 use Rattle.gh_core.proofs.SoundEvents.{start_is_sound}
@@ -139,17 +139,11 @@ module _ {P : Type 0} (answer : P → Option Reply → program.Step) (after : P 
   abbrev Kept : Course P → Type 0
   Kept course = Stays answer after items begin_conf first course
 
-  no_call : (one : Given) → call_of_cpu new_cpu ≡ Some one → ⊥
-  no_call one is = let never : ⊥ = cc in never
-
   -- before its first call a CPU has its program
   begin_follows : (cpu : ℕ) → FollowsSoFar answer after (first cpu) new_cpu (first cpu)
   begin_follows cpu = record {
-    frames = refl;
+    follows = new_follows answer after (first cpu);
     idle = λ is. record { none = refl; dropped = refl };
-    waits = λ is. refl;
-    program_is = λ one is. absurd (no_call one is);
-    frame_is = λ one is. absurd (no_call one is);
     counted = λ none. let zero_calls : length new_cpu.made ≡ 0 = refl in omega arith;
   }
 
@@ -268,5 +262,5 @@ module _ {P : Type 0} (answer : P → Option Reply → program.Step) (after : P 
           (rest_legal course.conf stays.sound rest last_is_exit);
       graced = subst (λ (boot : State). IsGraced boot course.conf.history (made_by course.conf)) boot_is
           (rest_graced course.conf stays.sound rest);
-      programs = λ cpu. (stays.follow cpu).frames;
+      programs = λ cpu. (stays.follow cpu).follows.frames;
     }

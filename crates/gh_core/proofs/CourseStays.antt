@@ -22,7 +22,7 @@ use Rattle.gh_core.specs.Course.{CallEnds, CallGoesOn, Course, IsItem, call_of_c
 use Rattle.gh_core.specs.Sound.{Does, Gives, IsSound, Runs, Step, after_step, after_steps, made_by}
 use Rattle.gh_core.specs.Start.{MayGive, given, refused_frame, with_next}
 use Rattle.gh_core.specs.declared.event.Event.{Event}
-use Rattle.gh_core.proofs.CoursePrograms.{FollowsSoFar, behind, counted_on_call, frames_on_call, waits_on_call}
+use Rattle.gh_core.proofs.CoursePrograms.{FollowsSoFar, end_counted, end_follows, next_counted, next_follows, same_follows}
 use Rattle.gh_core.proofs.Finding.{put_here, put_other}
 use Rattle.gh_core.proofs.SoundEvents.{boot_stays, steps_keep_sound}
 
@@ -150,44 +150,18 @@ module _ {P : Type 0} (answer : P → Option Reply → program.Step) (after : P 
       bounded = omega (arith, own.counted goes.no_exit);
     }
 
-    stands : standing ≡ behind answer after (first at) made
-    stands = own.waits none
-
-    frame_same : standing.frame ≡ (behind answer after (first at) made).frame
-    frame_same = ap (λ (one : Standing P). one.frame) stands
-
-    program_same : standing.program ≡ (behind answer after (first at) made).program
-    program_same = ap (λ (one : Standing P). one.program) stands
-
     given_follows : (call : Result Call Errno)
         → FollowsSoFar answer after (first at) (with_next at (length made + 1) standing.frame cpu call) standing.program
-    given_follows (Ok call) =
-        let now : Given = record { number = length made + 1; frame = standing.frame; call = call } in
-        let has : either_call cpu.current (Some now) ≡ Some now =
-        ap (λ (one : Option Current). either_call one (Some now)) between.none in
-        record {
-          frames = own.frames;
-          idle = λ is. absurd (let never : ⊥ = cc in never);
-          waits = λ is. absurd (let never : ⊥ = cc in never);
-          program_is = λ one is. program_same;
-          frame_is = λ one is. let same : now ≡ one = cc in ap (λ (g : Given). g.frame) (sym same) ∙ frame_same;
-          counted = own.counted;
-        }
-    given_follows (Err errno) =
-        let call : Made = refused_frame at (length made + 1) standing.frame errno in
-        record {
-          frames = frames_on_call answer after (first at) made call goes.no_exit own.frames frame_same;
-          idle = λ is. record { none = between.none; dropped = between.dropped };
-          waits = λ is.
-              ap (λ (p : P). asked answer after (length (made ++ call ∷ []) + 1) p (last_reply (made ++ call ∷ []))) program_same
-              ∙ waits_on_call answer after (first at) made call goes.no_exit own.frames frame_same;
-          program_is = λ one is. let never : ⊥ = no_call one is in absurd never;
-          frame_is = λ one is. let never : ⊥ = no_call one is in absurd never;
-          counted = counted_on_call answer after (first at) made call goes.no_exit own.frames frame_same (own.counted goes.no_exit);
-        }
+    given_follows call = record {
+      follows = next_follows answer after (first at) at (length made + 1) cpu (course.programs at) own.follows goes.no_exit between.none none call;
+      idle = still_between call;
+      counted = next_counted answer after (first at) at (length made + 1) cpu (course.programs at) own.follows goes.no_exit between.none none call (own.counted goes.no_exit);
+    }
       where
-        no_call : (one : Given) → call_of_cpu cpu ≡ Some one → ⊥
-        no_call one is = let gone : call_of_cpu cpu ≡ None = none in cc
+        still_between : (shape : Result Call Errno) → call_of_cpu (with_next at (length made + 1) standing.frame cpu shape) ≡ None
+            → IsBetween (with_next at (length made + 1) standing.frame cpu shape)
+        still_between (Ok call) is = record { none = between.none; dropped = between.dropped }
+        still_between (Err errno) is = record { none = between.none; dropped = between.dropped }
 
     pub call_stays : Stays (with_call answer after course at standing)
     call_stays =
@@ -212,37 +186,20 @@ module _ {P : Type 0} (answer : P → Option Reply → program.Step) (after : P 
     goes_follows now on =
         let still : call_of_cpu now ≡ Some call = on.same ∙ has in
         record {
-          frames = subst (λ (list : List Made). map frame_of list ≡ frames_made answer after (first at) (map reply_of list)) (sym on.made) was.frames;
+          follows = same_follows answer after (first at) before now (course.programs at) was.follows on.made on.same;
           idle = λ is. absurd (let never : ⊥ = cc in never);
-          waits = λ is. absurd (let never : ⊥ = cc in never);
-          program_is = λ one is. was.program_is one (sym on.same ∙ is)
-              ∙ ap (λ (list : List Made). (behind answer after (first at) list).program) (sym on.made);
-          frame_is = λ one is. was.frame_is one (sym on.same ∙ is)
-              ∙ ap (λ (list : List Made). (behind answer after (first at) list).frame) (sym on.made);
           counted = subst (λ (list : List Made). list_any exits list ≡ false → length list < last_number) (sym on.made) was.counted;
         }
 
     ended_follows : (now : Cpu) → CallEnds call before now → FollowsSoFar answer after (first at) now (course.programs at)
     ended_follows now ends =
         let going : list_any exits before.made ≡ false = has_none course.conf at call stays.sound.calls has in
-        let frame : ends.call.frame ≡ (behind answer after (first at) before.made).frame = ends.frame ∙ was.frame_is call has in
         let none : call_of_cpu now ≡ None =
         ap (λ (one : Option Current). either_call one now.next) ends.between.none ∙ ends.none in
-        let left : P = (behind answer after (first at) before.made).program in
-        let no_call : (one : Given) → call_of_cpu now ≡ Some one → ⊥ =
-        λ one is. let gone : call_of_cpu now ≡ None = none in cc in
         record {
-          frames = subst (λ (list : List Made). map frame_of list ≡ frames_made answer after (first at) (map reply_of list)) (sym ends.made)
-              (frames_on_call answer after (first at) before.made ends.call going was.frames frame);
+          follows = end_follows answer after (first at) before now (course.programs at) was.follows call ends.call going has ends.made ends.frame none;
           idle = λ is. ends.between;
-          waits = λ is.
-              ap (λ (p : P). asked answer after (length now.made + 1) p (last_reply now.made)) (was.program_is call has)
-              ∙ subst (λ (list : List Made). asked answer after (length list + 1) left (last_reply list) ≡ behind answer after (first at) list) (sym ends.made)
-              (waits_on_call answer after (first at) before.made ends.call going was.frames frame);
-          program_is = λ one is. absurd (no_call one is);
-          frame_is = λ one is. absurd (no_call one is);
-          counted = subst (λ (list : List Made). list_any exits list ≡ false → length list < last_number) (sym ends.made)
-              (counted_on_call answer after (first at) before.made ends.call going was.frames frame (was.counted going));
+          counted = end_counted answer after (first at) before now (course.programs at) was.follows call ends.call going has ends.made ends.frame (was.counted going);
         }
 
     either_follows : (now : Cpu) → CallGoesOn before now ⊎ CallEnds call before now

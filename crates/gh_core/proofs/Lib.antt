@@ -7,6 +7,7 @@ pub mod CallMoves
 pub mod CallsEnd
 pub mod CallsGoOn
 pub mod CallsKeep
+pub mod CallsOver
 pub mod CausesHeld
 pub mod CountsFit
 pub mod CourseEnds
