@@ -47,6 +47,7 @@ pub mod GraceSpares
 pub mod GraceTurn
 pub mod HolderCalls
 pub mod IndicesStay
+pub mod Interleavings
 pub mod KillKeeps
 pub mod LengthBoot
 pub mod LengthBound

@@ -1,12 +1,12 @@
 //! What programs and a schedule make of a boot file, item by item and then by whole calls, is a
-//! run. The functions do nothing; their clauses are laws.
+//! run, and so is every interleaving of programs. The functions do nothing; their clauses are laws.
 
 ghost use Rattle.std.specs.Prelude.{◌≡◌, ℕ, List, None, IsSome, IsTrue, false, map};
 ghost use Rattle.std.specs.List.{last_or};
 ghost use Rattle.gh_base.specs.declared.ids.CpuNo.{CpuNo};
 ghost use Rattle.gh_core.specs.Config.{Config, present};
-ghost use Rattle.gh_core.specs.Course.{AreItems, IsCourse, course_of, marks_of, scheduled};
-ghost use Rattle.gh_core.specs.Sound.{IsAtRest, made_by};
+ghost use Rattle.gh_core.specs.Course.{AreItems, Interleave, IsCourse, begin, course_of, marks_of, scheduled};
+ghost use Rattle.gh_core.specs.Sound.{IsAtRest, IsSound, Step, after_steps, made_by};
 ghost use Rattle.gh_core.specs.Start.{AreIndices, start};
 ghost use Rattle.gh_core.specs.declared.event.Event.{Event};
 ghost use Rattle.gh_model.specs.Boot.{boot_fits, boot_state, has_manager};
@@ -58,4 +58,24 @@ pub fn courses_are_runs<P: Program>()
         (map entry_of (course_of P.answer P.after items boot index programs schedule).conf.history)
         (marks_of (course_of P.answer P.after items boot index programs schedule).conf)
         (present (course_of P.answer P.after items boot index programs schedule).conf) }
+{}
+
+/// And so is every interleaving of programs: where CPUs are given their programs' calls in turn, and
+/// possible events come as they may, the configuration is sound; and once all is at rest and each CPU
+/// of the boot has made its exit call, it is a run.
+pub fn interleavings_are_runs<P: Program>()
+    ensures sound { (boot : List BootLine) (index : ℕ → ℕ) (programs : ℕ → P) (steps : List Step)
+        → IsTrue (boot_fits boot) → AreIndices (boot_state boot) index
+        → Interleave P.answer P.after (begin (start (boot_state boot) index) programs) steps
+        → IsSound (after_steps (start (boot_state boot) index) steps) }
+    ensures run { (boot : List BootLine) (index : ℕ → ℕ) (programs : ℕ → P) (steps : List Step)
+        → IsTrue (boot_fits boot) → has_manager boot ≡ false → AreIndices (boot_state boot) index
+        → Interleave P.answer P.after (begin (start (boot_state boot) index) programs) steps
+        → IsAtRest (after_steps (start (boot_state boot) index) steps)
+        → ((cpu : ℕ) → IsSome (cpu_row (boot_state boot) cpu) → IsTrue (is_exit_call
+        (last_or None (made_by (after_steps (start (boot_state boot) index) steps) cpu))))
+        → IsRun boot (λ cpu. frames_made P.answer P.after (programs cpu))
+        (map entry_of (after_steps (start (boot_state boot) index) steps).history)
+        (marks_of (after_steps (start (boot_state boot) index) steps))
+        (present (after_steps (start (boot_state boot) index) steps)) }
 {}
