@@ -5,17 +5,13 @@ use Rattle.std.specs.Prelude.{is_some, option_map}
 use Rattle.gh_base.specs.declared.frame.Reply.{Reply}
 use Rattle.gh_base.specs.declared.mark.End.{End}
 use Rattle.gh_model.specs.Marks.{Made, frame_of}
-use Rattle.gh_model.specs.declared.entry.Entry.{Entry}
-use Rattle.gh_model.specs.declared.rows.ObjectRow.{ObjectRow}
-use Rattle.gh_model.specs.declared.state.State.{State}
-use Rattle.gh_core.specs.CallEvents.{MayEnter, MayLeave, after_leave, at_stage, begun, finished, found, has_needs, with_call, with_end, with_left, with_look, with_pin}
+use Rattle.gh_core.specs.CallEvents.{MayEnter, after_leave, at_stage, begun, finished, found, has_needs, with_call, with_end, with_left, with_look, with_pin}
 use Rattle.gh_core.specs.Config as config
 use Rattle.gh_core.specs.Config.{AtAct, Config, Cpu, Current, DeadPin, Failed, Given, Holder, Looked, Reading, Stage, Undone, object_at, present, put}
 use Rattle.gh_core.specs.Course.{call_of_cpu, either_call}
 use Rattle.gh_core.specs.Entries.{index_after}
 use Rattle.gh_core.specs.Events.{Possible, after}
-use Rattle.gh_core.specs.HolderEvents.{kill_failed, with_turn, without_scans}
-use Rattle.gh_core.specs.TurnEvents.{Ending, MayEnd, MayTake, call_at_act, committed_by, end_call, ending, if_at_act, if_lookless, ready, with_ending}
+use Rattle.gh_core.specs.TurnEvents.{Ending, MayTake, call_at_act, end_call, ending, if_at_act, ready, with_ending}
 use Rattle.gh_core.specs.ValidState.{HasValid}
 use Rattle.gh_core.specs.declared.event.Event.{Event}
 use Rattle.gh_core.specs.declared.event.Event.TheVariants.{Enter, Leave, Take, Look, Pin, Unpin, Undo, Kill, Commit, SetCap, Free, Scan, Revive, Join, Split}
@@ -59,7 +55,8 @@ begun_call conf at may = inl (record {
   same = by_next (conf.cpu at).next ∙ sym (ap (λ (one : Option Current). either_call one (conf.cpu at).next) may.between.none);
 })
   where
-    by_next : (next : Option Given) → either_call (option_map (begun (conf.counter at + 1) Reading) next) None ≡ either_call None next
+    by_next : (next : Option Given)
+        → either_call (option_map (begun (conf.counter at + 1) Reading) next) None ≡ either_call None next
     by_next None = refl
     by_next (Some given) = refl
 
@@ -134,7 +131,8 @@ pinned_call : (dead : Bool) (cpu : Cpu) → CallsOn cpu (with_pin dead cpu)
 pinned_call true cpu = changed_call cpu (at_stage DeadPin) (λ call. refl)
 pinned_call false cpu = inl (record { made = refl; same = by_current cpu.current })
   where
-    by_current : (current : Option Current) → either_call (option_map (at_stage Reading) current) cpu.next ≡ either_call current cpu.next
+    by_current : (current : Option Current)
+        → either_call (option_map (at_stage Reading) current) cpu.next ≡ either_call current cpu.next
     by_current None = refl
     by_current (Some call) = refl
 

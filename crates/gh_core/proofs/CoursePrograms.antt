@@ -168,7 +168,8 @@ module _ {P : Type 0} (answer : P → Option Reply → Step) (after : P → Opti
       waits = λ is.
           subst (λ (list : List Made). asked answer after (length list + 1) program (last_reply list) ≡ behind first list) (sym made)
           (was.waits (sym same ∙ is));
-      program_is = λ one is. was.program_is one (sym same ∙ is) ∙ ap (λ (list : List Made). (behind first list).program) (sym made);
+      program_is = λ one is. was.program_is one (sym same ∙ is)
+          ∙ ap (λ (list : List Made). (behind first list).program) (sym made);
       frame_is = λ one is. was.frame_is one (sym same ∙ is) ∙ ap (λ (list : List Made). (behind first list).frame) (sym made);
     }
 
@@ -208,10 +209,12 @@ module _ {P : Type 0} (answer : P → Option Reply → Step) (after : P → Opti
     program_same : standing.program ≡ (behind first cpu.made).program
     program_same = ap (λ (one : Standing P). one.program) (was.waits none)
 
-    pub next_follows : (shape : Result Call Errno) → Follows first (with_next at number standing.frame cpu shape) standing.program
+    pub next_follows : (shape : Result Call Errno)
+        → Follows first (with_next at number standing.frame cpu shape) standing.program
     next_follows (Ok call) =
         let now : Given = record { number = number; frame = standing.frame; call = call } in
-        let has : either_call cpu.current (Some now) ≡ Some now = ap (λ (one : Option Current). either_call one (Some now)) free in
+        let has : either_call cpu.current (Some now) ≡ Some now =
+        ap (λ (one : Option Current). either_call one (Some now)) free in
         record {
           frames = was.frames;
           waits = λ is. absurd (let never : ⊥ = cc in never);

@@ -9,18 +9,17 @@ use Rattle.gh_base.specs.declared.call.Call.{Call}
 use Rattle.gh_base.specs.declared.errno.Errno.{Errno}
 use Rattle.gh_base.specs.declared.frame.Reply.{Reply}
 use Rattle.gh_model.specs.Legal.{exits}
-use Rattle.gh_model.specs.Marks.{Made, frame_of, reply_of}
+use Rattle.gh_model.specs.Marks.{Made}
 use Rattle.gh_model.specs.Program.{last_number}
-use Rattle.gh_model.specs.Programs.{asked, frames_made}
 use Rattle.gh_model.specs.Registers.{call_of}
 use Rattle.gh_model.specs.Rows.{cpu_row}
 use Rattle.gh_model.specs.declared.program.Standing.{Standing}
 use Rattle.gh_model.specs.declared.program.Step as program
 use Rattle.gh_core.specs.Calls.{HasCalls}
 use Rattle.gh_core.specs.Config.{Config, Cpu, Current, Given, IsBetween, put}
-use Rattle.gh_core.specs.Course.{CallEnds, CallGoesOn, Course, IsItem, call_of_cpu, either_call, last_reply, with_call, next_standing, with_steps}
+use Rattle.gh_core.specs.Course.{CallEnds, CallGoesOn, Course, IsItem, call_of_cpu, either_call, with_call, next_standing, with_steps}
 use Rattle.gh_core.specs.Sound.{Does, Gives, IsSound, Runs, Step, after_step, after_steps, made_by}
-use Rattle.gh_core.specs.Start.{MayGive, given, refused_frame, with_next}
+use Rattle.gh_core.specs.Start.{MayGive, given, with_next}
 use Rattle.gh_core.specs.declared.event.Event.{Event}
 use Rattle.gh_core.proofs.CoursePrograms.{FollowsSoFar, end_counted, end_follows, next_counted, next_follows, same_follows}
 use Rattle.gh_core.proofs.Finding.{put_here, put_other}
@@ -158,7 +157,8 @@ module _ {P : Type 0} (answer : P → Option Reply → program.Step) (after : P 
       counted = next_counted answer after (first at) at (length made + 1) cpu (course.programs at) own.follows goes.no_exit between.none none call (own.counted goes.no_exit);
     }
       where
-        still_between : (shape : Result Call Errno) → call_of_cpu (with_next at (length made + 1) standing.frame cpu shape) ≡ None
+        still_between : (shape : Result Call Errno)
+            → call_of_cpu (with_next at (length made + 1) standing.frame cpu shape) ≡ None
             → IsBetween (with_next at (length made + 1) standing.frame cpu shape)
         still_between (Ok call) is = record { none = between.none; dropped = between.dropped }
         still_between (Err errno) is = record { none = between.none; dropped = between.dropped }

@@ -1,13 +1,13 @@
 -- Every interleaving of programs is sound, and a run once all have made their exit calls.
-use Rattle.std.proofs.Common.{◌≡◌, ◌==◌, ◌+◌, ◌∙◌, ◌⊎◌, inl, inr, ℕ, Bool, true, false, List, [], ◌∷◌, ◌++◌, length, refl, subst, sym, ap, IsSome, IsTrue, Option, Some, None, fold, map}
-use Rattle.std.specs.List.{last_or, list_any}
+use Rattle.std.proofs.Common.{◌≡◌, ◌∙◌, inl, inr, ℕ, List, [], ◌∷◌, refl, subst, sym, ap, IsSome, IsTrue, Option, None, fold, map}
+use Rattle.std.specs.List.{last_or}
 use Rattle.std.proofs.lemmas.Bool.Decides.{eqb_tells}
 use Rattle.gh_base.specs.declared.frame.Frame.{Frame}
 use Rattle.gh_base.specs.declared.frame.Reply.{Reply}
 use Rattle.gh_model.specs.Boot.{boot_fits, boot_state}
 use Rattle.gh_model.specs.History.{entry_of}
 use Rattle.gh_model.specs.Legal.{is_exit_call}
-use Rattle.gh_model.specs.Programs.{asked, frames_made}
+use Rattle.gh_model.specs.Programs.{frames_made}
 use Rattle.gh_model.specs.Registers.{call_of}
 use Rattle.gh_model.specs.Rows.{cpu_row}
 use Rattle.gh_model.specs.Run.{IsRun}
@@ -15,11 +15,10 @@ use Rattle.gh_model.specs.declared.boot_line.BootLine.{BootLine}
 use Rattle.gh_model.specs.declared.program.Step as program
 use Rattle.gh_model.specs.declared.state.State.{State}
 use Rattle.gh_core.specs.Config.{Config, Cpu, Current, present, put}
-use Rattle.gh_core.specs.Course.{Course, Interleave, IsNextCall, MayCome, begin, behind_step, call_of_cpu, either_call, last_reply, marks_of, next_standing}
-use Rattle.gh_core.specs.Events.{Possible, after}
+use Rattle.gh_core.specs.Course.{Course, Interleave, IsNextCall, MayCome, begin, behind_step, call_of_cpu, either_call, marks_of, next_standing}
+use Rattle.gh_core.specs.Events.{after}
 use Rattle.gh_core.specs.Sound.{Does, Gives, IsAtRest, IsSound, MayStep, Runs, Step, after_step, after_steps, made_by}
-use Rattle.gh_core.specs.Start.{AreIndices, MayGive, given, new_cpu, start, with_next}
-use Rattle.gh_core.specs.declared.event.Event.{Event}
+use Rattle.gh_core.specs.Start.{AreIndices, given, start, with_next}
 use Rattle.gh_core.proofs.CallsOver.{CallsOn, event_calls}
 use Rattle.gh_core.proofs.CoursePrograms.{Follows, end_follows, new_follows, next_follows, same_follows}
 use Rattle.gh_core.proofs.CourseRuns.{rest_is_run}
@@ -61,7 +60,8 @@ module _ {P : Type 0} (answer : P → Option Reply → program.Step) (after_repl
         (next_follows answer after_reply (first at) at number (course.conf.cpu at) (course.programs at) (keeps.follow at)
         come.may.runs come.may.between.none none (call_of (next_standing answer after_reply course at).frame))
 
-    given_each : (cpu : ℕ) → Follows answer after_reply (first cpu) ((given course.conf at number frame).cpu cpu) (put course.programs at left cpu)
+    given_each : (cpu : ℕ)
+        → Follows answer after_reply (first cpu) ((given course.conf at number frame).cpu cpu) (put course.programs at left cpu)
     given_each cpu =
         elim (eqb_tells cpu at) as (λ _. Follows answer after_reply (first cpu) ((given course.conf at number frame).cpu cpu) (put course.programs at left cpu)) [
           | inl same ↦
@@ -84,7 +84,8 @@ module _ {P : Type 0} (answer : P → Option Reply → program.Step) (after_repl
       end_follows answer after_reply (first cpu) (course.conf.cpu cpu) now (course.programs cpu) (keeps.follow cpu) over.given over.call
       (has_none course.conf cpu over.given keeps.sound.calls over.has) over.has over.made over.frame over.none
 
-  step_keeps : (course : Course P) (step : Step) → Keeps course → MayCome answer after_reply course step → Keeps (Behind course step)
+  step_keeps : (course : Course P) (step : Step) → Keeps course → MayCome answer after_reply course step
+      → Keeps (Behind course step)
   step_keeps course (Gives at number frame) keeps come = record {
     sound = step_keeps_sound course.conf (Gives at number frame) keeps.sound come.may;
     follow = given_each course at number frame keeps come;
@@ -130,7 +131,8 @@ module _ {P : Type 0} (answer : P → Option Reply → program.Step) (after_repl
     interleaving_sound =
         run_is_sound lines index steps fits indices (steps_run steps (begin (start (boot_state lines) index) first) come)
 
-    last_follows : (cpu : ℕ) → Follows answer after_reply (first cpu) (last.cpu cpu) ((fold (behind_step answer after_reply) (begin (start (boot_state lines) index) first) steps).programs cpu)
+    last_follows : (cpu : ℕ)
+        → Follows answer after_reply (first cpu) (last.cpu cpu) ((fold (behind_step answer after_reply) (begin (start (boot_state lines) index) first) steps).programs cpu)
     last_follows cpu =
         subst (λ (conf : Config). Follows answer after_reply (first cpu) (conf.cpu cpu) ((fold (behind_step answer after_reply) (begin (start (boot_state lines) index) first) steps).programs cpu))
         (steps_conf steps (begin (start (boot_state lines) index) first))
