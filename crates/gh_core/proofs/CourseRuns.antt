@@ -192,7 +192,8 @@ module _ {P : Type 0} (answer : P → Option Reply → program.Step) (after : P 
   begin_stays : Kept (begin begin_conf first)
   begin_stays = record {
     steps_are = refl;
-    runs = tt;
+    come = tt;
+    behind = refl;
     sound = start_is_sound lines index fits indices;
     free = refl;
     follow = begin_follows;
@@ -259,13 +260,13 @@ module _ {P : Type 0} (answer : P → Option Reply → program.Step) (after : P 
         → IsTrue (is_exit_call (last_or None (made_by course.conf cpu)))
     exits_last cpu there = last_is_exit cpu (subst (λ (boot : State). IsSome (cpu_row boot cpu)) (sym boot_is) there)
 
-    as_course : (one : Course P) → Kept one → IsCourse begin_conf one
-    as_course one kept = record { runs = kept.runs; behind = kept.steps_are; sound = kept.sound; free = kept.free }
+    as_course : (one : Course P) → Kept one → IsCourse answer after begin_conf first one
+    as_course one kept = record { come = kept.come; behind = kept.steps_are; sound = kept.sound; free = kept.free }
 
-    pub course_is : IsCourse begin_conf course
+    pub course_is : IsCourse answer after begin_conf first course
     course_is = as_course course stays
 
-    pub scheduled_is : IsCourse begin_conf (scheduled answer after items lines index first schedule)
+    pub scheduled_is : IsCourse answer after begin_conf first (scheduled answer after items lines index first schedule)
     scheduled_is =
         as_course (scheduled answer after items lines index first schedule)
         (schedule_stays answer after items are begin_conf first seats schedule (begin begin_conf first) begin_stays)

@@ -17,21 +17,16 @@ use Rattle.gh_model.specs.declared.program.Standing.{Standing}
 use Rattle.gh_model.specs.declared.program.Step as program
 use Rattle.gh_core.specs.Calls.{HasCalls}
 use Rattle.gh_core.specs.Config.{Config, Cpu, Current, Given, IsBetween, put}
-use Rattle.gh_core.specs.Course.{CallEnds, CallGoesOn, Course, IsItem, call_of_cpu, either_call, with_call, next_standing, with_steps}
+use Rattle.gh_core.specs.Course.{CallEnds, CallGoesOn, Course, Interleave, IsItem, begin, behind_step, call_of_cpu, either_call, next_standing, with_call, with_steps}
 use Rattle.gh_core.specs.Sound.{Does, Gives, IsSound, Runs, Step, after_step, after_steps, made_by}
 use Rattle.gh_core.specs.Start.{MayGive, given, with_next}
 use Rattle.gh_core.specs.declared.event.Event.{Event}
 use Rattle.gh_core.proofs.CoursePrograms.{FollowsSoFar, end_counted, end_follows, next_counted, next_follows, same_follows}
+use Rattle.gh_core.proofs.CourseSteps.{behind_events, behind_steps, events_interleave, interleave_on}
 use Rattle.gh_core.proofs.Finding.{put_here, put_other}
 use Rattle.gh_core.proofs.SoundEvents.{boot_stays, steps_keep_sound}
 
 -- steps
-
--- steps behind steps
-pub runs_on : (conf : Config) (steps more : List Step) → Runs conf steps → Runs (after_steps conf steps) more
-    → Runs conf (steps ++ more)
-runs_on conf [] more runs later = later
-runs_on conf (step ∷ steps) more runs later = (runs.0, runs_on (after_step conf step) steps more runs.1 later)
 
 step_boot : (conf : Config) (step : Step) → (after_step conf step).boot ≡ conf.boot
 step_boot conf (Gives at number frame) = refl
@@ -69,14 +64,17 @@ module _ {P : Type 0} (answer : P → Option Reply → program.Step) (after : P 
   -- what a course keeps between items
   pub record Stays (course : Course P) : Type 0 where
     pub steps_are : course.conf ≡ after_steps begin_conf course.steps
-    pub runs : Runs begin_conf course.steps
+    pub come : Interleave answer after (begin begin_conf first) course.steps
+    pub behind : behind_steps answer after (begin begin_conf first) course.steps ≡ course
     pub sound : IsSound course.conf
     pub free : course.conf.turn ≡ None
     pub follow : (cpu : ℕ) → FollowsSoFar answer after (first cpu) (course.conf.cpu cpu) (course.programs cpu)
 
   -- more steps, behind which programs have this left
   module _ (course : Course P) (steps : List Step) (programs : ℕ → P) (stays : Stays course)
-      (runs : Runs course.conf steps) (free : (after_steps course.conf steps).turn ≡ None)
+      (runs : Runs course.conf steps) (come : Interleave answer after course steps)
+      (comes_to : behind_steps answer after course steps ≡ record (with_steps course steps) { programs = programs })
+      (free : (after_steps course.conf steps).turn ≡ None)
       (each : (cpu : ℕ) → FollowsSoFar answer after (first cpu) ((after_steps course.conf steps).cpu cpu) (programs cpu)) where
     steps_on : after_steps course.conf steps ≡ after_steps begin_conf (course.steps ++ steps)
     steps_on =
@@ -86,7 +84,12 @@ module _ {P : Type 0} (answer : P → Option Reply → program.Step) (after : P 
     steps_stay : Stays (record (with_steps course steps) { programs = programs })
     steps_stay = record {
       steps_are = steps_on;
-      runs = runs_on begin_conf course.steps steps stays.runs (subst (λ (conf : Config). Runs conf steps) stays.steps_are runs);
+      come =
+          interleave_on answer after (begin begin_conf first) course.steps steps stays.come
+          (subst (λ (one : Course P). Interleave answer after one steps) (sym stays.behind) come);
+      behind =
+          fold-append (behind_step answer after) (begin begin_conf first) course.steps steps
+          ∙ ap (λ (one : Course P). behind_steps answer after one steps) stays.behind ∙ comes_to;
       sound = steps_keep_sound course.conf steps stays.sound runs;
       free = free;
       follow = each;
@@ -166,7 +169,7 @@ module _ {P : Type 0} (answer : P → Option Reply → program.Step) (after : P 
     pub call_stays : Stays (with_call answer after course at standing)
     call_stays =
         steps_stay course (Gives at (length made + 1) standing.frame ∷ []) (put course.programs at standing.program) stays
-        (may_give, tt) stays.free
+        (may_give, tt) (record { may = may_give; its_frame = refl }, tt) refl stays.free
         (each_but_one course (given course.conf at (length made + 1) standing.frame) at standing.program stays
         (λ n differs. put_other course.conf.cpu at _ n differs)
         (subst (λ (one : Cpu). FollowsSoFar answer after (first at) one standing.program)
@@ -209,6 +212,7 @@ module _ {P : Type 0} (answer : P → Option Reply → program.Step) (after : P 
 
     pub item_stays : (events : List Event) → IsItem course.conf at call events → Stays (with_steps course (map Does events))
     item_stays events item =
-        steps_stay course (map Does events) course.programs stays item.runs item.free
+        steps_stay course (map Does events) course.programs stays item.runs
+        (events_interleave answer after course events item.runs) (behind_events answer after course events) item.free
         (each_as_was course (after_steps course.conf (map Does events)) at (course.programs at) stays item.others
         (either_follows ((after_steps course.conf (map Does events)).cpu at) item.own) refl)

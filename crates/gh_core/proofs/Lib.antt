@@ -15,6 +15,7 @@ pub mod CoursePrograms
 pub mod CourseRounds
 pub mod CourseRuns
 pub mod CourseStays
+pub mod CourseSteps
 pub mod CpuMoves
 pub mod CpusRun
 pub mod DeathsOn

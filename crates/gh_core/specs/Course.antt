@@ -207,10 +207,12 @@ module _ {P : Type 0} (answer : P → Option Reply → program.Step)
   course_of boot index programs schedule =
       rounds last_number (scheduled boot index programs schedule)
 
--- the course's steps may come one after the other from the start on, and its configuration is the
--- one behind them, sound and with a free turn
-pub record IsCourse {P : Type 0} (begin_conf : Config) (course : Course P) : Type 0 where
-  pub runs : Runs begin_conf course.steps
+-- the course is an interleaving of its programs from the start on: its configuration is the one behind
+-- its steps, sound and with a free turn
+pub record IsCourse {P : Type 0} (answer : P → Option Reply → program.Step)
+    (after : P → Option Reply → P) (begin_conf : Config) (programs : ℕ → P) (course : Course P)
+    : Type 0 where
+  pub come : Interleave answer after (begin begin_conf programs) course.steps
   pub behind : course.conf ≡ after_steps begin_conf course.steps
   pub sound : IsSound course.conf
   pub free : course.conf.turn ≡ None

@@ -19,18 +19,18 @@ ghost use Rattle.gh_model.specs.declared.boot_line.BootLine.{BootLine};
 
 use gh_model::Program;
 
-/// The steps of a course may come one after the other from the start of its boot file on, and leave
-/// the configuration sound and the turn free: behind the schedule's items, and at the end.
+/// A course is an interleaving of its programs from the start of its boot file on, and leaves the
+/// configuration sound and the turn free: behind the schedule's items, and at the end.
 pub fn courses_are_sound<P: Program>()
     ensures schedule { (items : Config → ℕ → List Event) (boot : List BootLine) (index : ℕ → ℕ)
         (programs : ℕ → P) (schedule : List CpuNo) → AreItems items → IsTrue (boot_fits boot)
         → AreIndices (boot_state boot) index
-        → IsCourse (start (boot_state boot) index)
+        → IsCourse P.answer P.after (start (boot_state boot) index) programs
         (scheduled P.answer P.after items boot index programs schedule) }
     ensures end { (items : Config → ℕ → List Event) (boot : List BootLine) (index : ℕ → ℕ)
         (programs : ℕ → P) (schedule : List CpuNo) → AreItems items → IsTrue (boot_fits boot)
         → AreIndices (boot_state boot) index
-        → IsCourse (start (boot_state boot) index)
+        → IsCourse P.answer P.after (start (boot_state boot) index) programs
         (course_of P.answer P.after items boot index programs schedule) }
 {}
 
