@@ -16,7 +16,8 @@ use Rattle.gh_model.specs.Registers.{call_of, needs_of}
 use Rattle.gh_model.specs.declared.program.Standing.{Standing}
 use Rattle.gh_model.specs.declared.program.Step as program
 use Rattle.gh_core.specs.Config.{AtAct, Config, Cpu, Current, DeadPin, Failed, Given, Looked, Reading, Stage, Undone}
-use Rattle.gh_core.specs.Course.{AreItems, CallEnds, CallGoesOn, Course, IsItem, call_of_cpu, either_call, ended_call, items_at, items_left, items_of_call, items_of_next, with_call, with_item, with_items, with_next_call, next_standing, with_steps}
+use Rattle.gh_core.specs.Course.{Course, call_of_cpu, either_call, with_call, with_next_call, next_standing, with_steps}
+use Rattle.gh_core.specs.Schedule.{AreItems, CallEnds, CallGoesOn, IsItem, ended_call, items_at, items_left, items_of_call, items_of_next, with_item, with_items}
 use Rattle.gh_core.specs.Sound.{Does, after_steps, made_by}
 use Rattle.gh_core.specs.Start.{given, refused_frame, with_next}
 use Rattle.gh_core.specs.declared.event.Event.{Event}

@@ -13,7 +13,8 @@ use Rattle.gh_model.specs.Rows.{cpu_row}
 use Rattle.gh_model.specs.declared.program.Step as program
 use Rattle.gh_model.specs.declared.state.State.{State}
 use Rattle.gh_core.specs.Config.{Config}
-use Rattle.gh_core.specs.Course.{AreItems, Course, advanced, called, ended_call, goes_on, round, rounds, with_item, with_next_call}
+use Rattle.gh_core.specs.Course.{Course, goes_on, with_next_call}
+use Rattle.gh_core.specs.Schedule.{AreItems, advanced, called, ended_call, round, rounds, with_item}
 use Rattle.gh_core.specs.Sound.{made_by}
 use Rattle.gh_core.specs.declared.event.Event.{Event}
 use Rattle.gh_core.proofs.CourseEnds.{Grows, as_was, grows_on, one_advanced, one_called}

@@ -27,7 +27,8 @@ use Rattle.gh_model.specs.declared.program.Step as program
 use Rattle.gh_model.specs.declared.rows.CpuRow.{CpuRow}
 use Rattle.gh_model.specs.declared.state.State.{State}
 use Rattle.gh_core.specs.Config.{Config, Current, Given, present}
-use Rattle.gh_core.specs.Course.{AreItems, Course, IsCourse, advanced, begin, call_of_cpu, course_of, either_call, goes_on, marks_by, marks_of, scheduled}
+use Rattle.gh_core.specs.Course.{Course, IsCourse, begin, call_of_cpu, either_call, goes_on, marks_by, marks_of}
+use Rattle.gh_core.specs.Schedule.{AreItems, advanced, course_of, scheduled}
 use Rattle.gh_core.specs.Sound.{IsAtRest, IsSound, made_by}
 use Rattle.gh_core.specs.Start.{AreIndices, new_cpu, start}
 use Rattle.gh_core.specs.declared.event.Event as machine

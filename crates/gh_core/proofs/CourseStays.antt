@@ -17,7 +17,8 @@ use Rattle.gh_model.specs.declared.program.Standing.{Standing}
 use Rattle.gh_model.specs.declared.program.Step as program
 use Rattle.gh_core.specs.Calls.{HasCalls}
 use Rattle.gh_core.specs.Config.{Config, Cpu, Current, Given, IsBetween, put}
-use Rattle.gh_core.specs.Course.{CallEnds, CallGoesOn, Course, Interleave, IsItem, begin, behind_step, call_of_cpu, either_call, next_standing, with_call, with_steps}
+use Rattle.gh_core.specs.Course.{Course, IsInterleaving, begin, behind_step, call_of_cpu, either_call, next_standing, with_call, with_steps}
+use Rattle.gh_core.specs.Schedule.{CallEnds, CallGoesOn, IsItem}
 use Rattle.gh_core.specs.Sound.{Does, Gives, IsSound, Runs, Step, after_step, after_steps, made_by}
 use Rattle.gh_core.specs.Start.{MayGive, given, with_next}
 use Rattle.gh_core.specs.declared.event.Event.{Event}
@@ -64,7 +65,7 @@ module _ {P : Type 0} (answer : P → Option Reply → program.Step) (after : P 
   -- what a course keeps between items
   pub record Stays (course : Course P) : Type 0 where
     pub steps_are : course.conf ≡ after_steps begin_conf course.steps
-    pub come : Interleave answer after (begin begin_conf first) course.steps
+    pub come : IsInterleaving answer after (begin begin_conf first) course.steps
     pub behind : behind_steps answer after (begin begin_conf first) course.steps ≡ course
     pub sound : IsSound course.conf
     pub free : course.conf.turn ≡ None
@@ -72,7 +73,7 @@ module _ {P : Type 0} (answer : P → Option Reply → program.Step) (after : P 
 
   -- more steps, behind which programs have this left
   module _ (course : Course P) (steps : List Step) (programs : ℕ → P) (stays : Stays course)
-      (runs : Runs course.conf steps) (come : Interleave answer after course steps)
+      (runs : Runs course.conf steps) (come : IsInterleaving answer after course steps)
       (comes_to : behind_steps answer after course steps ≡ record (with_steps course steps) { programs = programs })
       (free : (after_steps course.conf steps).turn ≡ None)
       (each : (cpu : ℕ) → FollowsSoFar answer after (first cpu) ((after_steps course.conf steps).cpu cpu) (programs cpu)) where
@@ -86,7 +87,7 @@ module _ {P : Type 0} (answer : P → Option Reply → program.Step) (after : P 
       steps_are = steps_on;
       come =
           interleave_on answer after (begin begin_conf first) course.steps steps stays.come
-          (subst (λ (one : Course P). Interleave answer after one steps) (sym stays.behind) come);
+          (subst (λ (one : Course P). IsInterleaving answer after one steps) (sym stays.behind) come);
       behind =
           fold-append (behind_step answer after) (begin begin_conf first) course.steps steps
           ∙ ap (λ (one : Course P). behind_steps answer after one steps) stays.behind ∙ comes_to;

@@ -1,12 +1,11 @@
 -- The steps of a course: events leave the programs as they are, and steps come behind steps.
-use Rattle.std.proofs.Common.{◌≡◌, ◌∙◌, ℕ, List, [], ◌∷◌, ◌++◌, refl, subst, sym, ap, Option, Some, None, append_assoc, fold, map}
+use Rattle.std.proofs.Common.{◌≡◌, ◌∙◌, List, [], ◌∷◌, ◌++◌, sym, ap, Option, append_assoc, fold, map}
 use Rattle.std.proofs.lemmas.List.{append-nil}
 use Rattle.gh_base.specs.declared.frame.Reply.{Reply}
 use Rattle.gh_model.specs.declared.program.Step as program
-use Rattle.gh_core.specs.Config.{Config}
-use Rattle.gh_core.specs.Course.{Course, Interleave, behind_step, with_steps}
+use Rattle.gh_core.specs.Course.{Course, IsInterleaving, behind_step, with_steps}
 use Rattle.gh_core.specs.Events.{after}
-use Rattle.gh_core.specs.Sound.{Does, Gives, Runs, Step, after_steps}
+use Rattle.gh_core.specs.Sound.{Does, Runs, Step, after_steps}
 use Rattle.gh_core.specs.declared.event.Event.{Event}
 
 module _ {P : Type 0} (answer : P → Option Reply → program.Step) (after_reply : P → Option Reply → P) where
@@ -14,15 +13,15 @@ module _ {P : Type 0} (answer : P → Option Reply → program.Step) (after_repl
   abbrev pub behind_steps : Course P → List Step → Course P
   behind_steps course steps = fold (behind_step answer after_reply) course steps
 
-  pub interleave_on : (course : Course P) (steps more : List Step) → Interleave answer after_reply course steps
-      → Interleave answer after_reply (behind_steps course steps) more → Interleave answer after_reply course (steps ++ more)
+  pub interleave_on : (course : Course P) (steps more : List Step) → IsInterleaving answer after_reply course steps
+      → IsInterleaving answer after_reply (behind_steps course steps) more → IsInterleaving answer after_reply course (steps ++ more)
   interleave_on course [] more come later = later
   interleave_on course (step ∷ steps) more come later =
       (come.0, interleave_on (behind_step answer after_reply course step) steps more come.1 later)
 
   -- events that are possible one after the other
   pub events_interleave : (course : Course P) (events : List Event) → Runs course.conf (map Does events)
-      → Interleave answer after_reply course (map Does events)
+      → IsInterleaving answer after_reply course (map Does events)
   events_interleave course [] runs = tt
   events_interleave course (event ∷ events) runs =
       (runs.0, events_interleave (behind_step answer after_reply course (Does event)) events runs.1)

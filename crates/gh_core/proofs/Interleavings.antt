@@ -15,7 +15,7 @@ use Rattle.gh_model.specs.declared.boot_line.BootLine.{BootLine}
 use Rattle.gh_model.specs.declared.program.Step as program
 use Rattle.gh_model.specs.declared.state.State.{State}
 use Rattle.gh_core.specs.Config.{Config, Cpu, Current, present, put}
-use Rattle.gh_core.specs.Course.{Course, Interleave, IsNextCall, MayCome, begin, behind_step, call_of_cpu, either_call, marks_of, next_standing}
+use Rattle.gh_core.specs.Course.{Course, IsInterleaving, IsNextCall, MayCome, begin, behind_step, call_of_cpu, either_call, marks_of, next_standing}
 use Rattle.gh_core.specs.Events.{after}
 use Rattle.gh_core.specs.Sound.{Does, Gives, IsAtRest, IsSound, MayStep, Runs, Step, after_step, after_steps, made_by}
 use Rattle.gh_core.specs.Start.{AreIndices, given, start, with_next}
@@ -95,7 +95,7 @@ module _ {P : Type 0} (answer : P → Option Reply → program.Step) (after_repl
     follow = λ cpu. event_each course cpu ((after course.conf event).cpu cpu) keeps (event_calls course.conf event keeps.sound.valid come cpu);
   }
 
-  steps_keep : (steps : List Step) (course : Course P) → Keeps course → Interleave answer after_reply course steps
+  steps_keep : (steps : List Step) (course : Course P) → Keeps course → IsInterleaving answer after_reply course steps
       → Keeps (fold (behind_step answer after_reply) course steps)
   steps_keep [] course keeps come = keeps
   steps_keep (step ∷ steps) course keeps come =
@@ -108,7 +108,7 @@ module _ {P : Type 0} (answer : P → Option Reply → program.Step) (after_repl
       steps_conf steps (Behind course step) ∙ ap (λ (conf : Config). after_steps conf steps) (step_conf course step)
 
   -- its steps are those of a run
-  steps_run : (steps : List Step) (course : Course P) → Interleave answer after_reply course steps → Runs course.conf steps
+  steps_run : (steps : List Step) (course : Course P) → IsInterleaving answer after_reply course steps → Runs course.conf steps
   steps_run [] course come = tt
   steps_run (step ∷ steps) course come = (
     step_may course step come.0,
@@ -117,7 +117,7 @@ module _ {P : Type 0} (answer : P → Option Reply → program.Step) (after_repl
 
   module _ (lines : List BootLine) (index : ℕ → ℕ) (steps : List Step) (fits : IsTrue (boot_fits lines))
       (indices : AreIndices (boot_state lines) index)
-      (come : Interleave answer after_reply (begin (start (boot_state lines) index) first) steps) where
+      (come : IsInterleaving answer after_reply (begin (start (boot_state lines) index) first) steps) where
     abbrev last : Config
     last = after_steps (start (boot_state lines) index) steps
 

@@ -10,6 +10,7 @@ pub mod HolderEvents
 pub mod Length
 pub mod References
 pub mod Replayed
+pub mod Schedule
 pub mod Sound
 pub mod Start
 pub mod TurnEvents

@@ -5,7 +5,8 @@ ghost use Rattle.std.specs.Prelude.{◌≡◌, ℕ, List, None, IsSome, IsTrue, 
 ghost use Rattle.std.specs.List.{last_or};
 ghost use Rattle.gh_base.specs.declared.ids.CpuNo.{CpuNo};
 ghost use Rattle.gh_core.specs.Config.{Config, present};
-ghost use Rattle.gh_core.specs.Course.{AreItems, Interleave, IsCourse, begin, course_of, marks_of, scheduled};
+ghost use Rattle.gh_core.specs.Course.{IsInterleaving, IsCourse, begin, marks_of};
+ghost use Rattle.gh_core.specs.Schedule.{AreItems, course_of, scheduled};
 ghost use Rattle.gh_core.specs.Sound.{IsAtRest, IsSound, Step, after_steps, made_by};
 ghost use Rattle.gh_core.specs.Start.{AreIndices, start};
 ghost use Rattle.gh_core.specs.declared.event.Event.{Event};
@@ -61,19 +62,22 @@ pub fn courses_are_runs<P: Program>()
 {}
 
 /// And so is every interleaving of programs: where CPUs are given their programs' calls in turn, and
-/// possible events come as they may, the configuration is sound; and once all is at rest and each CPU
-/// of the boot has made its exit call, it is a run.
+/// possible events come as they may, the configuration is sound; and once all is at rest and each
+/// CPU of the boot has made its exit call, it is a run.
 pub fn interleavings_are_runs<P: Program>()
     ensures sound { (boot : List BootLine) (index : ℕ → ℕ) (programs : ℕ → P) (steps : List Step)
         → IsTrue (boot_fits boot) → AreIndices (boot_state boot) index
-        → Interleave P.answer P.after (begin (start (boot_state boot) index) programs) steps
+        → IsInterleaving P.answer P.after
+        (begin (start (boot_state boot) index) programs) steps
         → IsSound (after_steps (start (boot_state boot) index) steps) }
     ensures run { (boot : List BootLine) (index : ℕ → ℕ) (programs : ℕ → P) (steps : List Step)
         → IsTrue (boot_fits boot) → has_manager boot ≡ false → AreIndices (boot_state boot) index
-        → Interleave P.answer P.after (begin (start (boot_state boot) index) programs) steps
+        → IsInterleaving P.answer P.after
+        (begin (start (boot_state boot) index) programs) steps
         → IsAtRest (after_steps (start (boot_state boot) index) steps)
-        → ((cpu : ℕ) → IsSome (cpu_row (boot_state boot) cpu) → IsTrue (is_exit_call
-        (last_or None (made_by (after_steps (start (boot_state boot) index) steps) cpu))))
+        → ((cpu : ℕ) → IsSome (cpu_row (boot_state boot) cpu)
+        → IsTrue (is_exit_call (last_or None
+        (made_by (after_steps (start (boot_state boot) index) steps) cpu))))
         → IsRun boot (λ cpu. frames_made P.answer P.after (programs cpu))
         (map entry_of (after_steps (start (boot_state boot) index) steps).history)
         (marks_of (after_steps (start (boot_state boot) index) steps))
