@@ -16,7 +16,8 @@ use Rattle.gh_model.specs.Registers.{call_of, needs_of}
 use Rattle.gh_model.specs.declared.program.Standing.{Standing}
 use Rattle.gh_model.specs.declared.program.Step as program
 use Rattle.gh_core.specs.Config.{AtAct, Config, Cpu, Current, DeadPin, Failed, Given, Looked, Reading, Stage, Undone}
-use Rattle.gh_core.specs.Course.{AreItems, CallEnds, CallGoesOn, Course, IsItem, call_of_cpu, either_call, ended_call, items_at, items_left, items_of_call, items_of_next, with_call, with_item, with_items, with_next_call, next_standing, with_steps}
+use Rattle.gh_core.specs.Course.{Course, call_of_cpu, either_call, with_call, with_next_call, next_standing, with_steps}
+use Rattle.gh_core.specs.Schedule.{AreItems, CallEnds, CallGoesOn, IsItem, ended_call, items_at, items_left, items_of_call, items_of_next, with_item, with_items}
 use Rattle.gh_core.specs.Sound.{Does, after_steps, made_by}
 use Rattle.gh_core.specs.Start.{given, refused_frame, with_next}
 use Rattle.gh_core.specs.declared.event.Event.{Event}
@@ -207,13 +208,13 @@ module _ {P : Type 0} (answer : P → Option Reply → program.Step) (after : P 
   module _ (course : Course P) (at : ℕ) (stays : Kept course) (goes : Goes course.conf at)
       (none : call_of_cpu (course.conf.cpu at) ≡ None) where
     abbrev standing : Standing P
-    standing = next_standing answer after items course at
+    standing = next_standing answer after course at
 
     abbrev its : ℕ
     its = length (made_by course.conf at) + 1
 
     abbrev asked_course : Course P
-    asked_course = with_call answer after items course at standing
+    asked_course = with_call answer after course at standing
 
     free_cpu : (course.conf.cpu at).current ≡ None
     free_cpu = ((stays.follow at).idle none).none
@@ -271,25 +272,25 @@ module _ {P : Type 0} (answer : P → Option Reply → program.Step) (after : P 
             }
 
     next_given : (call : Option Given) → call_of_cpu (course.conf.cpu at) ≡ call
-        → IsGiven course (with_next_call answer after items course at) at
+        → IsGiven course (with_next_call answer after course at) at
     next_given None none =
         subst (λ (later : Course P). IsGiven course later at)
-        (sym (ap (λ (b : Bool). if b then course else with_call answer after items course at (next_standing answer after items course at)) (ap is_some none)))
+        (sym (ap (λ (b : Bool). if b then course else with_call answer after course at (next_standing answer after course at)) (ap is_some none)))
         (call_given course at stays goes none)
     next_given (Some call) has =
         subst (λ (later : Course P). IsGiven course later at)
-        (sym (ap (λ (b : Bool). if b then course else with_call answer after items course at (next_standing answer after items course at)) (ap is_some has)))
+        (sym (ap (λ (b : Bool). if b then course else with_call answer after course at (next_standing answer after course at)) (ap is_some has)))
         (record { stays = stays; grows = as_was course; either = inr (refl, (call, has)) })
 
-    pub one_called : HasCalled course (ended_call answer after items (with_next_call answer after items course at) at) at
-    one_called = finishes (with_next_call answer after items course at) (next_given (call_of_cpu (course.conf.cpu at)) refl)
+    pub one_called : HasCalled course (ended_call answer after items (with_next_call answer after course at) at) at
+    one_called = finishes (with_next_call answer after course at) (next_given (call_of_cpu (course.conf.cpu at)) refl)
 
     -- or one item
-    pub one_advanced : Kept (with_item answer after items (with_next_call answer after items course at) at)
+    pub one_advanced : Kept (with_item answer after items (with_next_call answer after course at) at)
     one_advanced = by_call (call_of_cpu (middle.conf.cpu at)) refl
       where
         middle : Course P
-        middle = with_next_call answer after items course at
+        middle = with_next_call answer after course at
 
         is : IsGiven course middle at
         is = next_given (call_of_cpu (course.conf.cpu at)) refl

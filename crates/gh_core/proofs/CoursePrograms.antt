@@ -1,11 +1,13 @@
 -- What a program comes to behind its replies, and that its next call is one more of its frames.
-use Rattle.std.proofs.Common.{◌≡◌, ◌==◌, ◌+◌, ◌<◌, ◌∙◌, ℕ, Bool, true, false, List, [], ◌∷◌, ◌++◌, length, refl, sym, ap, arith, Option, Some, None, map, eq-eqb, if◌then◌else◌}
-use Rattle.std.specs.Prelude.{◌||◌, option_map}
+use Rattle.std.proofs.Common.{◌≡◌, ◌==◌, ◌+◌, ◌<◌, ◌∙◌, ℕ, Bool, true, false, List, [], ◌∷◌, ◌++◌, length, refl, subst, sym, ap, arith, Option, Some, None, map, eq-eqb, if◌then◌else◌}
+use Rattle.std.specs.Prelude.{◌||◌, Result, Ok, Err, option_map}
 use Rattle.std.specs.List.{list_any}
 use Rattle.std.proofs.lemmas.Bool.Decides.{nat_tests}
 use Rattle.std.proofs.lemmas.Bool.{eqb-true, or_parts, or_right}
 use Rattle.std.proofs.lemmas.List.{length-append, length-map, map-append}
 use Rattle.std.proofs.lemmas.List.Folds.{list_any-append}
+use Rattle.gh_base.specs.declared.call.Call.{Call}
+use Rattle.gh_base.specs.declared.errno.Errno.{Errno}
 use Rattle.gh_base.specs.declared.frame.Frame.{Frame}
 use Rattle.gh_base.specs.declared.frame.Reply.{Reply}
 use Rattle.gh_model.specs.Legal.{exits}
@@ -15,8 +17,9 @@ use Rattle.gh_model.specs.Programs.{asked, frames_made, frames_on, unless_exit}
 use Rattle.gh_model.specs.declared.program.Standing.{Standing}
 use Rattle.gh_model.specs.declared.program.Step.{Step}
 use Rattle.gh_model.proofs.RunLists.{last_or_snoc}
-use Rattle.gh_core.specs.Config.{Cpu, Given, IsBetween}
-use Rattle.gh_core.specs.Course.{call_of_cpu, last_reply}
+use Rattle.gh_core.specs.Config.{Cpu, Current, Given, IsBetween}
+use Rattle.gh_core.specs.Course.{call_of_cpu, either_call, last_reply}
+use Rattle.gh_core.specs.Start.{new_cpu, refused_frame, with_next}
 
 -- the calls' frames tell whether there is an exit call
 any_exit : (made : List Made) → list_any exits made ≡ list_any is_exit (map frame_of made)
@@ -81,15 +84,19 @@ module _ {P : Type 0} (answer : P → Option Reply → Step) (after : P → Opti
   behind first made = standing_on 1 (asked answer after 1 first None) (map reply_of made)
 
   -- a CPU's calls so far are those of its program, which has this left
-  pub record FollowsSoFar (first : P) (cpu : Cpu) (program : P) : Type 0 where
+  pub record Follows (first : P) (cpu : Cpu) (program : P) : Type 0 where
     pub frames : map frame_of cpu.made ≡ frames_made answer after first (map reply_of cpu.made)
-    pub idle : call_of_cpu cpu ≡ None → IsBetween cpu
     -- between calls it is to be asked for the next one, and else it was
     pub waits : call_of_cpu cpu ≡ None
         → asked answer after (length cpu.made + 1) program (last_reply cpu.made) ≡ behind first cpu.made
     pub program_is : (given : Given) → call_of_cpu cpu ≡ Some given → program ≡ (behind first cpu.made).program
     pub frame_is : (given : Given) → call_of_cpu cpu ≡ Some given → given.frame ≡ (behind first cpu.made).frame
-    -- and its call of the last number is the exit call
+
+  -- the same between items: no pins are left of a call that has ended, and the call of the last number
+  -- is the exit call
+  pub record FollowsSoFar (first : P) (cpu : Cpu) (program : P) : Type 0 where
+    pub follows : Follows first cpu program
+    pub idle : call_of_cpu cpu ≡ None → IsBetween cpu
     pub counted : list_any exits cpu.made ≡ false → length cpu.made < last_number
 
   -- one more call, of the frame that the program makes next
@@ -140,3 +147,94 @@ module _ {P : Type 0} (answer : P → Option Reply → Step) (after : P → Opti
             let apart : (length made + 1 == last_number) ≡ false = is in
             let longer : length (made ++ call ∷ []) ≡ length made + 1 = length-append made (call ∷ []) in
             grind (arith, nat_tests)
+
+  no_call : (cpu : Cpu) (one : Given) → call_of_cpu cpu ≡ None → call_of_cpu cpu ≡ Some one → ⊥
+  no_call cpu one none is = let never : ⊥ = cc in never
+
+  -- before its first call a CPU has its program
+  pub new_follows : (first : P) → Follows first new_cpu first
+  new_follows first = record {
+    frames = refl;
+    waits = λ is. refl;
+    program_is = λ one is. absurd (no_call new_cpu one refl is);
+    frame_is = λ one is. absurd (no_call new_cpu one refl is);
+  }
+
+  module _ (first : P) (cpu now : Cpu) (program : P) (was : Follows first cpu program) where
+    -- the CPU has the same calls
+    pub same_follows : now.made ≡ cpu.made → call_of_cpu now ≡ call_of_cpu cpu → Follows first now program
+    same_follows made same = record {
+      frames = subst (λ (list : List Made). map frame_of list ≡ frames_made answer after first (map reply_of list)) (sym made) was.frames;
+      waits = λ is.
+          subst (λ (list : List Made). asked answer after (length list + 1) program (last_reply list) ≡ behind first list) (sym made)
+          (was.waits (sym same ∙ is));
+      program_is = λ one is. was.program_is one (sym same ∙ is)
+          ∙ ap (λ (list : List Made). (behind first list).program) (sym made);
+      frame_is = λ one is. was.frame_is one (sym same ∙ is) ∙ ap (λ (list : List Made). (behind first list).frame) (sym made);
+    }
+
+    -- its call has ended
+    pub end_follows : (given : Given) (call : Made) → list_any exits cpu.made ≡ false → call_of_cpu cpu ≡ Some given
+        → now.made ≡ cpu.made ++ call ∷ [] → call.frame ≡ given.frame → call_of_cpu now ≡ None → Follows first now program
+    end_follows given call going has made frame none =
+        let its_frame : call.frame ≡ (behind first cpu.made).frame = frame ∙ was.frame_is given has in
+        record {
+          frames = subst (λ (list : List Made). map frame_of list ≡ frames_made answer after first (map reply_of list)) (sym made)
+              (frames_on_call first cpu.made call going was.frames its_frame);
+          waits = λ is.
+              ap (λ (p : P). asked answer after (length now.made + 1) p (last_reply now.made)) (was.program_is given has)
+              ∙ subst (λ (list : List Made). asked answer after (length list + 1) (behind first cpu.made).program (last_reply list) ≡ behind first list) (sym made)
+              (waits_on_call first cpu.made call going was.frames its_frame);
+          program_is = λ one is. absurd (no_call now one none is);
+          frame_is = λ one is. absurd (no_call now one none is);
+        }
+
+    -- of the calls that are finished by then, the last one's number
+    pub end_counted : (given : Given) (call : Made) → list_any exits cpu.made ≡ false → call_of_cpu cpu ≡ Some given
+        → now.made ≡ cpu.made ++ call ∷ [] → call.frame ≡ given.frame → length cpu.made < last_number
+        → list_any exits now.made ≡ false → length now.made < last_number
+    end_counted given call going has made frame below =
+        subst (λ (list : List Made). list_any exits list ≡ false → length list < last_number) (sym made)
+        (counted_on_call first cpu.made call going was.frames (frame ∙ was.frame_is given has) below)
+
+  -- it is given its program's next call, which has ended at once where its frame is refused
+  module _ (first : P) (at number : ℕ) (cpu : Cpu) (program : P) (was : Follows first cpu program)
+      (going : list_any exits cpu.made ≡ false) (free : cpu.current ≡ None) (none : call_of_cpu cpu ≡ None) where
+    abbrev standing : Standing P
+    standing = asked answer after (length cpu.made + 1) program (last_reply cpu.made)
+
+    frame_same : standing.frame ≡ (behind first cpu.made).frame
+    frame_same = ap (λ (one : Standing P). one.frame) (was.waits none)
+
+    program_same : standing.program ≡ (behind first cpu.made).program
+    program_same = ap (λ (one : Standing P). one.program) (was.waits none)
+
+    pub next_follows : (shape : Result Call Errno)
+        → Follows first (with_next at number standing.frame cpu shape) standing.program
+    next_follows (Ok call) =
+        let now : Given = record { number = number; frame = standing.frame; call = call } in
+        let has : either_call cpu.current (Some now) ≡ Some now =
+        ap (λ (one : Option Current). either_call one (Some now)) free in
+        record {
+          frames = was.frames;
+          waits = λ is. absurd (let never : ⊥ = cc in never);
+          program_is = λ one is. program_same;
+          frame_is = λ one is. let same : now ≡ one = cc in ap (λ (g : Given). g.frame) (sym same) ∙ frame_same;
+        }
+    next_follows (Err errno) =
+        let call : Made = refused_frame at number standing.frame errno in
+        record {
+          frames = frames_on_call first cpu.made call going was.frames frame_same;
+          waits = λ is.
+              ap (λ (p : P). asked answer after (length (cpu.made ++ call ∷ []) + 1) p (last_reply (cpu.made ++ call ∷ []))) program_same
+              ∙ waits_on_call first cpu.made call going was.frames frame_same;
+          program_is = λ one is. absurd (no_call cpu one none is);
+          frame_is = λ one is. absurd (no_call cpu one none is);
+        }
+
+    pub next_counted : (shape : Result Call Errno) → length cpu.made < last_number
+        → list_any exits (with_next at number standing.frame cpu shape).made ≡ false
+        → length (with_next at number standing.frame cpu shape).made < last_number
+    next_counted (Ok call) below none_exits = below
+    next_counted (Err errno) below none_exits =
+        counted_on_call first cpu.made (refused_frame at number standing.frame errno) going was.frames frame_same below none_exits

@@ -13,7 +13,8 @@ use Rattle.gh_model.specs.Rows.{cpu_row}
 use Rattle.gh_model.specs.declared.program.Step as program
 use Rattle.gh_model.specs.declared.state.State.{State}
 use Rattle.gh_core.specs.Config.{Config}
-use Rattle.gh_core.specs.Course.{AreItems, Course, advanced, called, ended_call, goes_on, round, rounds, with_item, with_next_call}
+use Rattle.gh_core.specs.Course.{Course, goes_on, with_next_call}
+use Rattle.gh_core.specs.Schedule.{AreItems, advanced, called, ended_call, round, rounds, with_item}
 use Rattle.gh_core.specs.Sound.{made_by}
 use Rattle.gh_core.specs.declared.event.Event.{Event}
 use Rattle.gh_core.proofs.CourseEnds.{Grows, as_was, grows_on, one_advanced, one_called}
@@ -66,7 +67,7 @@ module _ {P : Type 0} (answer : P → Option Reply → program.Step) (after : P 
   -- the schedule
 
   advanced_by : (course : Course P) (cpu : CpuNo) (on : Bool) → goes_on course.conf cpu.0 ≡ on → Kept course
-      → Kept (if on then with_item answer after items (with_next_call answer after items course cpu.0) cpu.0 else course)
+      → Kept (if on then with_item answer after items (with_next_call answer after course cpu.0) cpu.0 else course)
   advanced_by course cpu true is stays =
       let going : Goes course.conf cpu.0 = goes course.conf cpu.0 is in
       one_advanced answer after items are begin_conf first course cpu.0 stays going (within course cpu.0 stays going)
@@ -85,7 +86,7 @@ module _ {P : Type 0} (answer : P → Option Reply → program.Step) (after : P 
     hit : HasMade course later 1 at
 
   turned_by : (course : Course P) (at : ℕ) (on : Bool) → goes_on course.conf at ≡ on → Kept course
-      → HasTurned course (if on then ended_call answer after items (with_next_call answer after items course at) at else course) at
+      → HasTurned course (if on then ended_call answer after items (with_next_call answer after course at) at else course) at
   turned_by course at true is stays =
       let going : Goes course.conf at = goes course.conf at is in
       let done = one_called answer after items are begin_conf first course at stays going (within course at stays going) in

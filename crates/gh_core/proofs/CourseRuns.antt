@@ -8,6 +8,7 @@ use Rattle.std.proofs.lemmas.Bool.{both_ways, eqb-true, ltb-true, or_parts}
 use Rattle.std.proofs.lemmas.Bool.Decides.{nat_tests}
 use Rattle.std.proofs.lemmas.List.{append-nil}
 use Rattle.std.proofs.lemmas.List.Elements.{filter-append}
+use Rattle.gh_base.specs.declared.frame.Frame.{Frame}
 use Rattle.gh_base.specs.declared.frame.Reply.{Reply}
 use Rattle.gh_base.specs.declared.ids.CpuNo.{CpuNo}
 use Rattle.gh_base.specs.declared.limits.TheConstants.{CPUS}
@@ -17,7 +18,7 @@ use Rattle.gh_model.specs.Boot.{boot_fits, boot_state}
 use Rattle.gh_model.specs.Graced.{IsGraced}
 use Rattle.gh_model.specs.History.{entry_of, replay}
 use Rattle.gh_model.specs.Legal.{IsLegal, exits, is_exit_call}
-use Rattle.gh_model.specs.Marks.{Made, mark_of}
+use Rattle.gh_model.specs.Marks.{Made, frame_of, mark_of, reply_of}
 use Rattle.gh_model.specs.Programs.{frames_made}
 use Rattle.gh_model.specs.Rows.{cpu_row}
 use Rattle.gh_model.specs.Run.{IsRun, is_mark_of}
@@ -26,11 +27,12 @@ use Rattle.gh_model.specs.declared.program.Step as program
 use Rattle.gh_model.specs.declared.rows.CpuRow.{CpuRow}
 use Rattle.gh_model.specs.declared.state.State.{State}
 use Rattle.gh_core.specs.Config.{Config, Current, Given, present}
-use Rattle.gh_core.specs.Course.{AreItems, Course, IsCourse, advanced, begin, call_of_cpu, course_of, either_call, goes_on, marks_by, marks_of, scheduled}
-use Rattle.gh_core.specs.Sound.{IsAtRest, made_by}
+use Rattle.gh_core.specs.Course.{Course, IsCourse, begin, call_of_cpu, either_call, goes_on, marks_by, marks_of}
+use Rattle.gh_core.specs.Schedule.{AreItems, advanced, course_of, scheduled}
+use Rattle.gh_core.specs.Sound.{IsAtRest, IsSound, made_by}
 use Rattle.gh_core.specs.Start.{AreIndices, new_cpu, start}
 use Rattle.gh_core.specs.declared.event.Event as machine
-use Rattle.gh_core.proofs.CoursePrograms.{FollowsSoFar}
+use Rattle.gh_core.proofs.CoursePrograms.{FollowsSoFar, new_follows}
 use Rattle.gh_core.proofs.CourseRounds.{HasEnded, rounds_end, schedule_stays}
 use Rattle.gh_core.proofs.CourseStays.{Stays, has_none, steps_boot}
 use Rattle.gh_core.proofs.SoundEvents.{start_is_sound}
@@ -128,6 +130,47 @@ module _ (n : ℕ) where
         ∙ ap (λ (list : List Mark). list ++ filter (is_mark_of n) (flat_map (marks_by conf) (range_with_len (from + 1) k))) (other_marks from (made_by conf from) apart (its from))
         ∙ marks_beyond (from + 1) k (omega arith)
 
+-- a sound configuration at rest
+
+module _ (lines : List BootLine) (fits : IsTrue (boot_fits lines)) (conf : Config) (boot_is : conf.boot ≡ boot_state lines)
+    (sound : IsSound conf) (rest : IsAtRest conf) where
+  its_cpu : (n i : ℕ) (one : Made) → slice_get (made_by conf n) i ≡ Some one → one.mark.cpu.0 ≡ n
+  its_cpu n i one is = ((rest_agrees conf sound rest).calls_are n i one is).its_cpu
+
+  -- each CPU's marks are those of its calls
+  marks_by_cpu : (row : Option CpuRow) (cpu : ℕ) → cpu_row conf.boot cpu ≡ row
+      → filter (is_mark_of cpu) (marks_of conf) ≡ marks_by conf cpu
+  marks_by_cpu (Some row) cpu there =
+      let seated : is_some (cpu_row (boot_state lines) cpu) ≡ true =
+      subst (λ (boot : State). is_some (cpu_row boot cpu) ≡ true) boot_is (ap is_some there) in
+      marks_in cpu conf its_cpu 0 CPUS (omega arith)
+      (omega (arith, cpu_small (boot_state lines) cpu (boot_fitting lines fits) seated))
+  marks_by_cpu None cpu missing = by_place (nat_lt cpu CPUS) refl
+    where
+      by_place : (within : Bool) → nat_lt cpu CPUS ≡ within
+          → filter (is_mark_of cpu) (marks_of conf) ≡ marks_by conf cpu
+      by_place true is = marks_in cpu conf its_cpu 0 CPUS (omega arith) (omega (arith, ltb-true cpu CPUS is))
+      by_place false is =
+          let beyond : CPUS ≤ cpu = grind (arith, nat_tests) in
+          marks_beyond cpu conf its_cpu 0 CPUS (omega (arith, beyond))
+          ∙ sym (ap (map mark_of) ((sound.calls.calls cpu).idle missing).made)
+
+  -- where each CPU's last call is its exit call and its calls are its program's, it is a run
+  pub rest_is_run : ((cpu : ℕ) → IsSome (cpu_row conf.boot cpu) → IsTrue (is_exit_call (last_or None (made_by conf cpu))))
+      → (frames : ℕ → List Reply → List Frame)
+      → ((cpu : ℕ) → map frame_of (made_by conf cpu) ≡ frames cpu (map reply_of (made_by conf cpu)))
+      → IsRun lines frames (map entry_of conf.history) (marks_of conf) (present conf)
+  rest_is_run exits frames follow = record {
+    history = conf.history;
+    calls = made_by conf;
+    its_entries = refl;
+    its_marks = λ cpu. sym (marks_by_cpu (cpu_row conf.boot cpu) cpu refl);
+    its_state = ap (λ (boot : State). replay boot conf.history) (sym boot_is);
+    legal = subst (λ (boot : State). IsLegal boot conf.history (made_by conf)) boot_is (rest_legal conf sound rest exits);
+    graced = subst (λ (boot : State). IsGraced boot conf.history (made_by conf)) boot_is (rest_graced conf sound rest);
+    programs = follow;
+  }
+
 -- the course
 
 module _ {P : Type 0} (answer : P → Option Reply → program.Step) (after : P → Option Reply → P)
@@ -139,24 +182,19 @@ module _ {P : Type 0} (answer : P → Option Reply → program.Step) (after : P 
   abbrev Kept : Course P → Type 0
   Kept course = Stays answer after items begin_conf first course
 
-  no_call : (one : Given) → call_of_cpu new_cpu ≡ Some one → ⊥
-  no_call one is = let never : ⊥ = cc in never
-
   -- before its first call a CPU has its program
   begin_follows : (cpu : ℕ) → FollowsSoFar answer after (first cpu) new_cpu (first cpu)
   begin_follows cpu = record {
-    frames = refl;
+    follows = new_follows answer after (first cpu);
     idle = λ is. record { none = refl; dropped = refl };
-    waits = λ is. refl;
-    program_is = λ one is. absurd (no_call one is);
-    frame_is = λ one is. absurd (no_call one is);
     counted = λ none. let zero_calls : length new_cpu.made ≡ 0 = refl in omega arith;
   }
 
   begin_stays : Kept (begin begin_conf first)
   begin_stays = record {
     steps_are = refl;
-    runs = tt;
+    come = tt;
+    behind = refl;
     sound = start_is_sound lines index fits indices;
     free = refl;
     follow = begin_follows;
@@ -223,50 +261,20 @@ module _ {P : Type 0} (answer : P → Option Reply → program.Step) (after : P 
         → IsTrue (is_exit_call (last_or None (made_by course.conf cpu)))
     exits_last cpu there = last_is_exit cpu (subst (λ (boot : State). IsSome (cpu_row boot cpu)) (sym boot_is) there)
 
-    as_course : (one : Course P) → Kept one → IsCourse begin_conf one
-    as_course one kept = record { runs = kept.runs; behind = kept.steps_are; sound = kept.sound; free = kept.free }
+    as_course : (one : Course P) → Kept one → IsCourse answer after begin_conf first one
+    as_course one kept = record { come = kept.come; behind = kept.steps_are; sound = kept.sound; free = kept.free }
 
-    pub course_is : IsCourse begin_conf course
+    pub course_is : IsCourse answer after begin_conf first course
     course_is = as_course course stays
 
-    pub scheduled_is : IsCourse begin_conf (scheduled answer after items lines index first schedule)
+    pub scheduled_is : IsCourse answer after begin_conf first (scheduled answer after items lines index first schedule)
     scheduled_is =
         as_course (scheduled answer after items lines index first schedule)
         (schedule_stays answer after items are begin_conf first seats schedule (begin begin_conf first) begin_stays)
 
-    -- each CPU's marks are those of its calls
-    marks_by_cpu : (row : Option CpuRow) (cpu : ℕ) → cpu_row course.conf.boot cpu ≡ row
-        → filter (is_mark_of cpu) (marks_of course.conf) ≡ marks_by course.conf cpu
-    marks_by_cpu (Some row) cpu there =
-        marks_in cpu course.conf its 0 CPUS (omega arith) (omega (arith, seats cpu (subst (λ (boot : State). is_some (cpu_row boot cpu) ≡ true) boot_is (ap is_some there))))
-      where
-        its : (n i : ℕ) (one : Made) → slice_get (made_by course.conf n) i ≡ Some one → one.mark.cpu.0 ≡ n
-        its n i one is = ((rest_agrees course.conf stays.sound rest).calls_are n i one is).its_cpu
-    marks_by_cpu None cpu missing = by_place (nat_lt cpu CPUS) refl
-      where
-        its : (n i : ℕ) (one : Made) → slice_get (made_by course.conf n) i ≡ Some one → one.mark.cpu.0 ≡ n
-        its n i one is = ((rest_agrees course.conf stays.sound rest).calls_are n i one is).its_cpu
-
-        by_place : (within : Bool) → nat_lt cpu CPUS ≡ within
-            → filter (is_mark_of cpu) (marks_of course.conf) ≡ marks_by course.conf cpu
-        by_place true is = marks_in cpu course.conf its 0 CPUS (omega arith) (omega (arith, ltb-true cpu CPUS is))
-        by_place false is =
-            let beyond : CPUS ≤ cpu = grind (arith, nat_tests) in
-            marks_beyond cpu course.conf its 0 CPUS (omega (arith, beyond))
-            ∙ sym (ap (map mark_of) ((stays.sound.calls.calls cpu).idle missing).made)
-
     -- it is a run
     pub course_is_run : IsRun lines (λ cpu. frames_made answer after (first cpu)) (map entry_of course.conf.history)
         (marks_of course.conf) (present course.conf)
-    course_is_run = record {
-      history = course.conf.history;
-      calls = made_by course.conf;
-      its_entries = refl;
-      its_marks = λ cpu. sym (marks_by_cpu (cpu_row course.conf.boot cpu) cpu refl);
-      its_state = ap (λ (boot : State). replay boot course.conf.history) (sym boot_is);
-      legal = subst (λ (boot : State). IsLegal boot course.conf.history (made_by course.conf)) boot_is
-          (rest_legal course.conf stays.sound rest last_is_exit);
-      graced = subst (λ (boot : State). IsGraced boot course.conf.history (made_by course.conf)) boot_is
-          (rest_graced course.conf stays.sound rest);
-      programs = λ cpu. (stays.follow cpu).frames;
-    }
+    course_is_run =
+        rest_is_run lines fits course.conf boot_is stays.sound rest last_is_exit (λ cpu. frames_made answer after (first cpu))
+        (λ cpu. (stays.follow cpu).follows.frames)

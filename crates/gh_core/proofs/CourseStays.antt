@@ -9,30 +9,25 @@ use Rattle.gh_base.specs.declared.call.Call.{Call}
 use Rattle.gh_base.specs.declared.errno.Errno.{Errno}
 use Rattle.gh_base.specs.declared.frame.Reply.{Reply}
 use Rattle.gh_model.specs.Legal.{exits}
-use Rattle.gh_model.specs.Marks.{Made, frame_of, reply_of}
+use Rattle.gh_model.specs.Marks.{Made}
 use Rattle.gh_model.specs.Program.{last_number}
-use Rattle.gh_model.specs.Programs.{asked, frames_made}
 use Rattle.gh_model.specs.Registers.{call_of}
 use Rattle.gh_model.specs.Rows.{cpu_row}
 use Rattle.gh_model.specs.declared.program.Standing.{Standing}
 use Rattle.gh_model.specs.declared.program.Step as program
 use Rattle.gh_core.specs.Calls.{HasCalls}
 use Rattle.gh_core.specs.Config.{Config, Cpu, Current, Given, IsBetween, put}
-use Rattle.gh_core.specs.Course.{CallEnds, CallGoesOn, Course, IsItem, call_of_cpu, either_call, last_reply, with_call, next_standing, with_steps}
+use Rattle.gh_core.specs.Course.{Course, IsInterleaving, begin, behind_step, call_of_cpu, either_call, next_standing, with_call, with_steps}
+use Rattle.gh_core.specs.Schedule.{CallEnds, CallGoesOn, IsItem}
 use Rattle.gh_core.specs.Sound.{Does, Gives, IsSound, Runs, Step, after_step, after_steps, made_by}
-use Rattle.gh_core.specs.Start.{MayGive, given, refused_frame, with_next}
+use Rattle.gh_core.specs.Start.{MayGive, given, with_next}
 use Rattle.gh_core.specs.declared.event.Event.{Event}
-use Rattle.gh_core.proofs.CoursePrograms.{FollowsSoFar, behind, counted_on_call, frames_on_call, waits_on_call}
+use Rattle.gh_core.proofs.CoursePrograms.{FollowsSoFar, end_counted, end_follows, next_counted, next_follows, same_follows}
+use Rattle.gh_core.proofs.CourseSteps.{behind_events, behind_steps, events_interleave, interleave_on}
 use Rattle.gh_core.proofs.Finding.{put_here, put_other}
 use Rattle.gh_core.proofs.SoundEvents.{boot_stays, steps_keep_sound}
 
 -- steps
-
--- steps behind steps
-pub runs_on : (conf : Config) (steps more : List Step) → Runs conf steps → Runs (after_steps conf steps) more
-    → Runs conf (steps ++ more)
-runs_on conf [] more runs later = later
-runs_on conf (step ∷ steps) more runs later = (runs.0, runs_on (after_step conf step) steps more runs.1 later)
 
 step_boot : (conf : Config) (step : Step) → (after_step conf step).boot ≡ conf.boot
 step_boot conf (Gives at number frame) = refl
@@ -70,14 +65,17 @@ module _ {P : Type 0} (answer : P → Option Reply → program.Step) (after : P 
   -- what a course keeps between items
   pub record Stays (course : Course P) : Type 0 where
     pub steps_are : course.conf ≡ after_steps begin_conf course.steps
-    pub runs : Runs begin_conf course.steps
+    pub come : IsInterleaving answer after (begin begin_conf first) course.steps
+    pub behind : behind_steps answer after (begin begin_conf first) course.steps ≡ course
     pub sound : IsSound course.conf
     pub free : course.conf.turn ≡ None
     pub follow : (cpu : ℕ) → FollowsSoFar answer after (first cpu) (course.conf.cpu cpu) (course.programs cpu)
 
   -- more steps, behind which programs have this left
   module _ (course : Course P) (steps : List Step) (programs : ℕ → P) (stays : Stays course)
-      (runs : Runs course.conf steps) (free : (after_steps course.conf steps).turn ≡ None)
+      (runs : Runs course.conf steps) (come : IsInterleaving answer after course steps)
+      (comes_to : behind_steps answer after course steps ≡ record (with_steps course steps) { programs = programs })
+      (free : (after_steps course.conf steps).turn ≡ None)
       (each : (cpu : ℕ) → FollowsSoFar answer after (first cpu) ((after_steps course.conf steps).cpu cpu) (programs cpu)) where
     steps_on : after_steps course.conf steps ≡ after_steps begin_conf (course.steps ++ steps)
     steps_on =
@@ -87,7 +85,12 @@ module _ {P : Type 0} (answer : P → Option Reply → program.Step) (after : P 
     steps_stay : Stays (record (with_steps course steps) { programs = programs })
     steps_stay = record {
       steps_are = steps_on;
-      runs = runs_on begin_conf course.steps steps stays.runs (subst (λ (conf : Config). Runs conf steps) stays.steps_are runs);
+      come =
+          interleave_on answer after (begin begin_conf first) course.steps steps stays.come
+          (subst (λ (one : Course P). IsInterleaving answer after one steps) (sym stays.behind) come);
+      behind =
+          fold-append (behind_step answer after) (begin begin_conf first) course.steps steps
+          ∙ ap (λ (one : Course P). behind_steps answer after one steps) stays.behind ∙ comes_to;
       sound = steps_keep_sound course.conf steps stays.sound runs;
       free = free;
       follow = each;
@@ -129,7 +132,7 @@ module _ {P : Type 0} (answer : P → Option Reply → program.Step) (after : P 
     made = made_by course.conf at
 
     abbrev standing : Standing P
-    standing = next_standing answer after items course at
+    standing = next_standing answer after course at
 
     own : FollowsSoFar answer after (first at) cpu (course.programs at)
     own = stays.follow at
@@ -150,49 +153,24 @@ module _ {P : Type 0} (answer : P → Option Reply → program.Step) (after : P 
       bounded = omega (arith, own.counted goes.no_exit);
     }
 
-    stands : standing ≡ behind answer after (first at) made
-    stands = own.waits none
-
-    frame_same : standing.frame ≡ (behind answer after (first at) made).frame
-    frame_same = ap (λ (one : Standing P). one.frame) stands
-
-    program_same : standing.program ≡ (behind answer after (first at) made).program
-    program_same = ap (λ (one : Standing P). one.program) stands
-
     given_follows : (call : Result Call Errno)
         → FollowsSoFar answer after (first at) (with_next at (length made + 1) standing.frame cpu call) standing.program
-    given_follows (Ok call) =
-        let now : Given = record { number = length made + 1; frame = standing.frame; call = call } in
-        let has : either_call cpu.current (Some now) ≡ Some now =
-        ap (λ (one : Option Current). either_call one (Some now)) between.none in
-        record {
-          frames = own.frames;
-          idle = λ is. absurd (let never : ⊥ = cc in never);
-          waits = λ is. absurd (let never : ⊥ = cc in never);
-          program_is = λ one is. program_same;
-          frame_is = λ one is. let same : now ≡ one = cc in ap (λ (g : Given). g.frame) (sym same) ∙ frame_same;
-          counted = own.counted;
-        }
-    given_follows (Err errno) =
-        let call : Made = refused_frame at (length made + 1) standing.frame errno in
-        record {
-          frames = frames_on_call answer after (first at) made call goes.no_exit own.frames frame_same;
-          idle = λ is. record { none = between.none; dropped = between.dropped };
-          waits = λ is.
-              ap (λ (p : P). asked answer after (length (made ++ call ∷ []) + 1) p (last_reply (made ++ call ∷ []))) program_same
-              ∙ waits_on_call answer after (first at) made call goes.no_exit own.frames frame_same;
-          program_is = λ one is. let never : ⊥ = no_call one is in absurd never;
-          frame_is = λ one is. let never : ⊥ = no_call one is in absurd never;
-          counted = counted_on_call answer after (first at) made call goes.no_exit own.frames frame_same (own.counted goes.no_exit);
-        }
+    given_follows call = record {
+      follows = next_follows answer after (first at) at (length made + 1) cpu (course.programs at) own.follows goes.no_exit between.none none call;
+      idle = still_between call;
+      counted = next_counted answer after (first at) at (length made + 1) cpu (course.programs at) own.follows goes.no_exit between.none none call (own.counted goes.no_exit);
+    }
       where
-        no_call : (one : Given) → call_of_cpu cpu ≡ Some one → ⊥
-        no_call one is = let gone : call_of_cpu cpu ≡ None = none in cc
+        still_between : (shape : Result Call Errno)
+            → call_of_cpu (with_next at (length made + 1) standing.frame cpu shape) ≡ None
+            → IsBetween (with_next at (length made + 1) standing.frame cpu shape)
+        still_between (Ok call) is = record { none = between.none; dropped = between.dropped }
+        still_between (Err errno) is = record { none = between.none; dropped = between.dropped }
 
-    pub call_stays : Stays (with_call answer after items course at standing)
+    pub call_stays : Stays (with_call answer after course at standing)
     call_stays =
         steps_stay course (Gives at (length made + 1) standing.frame ∷ []) (put course.programs at standing.program) stays
-        (may_give, tt) stays.free
+        (may_give, tt) (record { may = may_give; its_frame = refl }, tt) refl stays.free
         (each_but_one course (given course.conf at (length made + 1) standing.frame) at standing.program stays
         (λ n differs. put_other course.conf.cpu at _ n differs)
         (subst (λ (one : Cpu). FollowsSoFar answer after (first at) one standing.program)
@@ -212,37 +190,20 @@ module _ {P : Type 0} (answer : P → Option Reply → program.Step) (after : P 
     goes_follows now on =
         let still : call_of_cpu now ≡ Some call = on.same ∙ has in
         record {
-          frames = subst (λ (list : List Made). map frame_of list ≡ frames_made answer after (first at) (map reply_of list)) (sym on.made) was.frames;
+          follows = same_follows answer after (first at) before now (course.programs at) was.follows on.made on.same;
           idle = λ is. absurd (let never : ⊥ = cc in never);
-          waits = λ is. absurd (let never : ⊥ = cc in never);
-          program_is = λ one is. was.program_is one (sym on.same ∙ is)
-              ∙ ap (λ (list : List Made). (behind answer after (first at) list).program) (sym on.made);
-          frame_is = λ one is. was.frame_is one (sym on.same ∙ is)
-              ∙ ap (λ (list : List Made). (behind answer after (first at) list).frame) (sym on.made);
           counted = subst (λ (list : List Made). list_any exits list ≡ false → length list < last_number) (sym on.made) was.counted;
         }
 
     ended_follows : (now : Cpu) → CallEnds call before now → FollowsSoFar answer after (first at) now (course.programs at)
     ended_follows now ends =
         let going : list_any exits before.made ≡ false = has_none course.conf at call stays.sound.calls has in
-        let frame : ends.call.frame ≡ (behind answer after (first at) before.made).frame = ends.frame ∙ was.frame_is call has in
         let none : call_of_cpu now ≡ None =
         ap (λ (one : Option Current). either_call one now.next) ends.between.none ∙ ends.none in
-        let left : P = (behind answer after (first at) before.made).program in
-        let no_call : (one : Given) → call_of_cpu now ≡ Some one → ⊥ =
-        λ one is. let gone : call_of_cpu now ≡ None = none in cc in
         record {
-          frames = subst (λ (list : List Made). map frame_of list ≡ frames_made answer after (first at) (map reply_of list)) (sym ends.made)
-              (frames_on_call answer after (first at) before.made ends.call going was.frames frame);
+          follows = end_follows answer after (first at) before now (course.programs at) was.follows call ends.call going has ends.made ends.frame none;
           idle = λ is. ends.between;
-          waits = λ is.
-              ap (λ (p : P). asked answer after (length now.made + 1) p (last_reply now.made)) (was.program_is call has)
-              ∙ subst (λ (list : List Made). asked answer after (length list + 1) left (last_reply list) ≡ behind answer after (first at) list) (sym ends.made)
-              (waits_on_call answer after (first at) before.made ends.call going was.frames frame);
-          program_is = λ one is. absurd (no_call one is);
-          frame_is = λ one is. absurd (no_call one is);
-          counted = subst (λ (list : List Made). list_any exits list ≡ false → length list < last_number) (sym ends.made)
-              (counted_on_call answer after (first at) before.made ends.call going was.frames frame (was.counted going));
+          counted = end_counted answer after (first at) before now (course.programs at) was.follows call ends.call going has ends.made ends.frame (was.counted going);
         }
 
     either_follows : (now : Cpu) → CallGoesOn before now ⊎ CallEnds call before now
@@ -252,6 +213,7 @@ module _ {P : Type 0} (answer : P → Option Reply → program.Step) (after : P 
 
     pub item_stays : (events : List Event) → IsItem course.conf at call events → Stays (with_steps course (map Does events))
     item_stays events item =
-        steps_stay course (map Does events) course.programs stays item.runs item.free
+        steps_stay course (map Does events) course.programs stays item.runs
+        (events_interleave answer after course events item.runs) (behind_events answer after course events) item.free
         (each_as_was course (after_steps course.conf (map Does events)) at (course.programs at) stays item.others
         (either_follows ((after_steps course.conf (map Does events)).cpu at) item.own) refl)

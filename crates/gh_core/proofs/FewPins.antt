@@ -156,13 +156,13 @@ failed_cpus : (conf : Config) (object : ℕ) (found : Option ObjectRow) → (kil
 failed_cpus conf object None = refl
 failed_cpus conf object (Some row) = refl
 
-killed_cpus : (conf : Config) (object : ℕ) (none : Bool)
+pub killed_cpus : (conf : Config) (object : ℕ) (none : Bool)
     → (if none then record (with_turn without_scans conf) { dead = put conf.dead object true }
     else kill_failed conf object (object_at (present conf) conf.index object)).cpu ≡ conf.cpu
 killed_cpus conf object true = refl
 killed_cpus conf object false = failed_cpus conf object (object_at (present conf) conf.index object)
 
-committed_cpus : (conf : Config) (entry : Entry) (index : State → ℕ → ℕ) (current : Option Current)
+pub committed_cpus : (conf : Config) (entry : Entry) (index : State → ℕ → ℕ) (current : Option Current)
     → (committed_by conf entry index current).cpu ≡ conf.cpu
 committed_cpus conf entry index None = refl
 committed_cpus conf entry index (Some call) = refl

@@ -130,3 +130,11 @@ event_index conf event serial made = (event_keeps conf event).index serial made
 pub run_index : (conf : Config) (steps : List Step) (serial : ℕ) → serial < (present conf).next_serial
     → (after_steps conf steps).index serial ≡ conf.index serial
 run_index conf steps serial made = (steps_keep conf steps).index serial made
+
+-- and it stays made
+
+pub event_made : (conf : Config) (event : Event) → (present conf).next_serial ≤ (present (after conf event)).next_serial
+event_made conf event = (event_keeps conf event).rises
+
+pub run_made : (conf : Config) (steps : List Step) → (present conf).next_serial ≤ (present (after_steps conf steps)).next_serial
+run_made conf steps = (steps_keep conf steps).rises

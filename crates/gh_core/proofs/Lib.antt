@@ -11,6 +11,7 @@ pub mod CallTests
 pub mod CallsEnd
 pub mod CallsGoOn
 pub mod CallsKeep
+pub mod CallsOver
 pub mod CausesHeld
 pub mod ChangeLives
 pub mod Commits
@@ -20,6 +21,7 @@ pub mod CoursePrograms
 pub mod CourseRounds
 pub mod CourseRuns
 pub mod CourseStays
+pub mod CourseSteps
 pub mod CpuMoves
 pub mod CpusRun
 pub mod DeathsOn
@@ -56,6 +58,7 @@ pub mod GraceTurn
 pub mod HolderCalls
 pub mod HolderTests
 pub mod IndicesStay
+pub mod Interleavings
 pub mod KillKeeps
 pub mod KilledNone
 pub mod LeaveKeeps

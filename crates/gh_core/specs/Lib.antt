@@ -15,6 +15,7 @@ pub mod References
 pub mod Replayed
 pub mod Rising
 pub mod Running
+pub mod Schedule
 pub mod Sound
 pub mod Start
 pub mod Sweep

@@ -34,6 +34,7 @@ pub use calls::{
     quit_keeps_calls, take_keeps_calls, undo_keeps_calls, unpin_keeps_calls, words_keep_calls,
 };
 pub use config::Config;
+pub use course::{courses_are_runs, courses_are_sound, courses_end, interleavings_are_runs};
 pub use course::{courses_are_runs, courses_are_sound, courses_end};
 pub use entries::{
     boot_file_has_references, commit_keeps_references, events_keep_state, set_cap_keeps_references,

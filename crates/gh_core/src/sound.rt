@@ -82,10 +82,10 @@ pub fn counts_fit()
         → conf.count at < 2 ^ 63 }
 {}
 
-/// No history is as long as 12,500,000 entries: neither that of a sound configuration, nor that of any
-/// list of such steps from a boot file on. An act is one of a call, of which a CPU has 458,752 at
-/// most; and retirements, reclaims and parts are counted against objects and capabilities, of which a
-/// boot file has few and an act makes one.
+/// No history is as long as 12,500,000 entries: neither that of a sound configuration, nor that of
+/// any list of such steps from a boot file on. An act is one of a call, of which a CPU has 458,752
+/// at most; and retirements, reclaims and parts are counted against objects and capabilities, of
+/// which a boot file has few and an act makes one.
 pub fn histories_are_short()
     ensures sound { (conf : Config) → IsSound conf → length conf.history < too_long }
     ensures runs { (lines : List BootLine) (index : ℕ → ℕ) (steps : List Step)
@@ -94,7 +94,8 @@ pub fn histories_are_short()
         → length (after_steps (start (boot_state lines) index) steps).history < too_long }
 {}
 
-/// The index of each object that was made stays: over an event, and over any list of steps.
+/// The index of each object that was made stays, and what was made stays made: over an event, and
+/// over any list of steps. So the pairs of a serial and its index only grow.
 pub fn indices_stay()
     ensures event { (conf : Config) (event : Event) (serial : ℕ)
         → serial < (present conf).next_serial
@@ -102,6 +103,10 @@ pub fn indices_stay()
     ensures run { (conf : Config) (steps : List Step) (serial : ℕ)
         → serial < (present conf).next_serial
         → (after_steps conf steps).index serial ≡ conf.index serial }
+    ensures made { (conf : Config) (event : Event)
+        → (present conf).next_serial ≤ (present (after conf event)).next_serial }
+    ensures made_by_run { (conf : Config) (steps : List Step)
+        → (present conf).next_serial ≤ (present (after_steps conf steps)).next_serial }
 {}
 
 /// The word of a live object that isn't dead is its references, all pins on it and what the holder

@@ -1,0 +1,175 @@
+-- What each event leaves of the calls of a CPU: it has the same calls, or the one in progress has
+-- ended.
+use Rattle.std.proofs.Common.{◌≡◌, ◌==◌, ◌⊎◌, inl, inr, ◌+◌, ◌∙◌, ℕ, Bool, true, false, List, [], ◌∷◌, ◌++◌, refl, subst, sym, ap, Option, Some, None, if◌then◌else◌}
+use Rattle.std.specs.Prelude.{is_some, option_map}
+use Rattle.gh_base.specs.declared.frame.Reply.{Reply}
+use Rattle.gh_base.specs.declared.mark.End.{End}
+use Rattle.gh_model.specs.Marks.{Made, frame_of}
+use Rattle.gh_core.specs.CallEvents.{MayEnter, after_leave, at_stage, begun, finished, found, has_needs, with_call, with_end, with_left, with_look, with_pin}
+use Rattle.gh_core.specs.Config as config
+use Rattle.gh_core.specs.Config.{AtAct, Config, Cpu, Current, DeadPin, Failed, Given, Holder, Looked, Reading, Stage, Undone, object_at, present, put}
+use Rattle.gh_core.specs.Course.{call_of_cpu, either_call}
+use Rattle.gh_core.specs.Entries.{index_after}
+use Rattle.gh_core.specs.Events.{Possible, after}
+use Rattle.gh_core.specs.TurnEvents.{Ending, MayTake, call_at_act, end_call, ending, if_at_act, ready, with_ending}
+use Rattle.gh_core.specs.ValidState.{HasValid}
+use Rattle.gh_core.specs.declared.event.Event.{Event}
+use Rattle.gh_core.specs.declared.event.Event.TheVariants.{Enter, Leave, Take, Look, Pin, Unpin, Undo, Kill, Commit, SetCap, Free, Scan, Revive, Join, Split}
+use Rattle.gh_core.proofs.FewPins.{committed_cpus, killed_cpus}
+use Rattle.gh_core.proofs.LengthCalls.{put_each}
+
+-- the CPU has the same calls
+pub record SameCalls (before now : Cpu) : Type 0 where
+  pub made : now.made ≡ before.made
+  pub same : call_of_cpu now ≡ call_of_cpu before
+
+-- the call in progress has ended
+pub record CallOver (before now : Cpu) : Type 0 where
+  pub given : Given
+  pub call : Made
+  pub has : call_of_cpu before ≡ Some given
+  pub made : now.made ≡ before.made ++ call ∷ []
+  pub frame : frame_of call ≡ given.frame
+  pub none : call_of_cpu now ≡ None
+
+abbrev pub CallsOn : Cpu → Cpu → Type 0
+CallsOn before now = SameCalls before now ⊎ CallOver before now
+
+as_before : (cpu : Cpu) → CallsOn cpu cpu
+as_before cpu = inl (record { made = refl; same = refl })
+
+-- a call that goes on
+changed_call : (cpu : Cpu) (change : Current → Current) → ((call : Current) → (change call).given ≡ call.given)
+    → CallsOn cpu (with_call change cpu)
+changed_call cpu change keeps = inl (record { made = refl; same = by_current cpu.current })
+  where
+    by_current : (current : Option Current) → either_call (option_map change current) cpu.next ≡ either_call current cpu.next
+    by_current None = refl
+    by_current (Some call) = ap Some (keeps call)
+
+-- a call that begins
+begun_call : (conf : Config) (at : ℕ) → MayEnter conf at
+    → CallsOn (conf.cpu at) (record (conf.cpu at) { next = None; current = option_map (begun (conf.counter at + 1) Reading) (conf.cpu at).next })
+begun_call conf at may = inl (record {
+  made = refl;
+  same = by_next (conf.cpu at).next ∙ sym (ap (λ (one : Option Current). either_call one (conf.cpu at).next) may.between.none);
+})
+  where
+    by_next : (next : Option Given)
+        → either_call (option_map (begun (conf.counter at + 1) Reading) next) None ≡ either_call None next
+    by_next None = refl
+    by_next (Some given) = refl
+
+-- a call that has its end
+ended_call : (at : ℕ) (cpu : Cpu) (call : Current) (end : End) (reply : Reply) → cpu.current ≡ Some call → cpu.next ≡ None
+    → CallsOn cpu (with_end cpu (finished at call end reply))
+ended_call at cpu call end reply is alone = inr (record {
+  given = call.given;
+  call = finished at call end reply;
+  has = ap (λ (one : Option Current). either_call one cpu.next) is;
+  made = refl;
+  frame = refl;
+  none = alone;
+})
+
+left_by : (at : ℕ) (cpu : Cpu) (call : Current) → cpu.current ≡ Some call → cpu.next ≡ None → (stage : Stage)
+    → CallsOn cpu (with_left at cpu call stage)
+left_by at cpu call is alone Reading =
+    inl (record { made = refl; same = sym (ap (λ (one : Option Current). either_call one cpu.next) is) })
+left_by at cpu call is alone _ = ended_call at cpu call _ _ is alone
+
+left_call : (at : ℕ) (cpu : Cpu) (current : Option Current) → cpu.current ≡ current → (is_some current ≡ true → cpu.next ≡ None)
+    → CallsOn cpu (after_leave at cpu current)
+left_call at cpu None is alone = as_before cpu
+left_call at cpu (Some call) is alone = left_by at cpu call is (alone refl) call.stage
+
+freed_by : (at : ℕ) (cpu : Cpu) (call : Current) (end : Option Ending) → cpu.current ≡ Some call → cpu.next ≡ None
+    → CallsOn cpu (with_ending at cpu call end)
+freed_by at cpu call None is alone = as_before cpu
+freed_by at cpu call (Some end) is alone = ended_call at cpu call end.end end.reply is alone
+
+freed_call : (conf : Config) (at : ℕ) (turn : Option Holder) (current : Option Current) → (conf.cpu at).current ≡ current
+    → (is_some current ≡ true → (conf.cpu at).next ≡ None) → CallsOn (conf.cpu at) (end_call conf at turn current)
+freed_call conf at None current is alone = as_before (conf.cpu at)
+freed_call conf at (Some holder) None is alone = as_before (conf.cpu at)
+freed_call conf at (Some holder) (Some call) is alone = freed_by at (conf.cpu at) call (ending conf at holder call) is (alone refl)
+
+-- a call that comes to its act
+taken_by : (current : Option Current) (pins : List config.Pin) (next : Option Given) (call : Current)
+    → call_at_act current pins next ≡ Some call
+    → either_call (Some call) (if is_some current then next else None) ≡ either_call current next
+taken_by (Some one) pins next call is = by_stage one.stage is
+  where
+    by_stage : (stage : Stage) → if_at_act stage one ≡ Some call → Some call.given ≡ Some one.given
+    by_stage AtAct same = let its : one ≡ call = cc in ap (λ (c : Current). Some c.given) (sym its)
+    by_stage Reading same = absurd (let never : ⊥ = cc in never)
+    by_stage Looked same = absurd (let never : ⊥ = cc in never)
+    by_stage DeadPin same = absurd (let never : ⊥ = cc in never)
+    by_stage Undone same = absurd (let never : ⊥ = cc in never)
+    by_stage Failed same = absurd (let never : ⊥ = cc in never)
+taken_by None [] None call is = absurd (let never : ⊥ = cc in never)
+taken_by None [] (Some given) call is = by_needs (has_needs given) is
+  where
+    by_needs : (needs : Bool) → (if needs then None else Some (begun 0 AtAct given)) ≡ Some call → Some call.given ≡ Some given
+    by_needs true same = absurd (let never : ⊥ = cc in never)
+    by_needs false same = let its : begun 0 AtAct given ≡ call = cc in ap (λ (c : Current). Some c.given) (sym its)
+taken_by None (pin ∷ pins) next call is = absurd (let never : ⊥ = cc in never)
+
+taken_call : (conf : Config) (at : ℕ) → MayTake conf at
+    → CallsOn (conf.cpu at) (record (conf.cpu at) {
+      next = if is_some (conf.cpu at).current then (conf.cpu at).next else None;
+      current = ready (conf.cpu at);
+    })
+taken_call conf at may = inl (record {
+  made = refl;
+  same =
+      ap (λ (one : Option Current). either_call one (if is_some (conf.cpu at).current then (conf.cpu at).next else None)) may.is_ready
+      ∙ taken_by (conf.cpu at).current (conf.cpu at).pins (conf.cpu at).next may.call may.is_ready;
+})
+
+pinned_call : (dead : Bool) (cpu : Cpu) → CallsOn cpu (with_pin dead cpu)
+pinned_call true cpu = changed_call cpu (at_stage DeadPin) (λ call. refl)
+pinned_call false cpu = inl (record { made = refl; same = by_current cpu.current })
+  where
+    by_current : (current : Option Current)
+        → either_call (option_map (at_stage Reading) current) cpu.next ≡ either_call current cpu.next
+    by_current None = refl
+    by_current (Some call) = refl
+
+-- every event
+
+module _ (conf : Config) where
+  abbrev AllOn : (ℕ → Cpu) → Type 0
+  AllOn cpus = (n : ℕ) → CallsOn (conf.cpu n) (cpus n)
+
+  one_on : (at : ℕ) (one : Cpu) → CallsOn (conf.cpu at) one → AllOn (put conf.cpu at one)
+  one_on at one on n = put_each (λ i cpu. CallsOn (conf.cpu i) cpu) conf.cpu at one on (λ i differs. as_before (conf.cpu i)) n
+
+  all_on : AllOn conf.cpu
+  all_on n = as_before (conf.cpu n)
+
+  pub event_calls : (event : Event) → HasValid conf → Possible conf event → AllOn (after conf event).cpu
+  event_calls (Enter cpu) valid may = one_on cpu.0 _ (begun_call conf cpu.0 may)
+  event_calls (Leave cpu) valid may =
+      one_on cpu.0 _ (left_call cpu.0 (conf.cpu cpu.0) (conf.cpu cpu.0).current refl (valid.cpus cpu.0).alone)
+  event_calls (Take cpu) valid may = one_on cpu.0 _ (taken_call conf cpu.0 may)
+  event_calls (Look cpu slot) valid may =
+      one_on cpu.0 _ (changed_call (conf.cpu cpu.0) (λ call. with_look (found conf cpu.0 slot call) call) (λ call. refl))
+  event_calls (Pin cpu object false) valid may = one_on cpu.0 _ (pinned_call (conf.dead object.0) (conf.cpu cpu.0))
+  event_calls (Pin cpu object true) valid may = all_on
+  event_calls (Unpin cpu object false) valid may = one_on cpu.0 _ (inl (record { made = refl; same = refl }))
+  event_calls (Unpin cpu object true) valid may = all_on
+  event_calls (Undo cpu object) valid may = one_on cpu.0 _ (changed_call (conf.cpu cpu.0) (at_stage Undone) (λ call. refl))
+  event_calls (Kill cpu object) valid may =
+      subst AllOn (sym (killed_cpus conf object.0 (conf.count object.0 == 0))) all_on
+  event_calls (Commit cpu entry) valid may =
+      subst AllOn (sym (committed_cpus conf entry (λ new. conf.index) (conf.cpu cpu.0).current)) all_on
+  event_calls (SetCap cpu entry space slot word) valid may =
+      subst AllOn (sym (committed_cpus conf entry (λ new. index_after conf new word) (conf.cpu cpu.0).current)) all_on
+  event_calls (Free cpu true) valid may =
+      one_on cpu.0 _ (freed_call conf cpu.0 conf.turn (conf.cpu cpu.0).current refl (valid.cpus cpu.0).alone)
+  event_calls (Free cpu false) valid may = all_on
+  event_calls (Scan cpu of_cpu) valid may = all_on
+  event_calls (Revive cpu object count) valid may = all_on
+  event_calls (Join cpu) valid may = all_on
+  event_calls (Split cpu) valid may = all_on

@@ -1,0 +1,150 @@
+-- Every interleaving of programs is sound, and a run once all have made their exit calls.
+use Rattle.std.proofs.Common.{◌≡◌, ◌∙◌, inl, inr, ℕ, List, [], ◌∷◌, refl, subst, sym, ap, IsSome, IsTrue, Option, None, fold, map}
+use Rattle.std.specs.List.{last_or}
+use Rattle.std.proofs.lemmas.Bool.Decides.{eqb_tells}
+use Rattle.gh_base.specs.declared.frame.Frame.{Frame}
+use Rattle.gh_base.specs.declared.frame.Reply.{Reply}
+use Rattle.gh_model.specs.Boot.{boot_fits, boot_state}
+use Rattle.gh_model.specs.History.{entry_of}
+use Rattle.gh_model.specs.Legal.{is_exit_call}
+use Rattle.gh_model.specs.Programs.{frames_made}
+use Rattle.gh_model.specs.Registers.{call_of}
+use Rattle.gh_model.specs.Rows.{cpu_row}
+use Rattle.gh_model.specs.Run.{IsRun}
+use Rattle.gh_model.specs.declared.boot_line.BootLine.{BootLine}
+use Rattle.gh_model.specs.declared.program.Step as program
+use Rattle.gh_model.specs.declared.state.State.{State}
+use Rattle.gh_core.specs.Config.{Config, Cpu, Current, present, put}
+use Rattle.gh_core.specs.Course.{Course, IsInterleaving, IsNextCall, MayCome, begin, behind_step, call_of_cpu, either_call, marks_of, next_standing}
+use Rattle.gh_core.specs.Events.{after}
+use Rattle.gh_core.specs.Sound.{Does, Gives, IsAtRest, IsSound, MayStep, Runs, Step, after_step, after_steps, made_by}
+use Rattle.gh_core.specs.Start.{AreIndices, given, start, with_next}
+use Rattle.gh_core.proofs.CallsOver.{CallsOn, event_calls}
+use Rattle.gh_core.proofs.CoursePrograms.{Follows, end_follows, new_follows, next_follows, same_follows}
+use Rattle.gh_core.proofs.CourseRuns.{rest_is_run}
+use Rattle.gh_core.proofs.CourseStays.{has_none, steps_boot}
+use Rattle.gh_core.proofs.Finding.{put_here, put_other}
+use Rattle.gh_core.proofs.SoundEvents.{run_is_sound, step_keeps_sound, start_is_sound}
+
+module _ {P : Type 0} (answer : P → Option Reply → program.Step) (after_reply : P → Option Reply → P) (first : ℕ → P) where
+  abbrev Behind : Course P → Step → Course P
+  Behind course step = behind_step answer after_reply course step
+
+  -- what a course keeps with each step
+  record Keeps (course : Course P) : Type 0 where
+    sound : IsSound course.conf
+    follow : (cpu : ℕ) → Follows answer after_reply (first cpu) (course.conf.cpu cpu) (course.programs cpu)
+
+  -- a step of programs is a step
+  step_may : (course : Course P) (step : Step) → MayCome answer after_reply course step → MayStep course.conf step
+  step_may course (Gives at number frame) come = come.may
+  step_may course (Does event) come = come
+
+  step_conf : (course : Course P) (step : Step) → (Behind course step).conf ≡ after_step course.conf step
+  step_conf course (Gives at number frame) = refl
+  step_conf course (Does event) = refl
+
+  -- a call that a CPU is given
+  module _ (course : Course P) (at number : ℕ) (frame : Frame) (keeps : Keeps course)
+      (come : IsNextCall answer after_reply course at number frame) where
+    none : call_of_cpu (course.conf.cpu at) ≡ None
+    none = ap (λ (one : Option Current). either_call one (course.conf.cpu at).next) come.may.between.none ∙ come.may.none
+
+    abbrev left : P
+    left = (next_standing answer after_reply course at).program
+
+    here : Follows answer after_reply (first at) (with_next at number frame (course.conf.cpu at) (call_of frame)) left
+    here =
+        subst (λ (one : Frame). Follows answer after_reply (first at) (with_next at number one (course.conf.cpu at) (call_of one)) left)
+        (sym come.its_frame)
+        (next_follows answer after_reply (first at) at number (course.conf.cpu at) (course.programs at) (keeps.follow at)
+        come.may.runs come.may.between.none none (call_of (next_standing answer after_reply course at).frame))
+
+    given_each : (cpu : ℕ)
+        → Follows answer after_reply (first cpu) ((given course.conf at number frame).cpu cpu) (put course.programs at left cpu)
+    given_each cpu =
+        elim (eqb_tells cpu at) as (λ _. Follows answer after_reply (first cpu) ((given course.conf at number frame).cpu cpu) (put course.programs at left cpu)) [
+          | inl same ↦
+              subst (λ (n : ℕ). Follows answer after_reply (first n) ((given course.conf at number frame).cpu n) (put course.programs at left n)) (sym same.1)
+              (subst (λ (p : P). Follows answer after_reply (first at) ((given course.conf at number frame).cpu at) p) (sym (put_here course.programs at left))
+              (subst (λ (one : Cpu). Follows answer after_reply (first at) one left)
+              (sym (put_here course.conf.cpu at (with_next at number frame (course.conf.cpu at) (call_of frame)))) here))
+          | inr differs ↦
+              subst (λ (p : P). Follows answer after_reply (first cpu) ((given course.conf at number frame).cpu cpu) p) (sym (put_other course.programs at left cpu differs.0))
+              (subst (λ (one : Cpu). Follows answer after_reply (first cpu) one (course.programs cpu))
+              (sym (put_other course.conf.cpu at _ cpu differs.0)) (keeps.follow cpu))
+        ]
+
+  -- an event
+  event_each : (course : Course P) (cpu : ℕ) (now : Cpu) → Keeps course → CallsOn (course.conf.cpu cpu) now
+      → Follows answer after_reply (first cpu) now (course.programs cpu)
+  event_each course cpu now keeps (inl on) =
+      same_follows answer after_reply (first cpu) (course.conf.cpu cpu) now (course.programs cpu) (keeps.follow cpu) on.made on.same
+  event_each course cpu now keeps (inr over) =
+      end_follows answer after_reply (first cpu) (course.conf.cpu cpu) now (course.programs cpu) (keeps.follow cpu) over.given over.call
+      (has_none course.conf cpu over.given keeps.sound.calls over.has) over.has over.made over.frame over.none
+
+  step_keeps : (course : Course P) (step : Step) → Keeps course → MayCome answer after_reply course step
+      → Keeps (Behind course step)
+  step_keeps course (Gives at number frame) keeps come = record {
+    sound = step_keeps_sound course.conf (Gives at number frame) keeps.sound come.may;
+    follow = given_each course at number frame keeps come;
+  }
+  step_keeps course (Does event) keeps come = record {
+    sound = step_keeps_sound course.conf (Does event) keeps.sound come;
+    follow = λ cpu. event_each course cpu ((after course.conf event).cpu cpu) keeps (event_calls course.conf event keeps.sound.valid come cpu);
+  }
+
+  steps_keep : (steps : List Step) (course : Course P) → Keeps course → IsInterleaving answer after_reply course steps
+      → Keeps (fold (behind_step answer after_reply) course steps)
+  steps_keep [] course keeps come = keeps
+  steps_keep (step ∷ steps) course keeps come =
+      steps_keep steps (Behind course step) (step_keeps course step keeps come.0) come.1
+
+  steps_conf : (steps : List Step) (course : Course P)
+      → (fold (behind_step answer after_reply) course steps).conf ≡ after_steps course.conf steps
+  steps_conf [] course = refl
+  steps_conf (step ∷ steps) course =
+      steps_conf steps (Behind course step) ∙ ap (λ (conf : Config). after_steps conf steps) (step_conf course step)
+
+  -- its steps are those of a run
+  steps_run : (steps : List Step) (course : Course P) → IsInterleaving answer after_reply course steps → Runs course.conf steps
+  steps_run [] course come = tt
+  steps_run (step ∷ steps) course come = (
+    step_may course step come.0,
+    subst (λ (conf : Config). Runs conf steps) (step_conf course step) (steps_run steps (Behind course step) come.1),
+  )
+
+  module _ (lines : List BootLine) (index : ℕ → ℕ) (steps : List Step) (fits : IsTrue (boot_fits lines))
+      (indices : AreIndices (boot_state lines) index)
+      (come : IsInterleaving answer after_reply (begin (start (boot_state lines) index) first) steps) where
+    abbrev last : Config
+    last = after_steps (start (boot_state lines) index) steps
+
+    begin_keeps : Keeps (begin (start (boot_state lines) index) first)
+    begin_keeps = record {
+      sound = start_is_sound lines index fits indices;
+      follow = λ cpu. new_follows answer after_reply (first cpu);
+    }
+
+    pub interleaving_sound : IsSound last
+    interleaving_sound =
+        run_is_sound lines index steps fits indices (steps_run steps (begin (start (boot_state lines) index) first) come)
+
+    last_follows : (cpu : ℕ)
+        → Follows answer after_reply (first cpu) (last.cpu cpu) ((fold (behind_step answer after_reply) (begin (start (boot_state lines) index) first) steps).programs cpu)
+    last_follows cpu =
+        subst (λ (conf : Config). Follows answer after_reply (first cpu) (conf.cpu cpu) ((fold (behind_step answer after_reply) (begin (start (boot_state lines) index) first) steps).programs cpu))
+        (steps_conf steps (begin (start (boot_state lines) index) first))
+        ((steps_keep steps (begin (start (boot_state lines) index) first) begin_keeps come).follow cpu)
+
+    boot_is : last.boot ≡ boot_state lines
+    boot_is = steps_boot (start (boot_state lines) index) steps
+
+    pub interleaving_is_run : IsAtRest last
+        → ((cpu : ℕ) → IsSome (cpu_row (boot_state lines) cpu) → IsTrue (is_exit_call (last_or None (made_by last cpu))))
+        → IsRun lines (λ cpu. frames_made answer after_reply (first cpu)) (map entry_of last.history) (marks_of last) (present last)
+    interleaving_is_run rest exits =
+        rest_is_run lines fits last boot_is interleaving_sound rest
+        (λ cpu there. exits cpu (subst (λ (boot : State). IsSome (cpu_row boot cpu)) boot_is there))
+        (λ cpu. frames_made answer after_reply (first cpu)) (λ cpu. (last_follows cpu).frames)

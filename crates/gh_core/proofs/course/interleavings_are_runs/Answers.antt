@@ -1,0 +1,11 @@
+-- The law is the lemma.
+use Rattle.gh_core.proofs.Interleavings.{interleaving_is_run, interleaving_sound}
+use Rattle.gh_core.proofs.course.interleavings_are_runs.Goals as goal
+
+pub returns-clause-sound : goal.returns-clause-sound
+returns-clause-sound g c = λ boot index programs steps fits indices come.
+    interleaving_sound g.P.Program.answer g.P.Program.after programs boot index steps fits indices come
+
+pub returns-clause-run : goal.returns-clause-run
+returns-clause-run g c = λ boot index programs steps fits none indices come rest exits.
+    interleaving_is_run g.P.Program.answer g.P.Program.after programs boot index steps fits indices come rest exits
