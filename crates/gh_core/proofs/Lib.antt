@@ -58,12 +58,14 @@ pub mod NoPins
 pub mod OweKeeps
 pub mod Owing
 pub mod PartCalls
+pub mod PartItems
 pub mod PinCalls
 pub mod PinKeeps
 pub mod Places
 pub mod RetiredSince
 pub mod ReviveKeeps
 pub mod RisingRows
+pub mod Revokes
 pub mod SawPins
 pub mod Scanning
 pub mod SetCapWords
