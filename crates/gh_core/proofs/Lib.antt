@@ -14,6 +14,7 @@ pub mod ChangeLives
 pub mod Commits
 pub mod CpuMoves
 pub mod CpusRun
+pub mod Creates
 pub mod DeathsOn
 pub mod EntryBalance
 pub mod EntryCalls
