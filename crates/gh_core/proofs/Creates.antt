@@ -52,7 +52,7 @@ use Rattle.gh_core.specs.Config.{AtAct, Config, Current, HasTurn, Holder, IsIn, 
 use Rattle.gh_core.specs.Entries.{Allows, Covers, index_after, is_that_index, logged, makes_object, owed_after, row_shown, shown}
 use Rattle.gh_core.specs.Entries as entries
 use Rattle.gh_core.specs.HolderEvents.{MayRevive, is_create, is_done, revived, with_revived}
-use Rattle.gh_core.specs.Indices.{new_index}
+use Rattle.gh_core.specs.Indices.{IsFreeIndex, new_index}
 use Rattle.gh_core.specs.Sound.{IsSound}
 use Rattle.gh_core.specs.Start.{AreIndices}
 use Rattle.gh_core.specs.Trace.{after_all}
@@ -82,11 +82,6 @@ use Rattle.gh_core.proofs.SoundEvents.{event_keeps_sound}
 use Rattle.gh_core.proofs.TraceLaws.{Leads, leads_append, leads_cons, leads_none, leads_so}
 use Rattle.gh_core.proofs.TurnItems.{HasActed}
 use Rattle.gh_core.proofs.WordsFollow.{lives_any}
-
--- the index that a new object gets is one where none lives
-pub record IsFreeIndex (conf : Config) (at : ℕ) : Type 0 where
-  pub within : at < OBJECT_INDICES
-  pub uninhabited : object_at (present conf) conf.index at ≡ None
 
 weaken : (s : State) (next : ℕ) (serials : List Serial) → AllLive s.objects serials
     → IsTrue (list_all (lives_or_new s next) serials)

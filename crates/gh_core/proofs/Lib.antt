@@ -1,4 +1,5 @@
 pub mod ActCalls
+pub mod ActItems
 pub mod Acting
 pub mod ActFits
 pub mod BoundKeeps
@@ -44,6 +45,7 @@ pub mod GraceScans
 pub mod GraceSpares
 pub mod GraceTurn
 pub mod HolderCalls
+pub mod ItemsLaw
 pub mod KillKeeps
 pub mod KilledNone
 pub mod LeaveKeeps

@@ -171,30 +171,29 @@ module _ (conf : Config) (at : ℕ) (call : Current) (revoking : IsRevoking conf
 
     less_there : (cap : ℕ → ℕ → CapWord) (count owed : ℕ → ℕ) → IsSound (Behind cap count owed)
         → ((i : ℕ) → owed i ≡ 0) → OneLess (Behind cap count owed)
-    less_there cap count owed sound none =
-        (
-          record {
-            judged = record {
-              holder = entered_by holder entry holder.revived owed;
-              active = record {
-                sound = sound;
-                few = revoking.judged.active.few;
-                is_cpu = revoking.judged.active.is_cpu;
-                has_turn = record { turn = refl; its_cpu = revoking.judged.active.has_turn.its_cpu };
-                in_act = revoking.judged.active.in_act;
-                owes_nothing = none;
-                unrevived = revoking.judged.active.unrevived;
-              };
-              not_acted = none_acted holder.entries entry is_acted revoking.judged.not_acted refl;
-              none_killed = subst (λ (now : State). NoneKilled now conf.index conf.dead) (sym grown) (λ serial. revoking.judged.none_killed serial);
-            };
-            revokes = revoking.revokes;
-            taken = subst (λ (now : State). AreTaken now (object_of call)) (sym grown) (taken_more s (object_of call) row revoking.judged.active.sound.valid.valid next revoking.taken);
-            parts = subst (λ (now : State). (length now.taken == 0) ≡ true → has_part (entered_by holder entry holder.revived owed) ≡ false) (sym grown) long;
-          },
-          subst (λ (now : State). count_by (is_plain_of (object_of call).0) now.caps + 1 ≡ count_by (is_plain_of (object_of call).0) s.caps) (sym grown)
-              (one_fewer s (object_of call) row revoking.judged.active.sound.valid.valid next),
-        )
+    less_there cap count owed sound none = (
+      record {
+        judged = record {
+          holder = entered_by holder entry holder.revived owed;
+          active = record {
+            sound = sound;
+            few = revoking.judged.active.few;
+            is_cpu = revoking.judged.active.is_cpu;
+            has_turn = record { turn = refl; its_cpu = revoking.judged.active.has_turn.its_cpu };
+            in_act = revoking.judged.active.in_act;
+            owes_nothing = none;
+            unrevived = revoking.judged.active.unrevived;
+          };
+          not_acted = none_acted holder.entries entry is_acted revoking.judged.not_acted refl;
+          none_killed = subst (λ (now : State). NoneKilled now conf.index conf.dead) (sym grown) (λ serial. revoking.judged.none_killed serial);
+        };
+        revokes = revoking.revokes;
+        taken = subst (λ (now : State). AreTaken now (object_of call)) (sym grown) (taken_more s (object_of call) row revoking.judged.active.sound.valid.valid next revoking.taken);
+        parts = subst (λ (now : State). (length now.taken == 0) ≡ true → has_part (entered_by holder entry holder.revived owed) ≡ false) (sym grown) long;
+      },
+      subst (λ (now : State). count_by (is_plain_of (object_of call).0) now.caps + 1 ≡ count_by (is_plain_of (object_of call).0) s.caps) (sym grown)
+          (one_fewer s (object_of call) row revoking.judged.active.sound.valid.valid next),
+    )
 
     part_leads : Leads conf (committing at entry conf) OneLess
     part_leads =
@@ -250,8 +249,7 @@ module _ (conf : Config) (at : ℕ) (call : Current) (revoking : IsRevoking conf
   pub refused_before : goes_on (judged s at call) ≡ false → is_done (judged s at call) ≡ false
       → (has_part holder ≡ false) × (judged s at call ≡ Refused (refusal CapRevoked))
   refused_before rests undone =
-      let ends : at_end ≡ true = rests_by at_end (is_finished s (object_of call)) refl (sym (ap goes_on judged_is) ∙ rests) (sym (ap is_done judged_is) ∙ undone) in
-      (
+      let ends : at_end ≡ true = rests_by at_end (is_finished s (object_of call)) refl (sym (ap goes_on judged_is) ∙ rests) (sym (ap is_done judged_is) ∙ undone) in (
         revoking.parts (and_parts (length s.taken == 0) (any_doomed s (grants_of call.given.call (map word_of call.seen))) ends).0,
         judged_is ∙ ap (λ (b : Bool). verdict s (if b then Refuse CapRevoked else caps_revoke s (object_of call))) ends,
       )
