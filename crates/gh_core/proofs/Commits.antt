@@ -150,49 +150,22 @@ pub record IsCommitted (conf : Config) (holder : Holder) (entry : Entry) (call :
   pub owes : OwesNothing (entered_by holder entry revived owed)
 
 module _ (conf : Config) (at : ℕ) (entry : Entry) (holder : Holder) (call : Current)
-    (active : IsActive conf at holder call) (allows : Allows conf at entry holder call)
-    (makes : MakesNone (present conf) (logged entry call)) where
-  abbrev s : State
+    (active : IsActive conf at holder call) (allows : Allows conf at entry holder call) where
+  abbrev pub s : State
   s = present conf
 
-  abbrev new : State
+  abbrev pub new : State
   new = next_state conf call entry
 
-  abbrev changes : List Change
+  abbrev pub changes : List Change
   changes = changes_of (present conf) (logged entry call)
 
-  fits : EventFits s (logged entry call)
+  pub fits : EventFits s (logged entry call)
   fits = event_fits conf at entry holder call conf.index allows active.sound.valid
-
-  plain_or_new : (serials : List Serial) → AllLive s.objects serials
-      → IsTrue (list_all (lives_or_new s s.next_serial) serials)
-  plain_or_new [] all = refl
-  plain_or_new (serial ∷ serials) all =
-      let parts = and_parts (lives_here s.objects serial) (list_all (lives_here s.objects) serials) all in
-      and_from _ _ (either (lives s.objects serial.0) _ parts.0) (plain_or_new serials parts.1)
-    where
-      either : (a b : Bool) → a ≡ true → (a || b) ≡ true
-      either true b is = refl
-      either false b is = absurd (let never : ⊥ = cc in never)
-
-  births : Births s new conf.index conf.index (λ i. 0) (gained s changes) (lost s changes)
-  births = record {
-    indices = indices_of conf active.sound.references active.sound.state.within;
-    given = active.sound.state.given;
-    kept = λ object alive. refl;
-    came = λ object alive. inl (makes.lived object alive);
-    extra_old = λ i some. refl;
-    extra_none = λ i none gone. refl;
-    gained = plain_or_new (gained s changes) makes.gained;
-    lost = makes.lost;
-    moved = λ object some. event_moved s (logged entry call) object active.sound.valid.valid fits some;
-    valid = active.sound.valid.valid;
-    valid_after = event_valid s (logged entry call) active.sound.valid.valid fits;
-  }
 
   -- gains
 
-  owed_serials : List Serial
+  unfoldable pub owed_serials : List Serial
   owed_serials = filter (is_made s.next_serial) (gained s changes)
 
   -- what gets a reference has one, so its word isn't dead
@@ -238,11 +211,10 @@ module _ (conf : Config) (at : ℕ) (entry : Entry) (holder : Holder) (call : Cu
       by_kept true here rest = and_from _ _ here rest
       by_kept false here rest = rest
 
-  serials_owable : AllOwable conf owed_serials
+  serials_owable : AllLive s.objects owed_serials → AllOwable conf owed_serials
   unfolding owed_serials
-  serials_owable =
-      owable (filter (is_made s.next_serial) (gained s changes))
-      (filtered (lives_here s.objects) (is_made s.next_serial) (gained s changes) makes.gained)
+  serials_owable alive =
+      owable (filter (is_made s.next_serial) (gained s changes)) alive
       (filtered (is_referred s) (is_made s.next_serial) (gained s changes) (event_given s (logged entry call) fits))
 
   length_filtered : {X : Type 0} (q : X → Bool) (xs : List X) → length (filter q xs) ≤ length xs
@@ -269,158 +241,191 @@ module _ (conf : Config) (at : ℕ) (entry : Entry) (holder : Holder) (call : Cu
   is_owed : at_owed conf holder conf.count holder.owed ≡ conf
   is_owed = ap (λ (turn : Option Holder). record conf { turn = turn }) (sym active.has_turn.turn)
 
-  amounts : ℕ → ℕ
+  unfoldable pub amounts : ℕ → ℕ
   amounts i = holder.owed i + count_at conf.index owed_serials i
 
-  gains_lead : Leads conf (gains_owed at s conf.index (gained s changes)) (IsOwing conf holder amounts)
+  pub gains_lead : AllLive s.objects owed_serials → Leads conf (gains_owed at s conf.index (gained s changes)) (IsOwing conf holder amounts)
   unfolding owed_serials amounts
-  gains_lead =
+  gains_lead alive =
       subst (λ (now : Config). Leads now (gains_owed at s conf.index (gained s changes)) (IsOwing conf holder (λ i. holder.owed i + count_at conf.index (filter (is_made s.next_serial) (gained s changes)) i))) is_owed
-      (owes_lead conf holder at active.is_cpu active.has_turn.its_cpu (filter (is_made s.next_serial) (gained s changes)) conf.count holder.owed serials_owable room_there
+      (owes_lead conf holder at active.is_cpu active.has_turn.its_cpu (filter (is_made s.next_serial) (gained s changes)) conf.count holder.owed (serials_owable alive) room_there
       (subst IsSound (sym is_owed) active.sound))
 
-  -- the entry
+  -- an entry that makes no object
 
-  module _ (count owed : ℕ → ℕ) (owes : (i : ℕ) → owed i ≡ amounts i)
-      (sound : IsSound (at_owed conf holder count owed)) where
-    abbrev now : Config
-    now = at_owed conf holder count owed
+  module _ (makes : MakesNone (present conf) (logged entry call)) where
+    plain_or_new : (serials : List Serial) → AllLive s.objects serials
+        → IsTrue (list_all (lives_or_new s s.next_serial) serials)
+    plain_or_new [] all = refl
+    plain_or_new (serial ∷ serials) all =
+        let parts = and_parts (lives_here s.objects serial) (list_all (lives_here s.objects) serials) all in
+        and_from _ _ (either (lives s.objects serial.0) _ parts.0) (plain_or_new serials parts.1)
+      where
+        either : (a b : Bool) → a ≡ true → (a || b) ≡ true
+        either true b is = refl
+        either false b is = absurd (let never : ⊥ = cc in never)
 
-    abbrev owing : Holder
-    owing = with_amounts holder owed
-
-    even : (i : ℕ) → references_at new conf.index i + count_at conf.index (lost s changes) i
-        ≡ owed i + references_at s conf.index i
-    unfolding amounts owed_serials owed_there owed_gains
-    even i =
-        let sums : references_at new conf.index i + count_at conf.index (lost s changes) i
-        ≡ count_at conf.index (filter (is_made s.next_serial) (gained s changes)) i + 0 + references_at s conf.index i =
-        balanced s new conf.index conf.index (λ n. 0) (gained s changes) (lost s changes) births i in
-        omega (arith, sums, owes i, active.owes_nothing i)
-
-    covers : Covers now owing new conf.index
-    covers = λ i within. omega (arith, even i)
-
-    left_owed : (i : ℕ) → owed_after now owing new conf.index i ≡ count_at conf.index (lost s changes) i
-    left_owed i = omega (arith, even i)
-
-    allowed : Allows now at entry owing call
-    allowed = allows_owed conf at entry holder call count owed allows
-
-    -- behind the entry: what was lost is owed
-    abbrev behind : (ℕ → ℕ → CapWord) → Config
-    behind cap = record conf {
-      history = conf.history ++ logged entry call ∷ [];
-      cap = cap;
-      turn = Some (entered_by holder entry holder.revived holder.owed);
+    births : Births s new conf.index conf.index (λ i. 0) (gained s changes) (lost s changes)
+    births = record {
+      indices = indices_of conf active.sound.references active.sound.state.within;
+      given = active.sound.state.given;
+      kept = λ object alive. refl;
+      came = λ object alive. inl (makes.lived object alive);
+      extra_old = λ i some. refl;
+      extra_none = λ i none gone. refl;
+      gained = plain_or_new (gained s changes) makes.gained;
+      lost = makes.lost;
+      moved = λ object some. event_moved s (logged entry call) object active.sound.valid.valid fits some;
+      valid = active.sound.valid.valid;
+      valid_after = event_valid s (logged entry call) active.sound.valid.valid fits;
     }
 
-    abbrev entered : Holder
-    entered = entered_by holder entry holder.revived holder.owed
+    made_alive : AllLive s.objects owed_serials
+    unfolding owed_serials
+    made_alive = filtered (lives_here s.objects) (is_made s.next_serial) (gained s changes) makes.gained
 
-    losses_lead : (cap : ℕ → ℕ → CapWord)
-        → IsSound (at_owed (behind cap) entered count (owed_after now owing new conf.index))
-        → Leads (at_owed (behind cap) entered count (owed_after now owing new conf.index))
-        (losses_settled at conf.index (lost s changes))
+    -- the entry
+
+    module _ (count owed : ℕ → ℕ) (owes : (i : ℕ) → owed i ≡ amounts i)
+        (sound : IsSound (at_owed conf holder count owed)) where
+      abbrev now : Config
+      now = at_owed conf holder count owed
+
+      abbrev owing : Holder
+      owing = with_amounts holder owed
+
+      even : (i : ℕ) → references_at new conf.index i + count_at conf.index (lost s changes) i
+          ≡ owed i + references_at s conf.index i
+      unfolding amounts owed_serials owed_there owed_gains
+      even i =
+          let sums : references_at new conf.index i + count_at conf.index (lost s changes) i
+          ≡ count_at conf.index (filter (is_made s.next_serial) (gained s changes)) i + 0 + references_at s conf.index i =
+          balanced s new conf.index conf.index (λ n. 0) (gained s changes) (lost s changes) births i in
+          omega (arith, sums, owes i, active.owes_nothing i)
+
+      covers : Covers now owing new conf.index
+      covers = λ i within. omega (arith, even i)
+
+      left_owed : (i : ℕ) → owed_after now owing new conf.index i ≡ count_at conf.index (lost s changes) i
+      left_owed i = omega (arith, even i)
+
+      allowed : Allows now at entry owing call
+      allowed = allows_owed conf at entry holder call count owed allows
+
+      -- behind the entry: what was lost is owed
+      abbrev behind : (ℕ → ℕ → CapWord) → Config
+      behind cap = record conf {
+        history = conf.history ++ logged entry call ∷ [];
+        cap = cap;
+        turn = Some (entered_by holder entry holder.revived holder.owed);
+      }
+
+      abbrev entered : Holder
+      entered = entered_by holder entry holder.revived holder.owed
+
+      losses_lead : (cap : ℕ → ℕ → CapWord)
+          → IsSound (at_owed (behind cap) entered count (owed_after now owing new conf.index))
+          → Leads (at_owed (behind cap) entered count (owed_after now owing new conf.index))
+          (losses_settled at conf.index (lost s changes))
+          (IsCommitted conf holder entry call conf.index conf.dead holder.revived)
+      losses_lead cap is_sound =
+          leads_so (at_owed (behind cap) entered count (owed_after now owing new conf.index)) (losses_settled at conf.index (lost s changes))
+          (IsOwing (behind cap) entered (λ i. 0)) (IsCommitted conf holder entry call conf.index conf.dead holder.revived)
+          (settles_lead (behind cap) entered at active.is_cpu active.has_turn.its_cpu active.unrevived (lost s changes) count (owed_after now owing new conf.index)
+          (within_all (lost s changes) makes.lost) left_owed is_sound)
+          (λ last has. record { count = has.count; owed = has.owed; cap = cap; is = has.is; sound = has.sound; owes = has.owes })
+
+      -- Commit
+
+      commit_leads : slot_set changes ≡ None
+          → Leads now (Commit (cpu_no at) entry ∷ losses_settled at conf.index (lost s changes))
+          (IsCommitted conf holder entry call conf.index conf.dead holder.revived)
+      commit_leads none =
+          let may : MayCommit now at entry = record { is_cpu = active.is_cpu; holder = owing; call = call; allows = allowed; no_slot = none_set changes none; covers = covers } in
+          let goes : committed now at entry ≡ at_owed (behind conf.cap) entered count (owed_after now owing new conf.index) =
+          ap (committed_by now entry (λ state. now.index)) active.in_act.is_current in
+          let is_sound : IsSound (at_owed (behind conf.cap) entered count (owed_after now owing new conf.index)) =
+          subst IsSound goes (event_keeps_sound now (Commit (cpu_no at) entry) sound may) in
+          let rest : Leads (committed now at entry) (losses_settled at conf.index (lost s changes)) (IsCommitted conf holder entry call conf.index conf.dead holder.revived) =
+          subst (λ (there : Config). Leads there (losses_settled at conf.index (lost s changes)) (IsCommitted conf holder entry call conf.index conf.dead holder.revived)) (sym goes) (losses_lead conf.cap is_sound) in
+          record { done = (may, rest.done); behind = rest.behind }
+
+      -- SetCap
+
+      unborn : (alive : Bool) → lives new.objects s.next_serial ≡ alive → makes_object s new ≡ false
+      unborn false is = is
+      unborn true is =
+          let made : s.next_serial < s.next_serial = active.sound.state.given s.next_serial (makes.lived s.next_serial is) in
+          absurd (omega (arith, made))
+
+      index_same : (word : CapWord) → index_after now new word ≡ conf.index
+      index_same word =
+          ap (λ (born : Bool). if born then put conf.index s.next_serial (object_of word.0) else conf.index) (unborn (lives new.objects s.next_serial) refl)
+
+      set_leads : (place : ℕ × ℕ) → slot_set changes ≡ Some place
+          → Leads now
+          (SetCap (cpu_no at) entry (index_no (conf.index place.0)) place.1 (slot_word new conf.index place) ∷ losses_settled at conf.index (lost s changes))
+          (IsCommitted conf holder entry call conf.index conf.dead holder.revived)
+      set_leads place is =
+          let word : CapWord = slot_word new conf.index place in
+          let same : index_after now new (slot_word new conf.index place) ≡ conf.index = index_same (slot_word new conf.index place) in
+          let may : MaySetCap now at entry (conf.index place.0) place.1 (slot_word new conf.index place) = record {
+            is_cpu = active.is_cpu;
+            is_index = active.sound.state.within place.0 (makes.home place is);
+            holder = owing;
+            call = call;
+            allows = allowed;
+            one_slot = omega (arith, some_set changes place is, event_sets_few s (logged entry call));
+            cspace = place.0;
+            sets = is;
+            at_space = refl;
+            shows = ap (λ (index : ℕ → ℕ). shown index (word_at new place.0 place.1)) (sym same);
+            revived = λ born. let never_born : makes_object s new ≡ false = unborn (lives new.objects s.next_serial) refl in absurd (let never : ⊥ = cc in never);
+            covers = subst (λ (index : ℕ → ℕ). Covers now owing new index) (sym same) covers;
+          } in
+          let cap : ℕ → ℕ → CapWord = put_word conf.cap (conf.index place.0) place.1 (slot_word new conf.index place) in
+          let goes : set_cap now at entry (conf.index place.0) place.1 (slot_word new conf.index place)
+          ≡ at_owed (behind (put_word conf.cap (conf.index place.0) place.1 (slot_word new conf.index place))) entered count (owed_after now owing new conf.index) =
+          ap (λ (current : Option Current). record (committed_by now entry (λ state. index_after now state (slot_word new conf.index place)) current) { cap = put_word conf.cap (conf.index place.0) place.1 (slot_word new conf.index place) }) active.in_act.is_current
+          ∙ ap (λ (index : ℕ → ℕ). record (at_owed (behind (put_word conf.cap (conf.index place.0) place.1 (slot_word new conf.index place))) entered count (owed_after now owing new index)) { index = index }) same in
+          let is_sound : IsSound (at_owed (behind cap) entered count (owed_after now owing new conf.index)) =
+          subst IsSound goes (event_keeps_sound now (SetCap (cpu_no at) entry (index_no (conf.index place.0)) place.1 (slot_word new conf.index place)) sound may) in
+          let rest : Leads (set_cap now at entry (conf.index place.0) place.1 (slot_word new conf.index place)) (losses_settled at conf.index (lost s changes)) (IsCommitted conf holder entry call conf.index conf.dead holder.revived) =
+          subst (λ (there : Config). Leads there (losses_settled at conf.index (lost s changes)) (IsCommitted conf holder entry call conf.index conf.dead holder.revived)) (sym goes) (losses_lead cap is_sound) in
+          record { done = (may, rest.done); behind = rest.behind }
+
+      entry_leads : (place : Option (ℕ × ℕ)) → slot_set changes ≡ place
+          → Leads now (entry_event at entry new conf.index conf.index place ∷ losses_settled at conf.index (lost s changes))
+          (IsCommitted conf holder entry call conf.index conf.dead holder.revived)
+      entry_leads None is = commit_leads is
+      entry_leads (Some place) is = set_leads place is
+
+    -- all of it
+
+    behind_gains : (new_conf : Config) → IsOwing conf holder amounts new_conf
+        → Leads new_conf (entry_event at entry new conf.index conf.index (slot_set changes) ∷ losses_settled at conf.index (lost s changes))
         (IsCommitted conf holder entry call conf.index conf.dead holder.revived)
-    losses_lead cap is_sound =
-        leads_so (at_owed (behind cap) entered count (owed_after now owing new conf.index)) (losses_settled at conf.index (lost s changes))
-        (IsOwing (behind cap) entered (λ i. 0)) (IsCommitted conf holder entry call conf.index conf.dead holder.revived)
-        (settles_lead (behind cap) entered at active.is_cpu active.has_turn.its_cpu active.unrevived (lost s changes) count (owed_after now owing new conf.index)
-        (within_all (lost s changes) makes.lost) left_owed is_sound)
-        (λ last has. record { count = has.count; owed = has.owed; cap = cap; is = has.is; sound = has.sound; owes = has.owes })
+    behind_gains new_conf has =
+        subst (λ (there : Config). Leads there (entry_event at entry new conf.index conf.index (slot_set changes) ∷ losses_settled at conf.index (lost s changes)) (IsCommitted conf holder entry call conf.index conf.dead holder.revived)) (sym has.is)
+        (entry_leads has.count has.owed has.owes (subst IsSound has.is has.sound) (slot_set changes) refl)
 
-    -- Commit
-
-    commit_leads : slot_set changes ≡ None
-        → Leads now (Commit (cpu_no at) entry ∷ losses_settled at conf.index (lost s changes))
+    made_leads : (made : Option ObjectRow) → added changes ≡ made → made ≡ None
+        → Leads conf
+        (gains_owed at s conf.index (gained s changes)
+        ++ (revives at s conf.index (gained s changes) made
+        ++ (entry_event at entry new conf.index (with_new s conf.index made) (slot_set changes) ∷ losses_settled at conf.index (lost s changes))))
         (IsCommitted conf holder entry call conf.index conf.dead holder.revived)
-    commit_leads none =
-        let may : MayCommit now at entry = record { is_cpu = active.is_cpu; holder = owing; call = call; allows = allowed; no_slot = none_set changes none; covers = covers } in
-        let goes : committed now at entry ≡ at_owed (behind conf.cap) entered count (owed_after now owing new conf.index) =
-        ap (committed_by now entry (λ state. now.index)) active.in_act.is_current in
-        let is_sound : IsSound (at_owed (behind conf.cap) entered count (owed_after now owing new conf.index)) =
-        subst IsSound goes (event_keeps_sound now (Commit (cpu_no at) entry) sound may) in
-        let rest : Leads (committed now at entry) (losses_settled at conf.index (lost s changes)) (IsCommitted conf holder entry call conf.index conf.dead holder.revived) =
-        subst (λ (there : Config). Leads there (losses_settled at conf.index (lost s changes)) (IsCommitted conf holder entry call conf.index conf.dead holder.revived)) (sym goes) (losses_lead conf.cap is_sound) in
-        record { done = (may, rest.done); behind = rest.behind }
+    made_leads (Some row) is none = absurd (let never : ⊥ = cc in never)
+    made_leads None is none =
+        leads_append conf (gains_owed at s conf.index (gained s changes))
+        (entry_event at entry new conf.index conf.index (slot_set changes) ∷ losses_settled at conf.index (lost s changes))
+        (IsOwing conf holder amounts) (IsCommitted conf holder entry call conf.index conf.dead holder.revived) (gains_lead made_alive)
+        (λ has. behind_gains (after_all conf (gains_owed at s conf.index (gained s changes))) has)
 
-    -- SetCap
-
-    unborn : (alive : Bool) → lives new.objects s.next_serial ≡ alive → makes_object s new ≡ false
-    unborn false is = is
-    unborn true is =
-        let made : s.next_serial < s.next_serial = active.sound.state.given s.next_serial (makes.lived s.next_serial is) in
-        absurd (omega (arith, made))
-
-    index_same : (word : CapWord) → index_after now new word ≡ conf.index
-    index_same word =
-        ap (λ (born : Bool). if born then put conf.index s.next_serial (object_of word.0) else conf.index) (unborn (lives new.objects s.next_serial) refl)
-
-    set_leads : (place : ℕ × ℕ) → slot_set changes ≡ Some place
-        → Leads now
-        (SetCap (cpu_no at) entry (index_no (conf.index place.0)) place.1 (slot_word new conf.index place) ∷ losses_settled at conf.index (lost s changes))
+    -- an entry that makes no object is committed
+    pub plain_commits : Leads conf (committing at entry conf)
         (IsCommitted conf holder entry call conf.index conf.dead holder.revived)
-    set_leads place is =
-        let word : CapWord = slot_word new conf.index place in
-        let same : index_after now new (slot_word new conf.index place) ≡ conf.index = index_same (slot_word new conf.index place) in
-        let may : MaySetCap now at entry (conf.index place.0) place.1 (slot_word new conf.index place) = record {
-          is_cpu = active.is_cpu;
-          is_index = active.sound.state.within place.0 (makes.home place is);
-          holder = owing;
-          call = call;
-          allows = allowed;
-          one_slot = omega (arith, some_set changes place is, event_sets_few s (logged entry call));
-          cspace = place.0;
-          sets = is;
-          at_space = refl;
-          shows = ap (λ (index : ℕ → ℕ). shown index (word_at new place.0 place.1)) (sym same);
-          revived = λ born. let never_born : makes_object s new ≡ false = unborn (lives new.objects s.next_serial) refl in absurd (let never : ⊥ = cc in never);
-          covers = subst (λ (index : ℕ → ℕ). Covers now owing new index) (sym same) covers;
-        } in
-        let cap : ℕ → ℕ → CapWord = put_word conf.cap (conf.index place.0) place.1 (slot_word new conf.index place) in
-        let goes : set_cap now at entry (conf.index place.0) place.1 (slot_word new conf.index place)
-        ≡ at_owed (behind (put_word conf.cap (conf.index place.0) place.1 (slot_word new conf.index place))) entered count (owed_after now owing new conf.index) =
-        ap (λ (current : Option Current). record (committed_by now entry (λ state. index_after now state (slot_word new conf.index place)) current) { cap = put_word conf.cap (conf.index place.0) place.1 (slot_word new conf.index place) }) active.in_act.is_current
-        ∙ ap (λ (index : ℕ → ℕ). record (at_owed (behind (put_word conf.cap (conf.index place.0) place.1 (slot_word new conf.index place))) entered count (owed_after now owing new index)) { index = index }) same in
-        let is_sound : IsSound (at_owed (behind cap) entered count (owed_after now owing new conf.index)) =
-        subst IsSound goes (event_keeps_sound now (SetCap (cpu_no at) entry (index_no (conf.index place.0)) place.1 (slot_word new conf.index place)) sound may) in
-        let rest : Leads (set_cap now at entry (conf.index place.0) place.1 (slot_word new conf.index place)) (losses_settled at conf.index (lost s changes)) (IsCommitted conf holder entry call conf.index conf.dead holder.revived) =
-        subst (λ (there : Config). Leads there (losses_settled at conf.index (lost s changes)) (IsCommitted conf holder entry call conf.index conf.dead holder.revived)) (sym goes) (losses_lead cap is_sound) in
-        record { done = (may, rest.done); behind = rest.behind }
-
-    entry_leads : (place : Option (ℕ × ℕ)) → slot_set changes ≡ place
-        → Leads now (entry_event at entry new conf.index conf.index place ∷ losses_settled at conf.index (lost s changes))
-        (IsCommitted conf holder entry call conf.index conf.dead holder.revived)
-    entry_leads None is = commit_leads is
-    entry_leads (Some place) is = set_leads place is
-
-  -- all of it
-
-  behind_gains : (new_conf : Config) → IsOwing conf holder amounts new_conf
-      → Leads new_conf (entry_event at entry new conf.index conf.index (slot_set changes) ∷ losses_settled at conf.index (lost s changes))
-      (IsCommitted conf holder entry call conf.index conf.dead holder.revived)
-  behind_gains new_conf has =
-      subst (λ (there : Config). Leads there (entry_event at entry new conf.index conf.index (slot_set changes) ∷ losses_settled at conf.index (lost s changes)) (IsCommitted conf holder entry call conf.index conf.dead holder.revived)) (sym has.is)
-      (entry_leads has.count has.owed has.owes (subst IsSound has.is has.sound) (slot_set changes) refl)
-
-  made_leads : (made : Option ObjectRow) → added changes ≡ made → made ≡ None
-      → Leads conf
-      (gains_owed at s conf.index (gained s changes)
-      ++ (revives at s conf.index (gained s changes) made
-      ++ (entry_event at entry new conf.index (with_new s conf.index made) (slot_set changes) ∷ losses_settled at conf.index (lost s changes))))
-      (IsCommitted conf holder entry call conf.index conf.dead holder.revived)
-  made_leads (Some row) is none = absurd (let never : ⊥ = cc in never)
-  made_leads None is none =
-      leads_append conf (gains_owed at s conf.index (gained s changes))
-      (entry_event at entry new conf.index conf.index (slot_set changes) ∷ losses_settled at conf.index (lost s changes))
-      (IsOwing conf holder amounts) (IsCommitted conf holder entry call conf.index conf.dead holder.revived) gains_lead
-      (λ has. behind_gains (after_all conf (gains_owed at s conf.index (gained s changes))) has)
-
-  -- an entry that makes no object is committed
-  pub plain_commits : Leads conf (committing at entry conf)
-      (IsCommitted conf holder entry call conf.index conf.dead holder.revived)
-  unfolding committing
-  plain_commits =
-      subst (λ (current : Option Current). Leads conf (commits_of at entry conf current) (IsCommitted conf holder entry call conf.index conf.dead holder.revived)) (sym active.in_act.is_current)
-      (made_leads (added changes) refl makes.none)
+    unfolding committing
+    plain_commits =
+        subst (λ (current : Option Current). Leads conf (commits_of at entry conf current) (IsCommitted conf holder entry call conf.index conf.dead holder.revived)) (sym active.in_act.is_current)
+        (made_leads (added changes) refl makes.none)

@@ -25,34 +25,38 @@ killed_in s index dead serial =
 abbrev pub NoneKilled : State → (ℕ → ℕ) → (ℕ → Bool) → Type 0
 NoneKilled s index dead = (serial : ℕ) → killed_in s index dead serial ≡ false
 
--- what a test finds is the row of its serial
-own_by : (p : ObjectRow → Bool) (first row : ObjectRow) (rows : List ObjectRow) (here there : Bool)
-    → p first ≡ here → is_object row.serial.0 first ≡ there
-    → count_by (is_object row.serial.0) (first ∷ rows) ≤ 1
+-- what a test finds is what another one finds that it passes alone
+own_by : {R : Type 0} (p k : R → Bool) (first row : R) (rows : List R) (here there : Bool)
+    → p first ≡ here → k first ≡ there → k row ≡ true → count_by k (first ∷ rows) ≤ 1
     → (if here then Some first else find p rows) ≡ Some row
-    → (find p rows ≡ Some row → find (is_object row.serial.0) rows ≡ Some row)
-    → (if there then Some first else find (is_object row.serial.0) rows) ≡ Some row
-own_by p first row rows true there is at once found rest =
+    → (find p rows ≡ Some row → find k rows ≡ Some row)
+    → (if there then Some first else find k rows) ≡ Some row
+own_by p k first row rows true there is at own once found rest =
     let same : first ≡ row = cc in
-    let own : is_object row.serial.0 first ≡ true = subst (λ (one : ObjectRow). is_object row.serial.0 one ≡ true) (sym same) (same_number row.serial.0) in
-    let yes : there ≡ true = sym at ∙ own in
+    let yes : there ≡ true = sym at ∙ ap k same ∙ own in
     rw yes (ap Some same)
-own_by p first row rows false false is at once found rest = rest found
-own_by p first row rows false true is at once found rest =
-    let later : find (is_object row.serial.0) rows ≡ Some row = rest found in
-    let one : one_if (is_object row.serial.0 first) ≡ 1 = one_true (is_object row.serial.0 first) at in
-    absurd (omega (arith, once, count_cons (is_object row.serial.0) first rows, one, found_one (is_object row.serial.0) rows row later))
+own_by p k first row rows false false is at own once found rest = rest found
+own_by p k first row rows false true is at own once found rest =
+    let later : find k rows ≡ Some row = rest found in
+    let one : one_if (k first) ≡ 1 = one_true (k first) at in
+    absurd (omega (arith, once, count_cons k first rows, one, found_one k rows row later))
 
+pub own_found : {R : Type 0} (p k : R → Bool) (rows : List R) (row : R) → k row ≡ true
+    → count_by k rows ≤ 1 → find p rows ≡ Some row → find k rows ≡ Some row
+own_found p k [] row own once found = absurd (let never : ⊥ = cc in never)
+own_found p k (first ∷ rows) row own once found =
+    own_by p k first row rows (p first) (k first) refl refl own once found
+    (λ later. own_found p k rows row own (omega (arith, once, count_cons k first rows)) later)
+
+-- so the row of an object is found by its serial
 pub own_row : (p : ObjectRow → Bool) (rows : List ObjectRow) (row : ObjectRow)
     → ((serial : ℕ) → count_by (is_object serial) rows ≤ 1) → find p rows ≡ Some row
     → find (is_object row.serial.0) rows ≡ Some row
-own_row p [] row once found = absurd (let never : ⊥ = cc in never)
-own_row p (first ∷ rows) row once found =
-    own_by p first row rows (p first) (is_object row.serial.0 first) refl refl (once row.serial.0) found
-    (λ later. own_row p rows row (λ serial. omega (arith, once serial, count_cons (is_object serial) first rows)) later)
+own_row p rows row once found =
+    own_found p (is_object row.serial.0) rows row (same_number row.serial.0) (once row.serial.0) found
 
 -- where some item passes a test, one is found
-any_found : {X : Type 0} (p : X → Bool) (xs : List X) → list_any p xs ≡ true
+pub any_found : {X : Type 0} (p : X → Bool) (xs : List X) → list_any p xs ≡ true
     → is_some (find p xs) ≡ true
 any_found p [] any = absurd (let never : ⊥ = cc in never)
 any_found p (x ∷ xs) any = by_first (p x) any (any_found p xs)

@@ -1,5 +1,6 @@
 pub mod ActCalls
 pub mod ActFits
+pub mod ActItems
 pub mod Acting
 pub mod BoundKeeps
 pub mod Boxes
@@ -24,6 +25,7 @@ pub mod CourseStays
 pub mod CourseSteps
 pub mod CpuMoves
 pub mod CpusRun
+pub mod Creates
 pub mod DeathsOn
 pub mod EntryBalance
 pub mod EntryCalls
@@ -59,6 +61,7 @@ pub mod HolderCalls
 pub mod HolderTests
 pub mod IndicesStay
 pub mod Interleavings
+pub mod ItemsLaw
 pub mod KillKeeps
 pub mod KilledNone
 pub mod LeaveKeeps
@@ -76,11 +79,13 @@ pub mod NoPins
 pub mod OweKeeps
 pub mod Owing
 pub mod PartCalls
+pub mod PartItems
 pub mod PinCalls
 pub mod PinKeeps
 pub mod Places
 pub mod RetiredSince
 pub mod ReviveKeeps
+pub mod Revokes
 pub mod RisingRows
 pub mod SawPins
 pub mod Scanning

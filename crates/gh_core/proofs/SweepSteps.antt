@@ -90,7 +90,7 @@ abbrev pub Steps : Config → (Config → Type 0) → Config → Type 0
 Steps conf Fact new = Grew conf new ⊎ (IsStill conf new × Fact new)
 
 -- a list of retirements or reclaims holds no act and no part
-none_acted : (entries : List Entry) (entry : Entry) (test : Entry → Bool) → list_any test entries ≡ false
+pub none_acted : (entries : List Entry) (entry : Entry) (test : Entry → Bool) → list_any test entries ≡ false
     → test entry ≡ false → list_any test (entries ++ entry ∷ []) ≡ false
 none_acted entries entry test none last =
     list_any-append test entries (entry ∷ []) ∙ both (list_any test entries) (test entry) none last

@@ -95,7 +95,7 @@ module _ (conf : Config) (at : ℕ) (sound : IsSound conf) where
 
   module _ (is_cpu : at < CPUS) (free : conf.turn ≡ None) (call : Current)
       (is : ready (conf.cpu at) ≡ Some call) where
-    may_take : MayTake conf at
+    pub may_take : MayTake conf at
     may_take = record {
       is_cpu = is_cpu;
       free = free;
@@ -171,18 +171,19 @@ module _ (conf : Config) (at : ℕ) (acted : HasActed conf at) where
       ∙ ap (end_call conf at (Some acted.holder)) acted.in_act.is_current in
       subst EndsWith (sym new) (ends_by (ending conf at acted.holder acted.call) acted.has_ended)
 
-  ended_unpins : IsUnpinning (ended conf at) at (conf.cpu at).pins
+  ended_unpins : IsUnpinning (ended conf at) at None (conf.cpu at).pins
   ended_unpins = record {
     is_cpu = acted.is_cpu;
+    turn_is = refl;
     ended = ends_there.0;
     held = ends_there.1;
     within = λ i pin is. pin_within conf at i pin acted.sound is;
   }
 
   -- the turn is given back with the call's end, and the pins go
-  pub free_leads : Leads conf (and_then (freeing at) (unpins at) conf) (λ new. IsUnpinning new at [])
+  pub free_leads : Leads conf (and_then (freeing at) (unpins at) conf) (λ new. IsUnpinning new at None [])
   unfolding freeing
   free_leads =
-      leads_then (freeing at) (unpins at) conf (λ new. IsUnpinning new at (conf.cpu at).pins) (λ new. IsUnpinning new at [])
+      leads_then (freeing at) (unpins at) conf (λ new. IsUnpinning new at None (conf.cpu at).pins) (λ new. IsUnpinning new at None [])
       (record { done = (may_end, tt); behind = ended_unpins })
-      (λ new has. unpins_lead new at (conf.cpu at).pins has)
+      (λ new has. unpins_lead new at None (conf.cpu at).pins has)

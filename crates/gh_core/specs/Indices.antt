@@ -1,17 +1,17 @@
 -- Indices of objects: each partition has a block of 128, which its place numbers and its own index
 -- begins. A new object gets the least free index of its partition's block, and a new partition the
 -- first one of the least free block.
-use Rattle.std.specs.Prelude.{◌≡◌, ◌==◌, ◌&&◌, ◌+◌, ◌*◌, ◌/◌, ◌%◌, not, ℕ, Bool, true, false, Option, count_by, find, is_some, nat_lt, if◌then◌else◌}
+use Rattle.std.specs.Prelude.{◌≡◌, ◌==◌, ◌&&◌, ◌+◌, ◌*◌, ◌/◌, ◌%◌, ◌<◌, not, ℕ, Bool, true, false, Option, None, count_by, find, is_some, nat_lt, if◌then◌else◌}
 use Rattle.std.specs.List.{list_any, range_with_len}
 use Rattle.std.specs.Option.{option_map_or, unwrap_or}
 use Rattle.gh_base.specs.declared.kind.Kind.{Kind}
 use Rattle.gh_base.specs.declared.kind.Kind.TheVariants as kind
-use Rattle.gh_base.specs.declared.limits.TheConstants.{PARTITION_PLACES, PARTITIONS}
+use Rattle.gh_base.specs.declared.limits.TheConstants.{OBJECT_INDICES, PARTITION_PLACES, PARTITIONS}
 use Rattle.gh_model.specs.Rows.{object_row}
 use Rattle.gh_model.specs.Units.{lives_in}
 use Rattle.gh_model.specs.declared.rows.ObjectRow.{ObjectRow}
 use Rattle.gh_model.specs.declared.state.State.{State}
-use Rattle.gh_core.specs.Config.{object_at}
+use Rattle.gh_core.specs.Config.{Config, object_at, present}
 use Rattle.gh_core.specs.References.{IsRow}
 
 -- the place of the block that an index lies in, and the first index of a block
@@ -82,3 +82,8 @@ pub record InBlocks (s : State) (index : ℕ → ℕ) : Type 0 where
       → index row.serial.0 % PARTITION_PLACES ≡ 0
   pub others : (row : ObjectRow) → IsRow s row → is_partition_kind row.kind ≡ false
       → place_of (index row.serial.0) ≡ place_of (index row.partition.0)
+
+-- an index that there is, where no object lives
+pub record IsFreeIndex (conf : Config) (at : ℕ) : Type 0 where
+  pub within : at < OBJECT_INDICES
+  pub uninhabited : object_at (present conf) conf.index at ≡ None

@@ -4,8 +4,8 @@
 ghost use Rattle.std.specs.Prelude.{◌≡◌, ◌<◌, ℕ, List, Some, None, true};
 ghost use Rattle.gh_base.specs.declared.limits.TheConstants.{CPUS};
 ghost use Rattle.gh_core.specs.Committing.{HasFewReferences};
-ghost use Rattle.gh_core.specs.Config.{Config, Holder, present};
-ghost use Rattle.gh_core.specs.Items.{item};
+ghost use Rattle.gh_core.specs.Config.{Config, Current, Holder, IsBetween, present};
+ghost use Rattle.gh_core.specs.Items.{HasFreeIndex, act, item, judged_in};
 ghost use Rattle.gh_core.specs.Sound.{IsSound};
 ghost use Rattle.gh_core.specs.Sweep.{HasNotBegun, KeepsNine, sweep};
 ghost use Rattle.gh_core.specs.Trace.{AreDone, after_all};
@@ -23,10 +23,12 @@ pub fn traces_keep_sound()
 
 /// In a sound configuration the next item of a CPU is possible where its call isn't at its act: it
 /// begins a section, looks a capability up, pins what was granted, undoes a pin that came too late,
-/// or leaves the section and, where that ends the call, drops its pins.
+/// or leaves the section and, where that ends the call, drops its pins. The turn stays as it was.
 pub fn call_items_are_possible()
-    ensures { (conf : Config) (at : ℕ) → IsSound conf → at < CPUS → ready (conf.cpu at) ≡ None
-        → AreDone conf (item conf at) }
+    ensures possible { (conf : Config) (at : ℕ) → IsSound conf → at < CPUS
+        → ready (conf.cpu at) ≡ None → AreDone conf (item conf at) }
+    ensures turn { (conf : Config) (at : ℕ) → IsSound conf → at < CPUS
+        → ready (conf.cpu at) ≡ None → (after_all conf (item conf at)).turn ≡ conf.turn }
 {}
 
 /// In a sound configuration the holder of the turn can sweep before its act, and the act may begin
@@ -41,4 +43,35 @@ pub fn sweeps_are_possible()
         → HasFewReferences conf.boot → at < CPUS → HasNotBegun conf at → KeepsNine conf.history
         → (after_all conf (sweep at conf)).turn ≡ Some holder
         → has_causes holder (present (after_all conf (sweep at conf))) ≡ true }
+{}
+
+/// With a free turn, the whole act of a call that is at its act is possible: the turn is taken, the
+/// sweep or the parts are made, the act's entry is committed where the act is done, the turn is given
+/// back with the call's end and the pins are dropped. A create has a free index for its object where
+/// its act is judged. The CPU is between calls then, and the turn is free again.
+pub fn acts_are_possible()
+    ensures possible { (conf : Config) (at : ℕ) (call : Current) → IsSound conf
+        → HasFewReferences conf.boot → KeepsNine conf.history → at < CPUS → conf.turn ≡ None
+        → ready (conf.cpu at) ≡ Some call → HasFreeIndex (judged_in conf at) at
+        → AreDone conf (act at conf) }
+    ensures between { (conf : Config) (at : ℕ) (call : Current) → IsSound conf
+        → HasFewReferences conf.boot → KeepsNine conf.history → at < CPUS → conf.turn ≡ None
+        → ready (conf.cpu at) ≡ Some call → HasFreeIndex (judged_in conf at) at
+        → IsBetween ((after_all conf (act at conf)).cpu at) }
+    ensures free { (conf : Config) (at : ℕ) (call : Current) → IsSound conf
+        → HasFewReferences conf.boot → KeepsNine conf.history → at < CPUS → conf.turn ≡ None
+        → ready (conf.cpu at) ≡ Some call → HasFreeIndex (judged_in conf at) at
+        → (after_all conf (act at conf)).turn ≡ None }
+{}
+
+/// So with a free turn the next item of every CPU is possible, and the turn is free again behind it.
+pub fn items_are_possible()
+    ensures possible { (conf : Config) (at : ℕ) → IsSound conf → HasFewReferences conf.boot
+        → KeepsNine conf.history → at < CPUS → conf.turn ≡ None
+        → ((call : Current) → ready (conf.cpu at) ≡ Some call → HasFreeIndex (judged_in conf at) at)
+        → AreDone conf (item conf at) }
+    ensures free { (conf : Config) (at : ℕ) → IsSound conf → HasFewReferences conf.boot
+        → KeepsNine conf.history → at < CPUS → conf.turn ≡ None
+        → ((call : Current) → ready (conf.cpu at) ≡ Some call → HasFreeIndex (judged_in conf at) at)
+        → (after_all conf (item conf at)).turn ≡ None }
 {}

@@ -48,7 +48,10 @@ pub use grace::{
     scan_keeps_grace, seats_keep_grace, set_cap_keeps_grace, start_has_grace, take_keeps_grace,
     undo_keeps_grace, unpin_keeps_grace,
 };
-pub use items::{call_items_are_possible, sweeps_are_possible, traces_keep_sound};
+pub use items::{
+    acts_are_possible, call_items_are_possible, items_are_possible, sweeps_are_possible,
+    traces_keep_sound,
+};
 pub use references::{
     end_keeps_references, enter_keeps_references, given_call_keeps_references,
     kill_keeps_references, leave_keeps_references, look_keeps_references, owe_keeps_references,

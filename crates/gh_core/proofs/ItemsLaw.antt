@@ -1,0 +1,79 @@
+-- The law of items: a CPU's next item is possible, and leaves the turn free.
+use Rattle.std.proofs.Common.{◌≡◌, ◌<◌, ◌∙◌, ℕ, Bool, true, false, List, [], ◌∷◌, refl, subst, sym, ap, Option, Some, None, if◌then◌else◌}
+use Rattle.gh_base.specs.declared.limits.TheConstants.{CPUS}
+use Rattle.gh_model.specs.Marks.{Fails, Grants, Outcome, Seen, Wants}
+use Rattle.gh_core.specs.CallEvents.{begun, has_needs}
+use Rattle.gh_core.specs.Committing.{HasFewReferences, cpu_no}
+use Rattle.gh_core.specs.Config.{AtAct, Config, Current, DeadPin, Failed, Given, IsBetween, Looked, Pin, Reading, Stage, Undone, came_to}
+use Rattle.gh_core.specs.Items.{HasFreeIndex, act, begins, item, item_between, item_in, item_of, judged_in}
+use Rattle.gh_core.specs.Sound.{IsSound}
+use Rattle.gh_core.specs.Sweep.{KeepsNine}
+use Rattle.gh_core.specs.Trace.{AreDone, after_all}
+use Rattle.gh_core.specs.TurnEvents.{call_at_act, if_at_act, if_lookless, ready}
+use Rattle.gh_core.specs.declared.event.Event.{Event}
+use Rattle.gh_core.specs.declared.event.Event.TheVariants.{Enter}
+use Rattle.gh_core.proofs.ActItems.{act_leads}
+use Rattle.gh_core.proofs.CallItems.{IsUnpinning, call_item_done}
+use Rattle.gh_core.proofs.TraceLaws.{Leads, leads_so}
+
+-- the item of a call that is at its act is the act
+
+module _ (conf : Config) (at : ℕ) where
+  stage_acts : (current call : Current) (stage : Stage) → if_at_act stage current ≡ Some call
+      → item_in at conf current stage ≡ act at conf
+  stage_acts current call Reading is = absurd (let never : ⊥ = cc in never)
+  stage_acts current call Looked is = absurd (let never : ⊥ = cc in never)
+  stage_acts current call DeadPin is = absurd (let never : ⊥ = cc in never)
+  stage_acts current call Undone is = absurd (let never : ⊥ = cc in never)
+  stage_acts current call Failed is = absurd (let never : ⊥ = cc in never)
+  stage_acts current call AtAct is = refl
+
+  given_acts : (given : Given) (call : Current) (looks : Bool)
+      → (if looks then None else Some (begun 0 AtAct given)) ≡ Some call
+      → (if looks then Enter (cpu_no at) ∷ [] else act at conf) ≡ act at conf
+  given_acts given call true is = absurd (let never : ⊥ = cc in never)
+  given_acts given call false is = refl
+
+  next_acts : (call : Current) (next : Option Given) → if_lookless next ≡ Some call → begins at conf next ≡ act at conf
+  next_acts call None is = absurd (let never : ⊥ = cc in never)
+  next_acts call (Some given) is = given_acts given call (has_needs given) is
+
+  pins_acts : (call : Current) (pins : List Pin) → call_at_act None pins (conf.cpu at).next ≡ Some call
+      → item_between at conf pins ≡ act at conf
+  pins_acts call [] is = next_acts call (conf.cpu at).next is
+  pins_acts call (pin ∷ pins) is = absurd (let never : ⊥ = cc in never)
+
+  current_acts : (call : Current) (current : Option Current)
+      → call_at_act current (conf.cpu at).pins (conf.cpu at).next ≡ Some call
+      → item_of at conf current ≡ act at conf
+  current_acts call None is = pins_acts call (conf.cpu at).pins is
+  current_acts call (Some current) is = stage_acts current call current.stage is
+
+  item_acts : (call : Current) → ready (conf.cpu at) ≡ Some call → item conf at ≡ act at conf
+  unfolding item
+  item_acts call is = current_acts call (conf.cpu at).current is
+
+-- an item's premises: a CPU that there is, and the turn free; where it is the act of a create, a free
+-- index for its object
+abbrev FreeWhere : Config → ℕ → Type 0
+FreeWhere conf at = (call : Current) → ready (conf.cpu at) ≡ Some call → HasFreeIndex (judged_in conf at) at
+
+module _ (conf : Config) (at : ℕ) (sound : IsSound conf) (few : HasFewReferences conf.boot)
+    (nine : KeepsNine conf.history) (is_cpu : at < CPUS) (free : conf.turn ≡ None) (frees : FreeWhere conf at) where
+  abbrev Frees : Config → Type 0
+  Frees new = new.turn ≡ None
+
+  leads_by : (call : Option Current) → ready (conf.cpu at) ≡ call → Leads conf (item conf at) Frees
+  leads_by None is =
+      leads_so conf (item conf at) (λ new. new.turn ≡ conf.turn) Frees (call_item_done conf at sound is_cpu is) (λ new same. same ∙ free)
+  leads_by (Some call) is =
+      subst (λ (events : List Event). Leads conf events Frees) (sym (item_acts conf at call is))
+      (leads_so conf (act at conf) (λ new. IsUnpinning new at None []) Frees (act_leads conf at sound few nine is_cpu free call is (frees call is)) (λ new has. has.turn_is))
+
+  -- the item is possible, and leaves the turn free
+  pub item_leads : Leads conf (item conf at) (λ new. new.turn ≡ None)
+  item_leads = leads_by (ready (conf.cpu at)) refl
+
+-- an act leaves its CPU between calls
+pub act_between : (conf : Config) (at : ℕ) → IsUnpinning conf at None [] → IsBetween (conf.cpu at)
+act_between conf at has = record { none = has.ended; dropped = has.held }

@@ -1,0 +1,18 @@
+-- The laws are the lemma.
+use Rattle.gh_core.proofs.ActItems.{act_leads}
+use Rattle.gh_core.proofs.ItemsLaw.{act_between}
+use Rattle.gh_core.proofs.items.acts_are_possible.Goals as goal
+use Rattle.gh_core.specs.Items.{act}
+use Rattle.gh_core.specs.Trace.{after_all}
+
+pub returns-clause-possible : goal.returns-clause-possible
+returns-clause-possible c = λ conf at call sound few nine is_cpu free is frees.
+    (act_leads conf at sound few nine is_cpu free call is frees).done
+
+pub returns-clause-between : goal.returns-clause-between
+returns-clause-between c = λ conf at call sound few nine is_cpu free is frees.
+    act_between (after_all conf (act at conf)) at (act_leads conf at sound few nine is_cpu free call is frees).behind
+
+pub returns-clause-free : goal.returns-clause-free
+returns-clause-free c = λ conf at call sound few nine is_cpu free is frees.
+    (act_leads conf at sound few nine is_cpu free call is frees).behind.turn_is
