@@ -13,6 +13,7 @@ pub mod DeathsOn
 pub mod EntryCalls
 pub mod EntryKeeps
 pub mod EntryMoves
+pub mod EntryTests
 pub mod EventObjects
 pub mod EventRuns
 pub mod EventsKeep

@@ -3,6 +3,7 @@ pub mod CallEvents
 pub mod Calls
 pub mod Config
 pub mod Entries
+pub mod EntryTests
 pub mod Events
 pub mod Grace
 pub mod HolderEvents

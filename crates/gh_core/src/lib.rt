@@ -8,6 +8,7 @@ mod calls;
 mod config;
 mod cpu;
 mod current;
+mod ending;
 mod entries;
 mod event;
 mod grace;
