@@ -10,6 +10,7 @@ pub mod CausesHeld
 pub mod CpuMoves
 pub mod CpusRun
 pub mod DeathsOn
+pub mod EndTests
 pub mod EntryCalls
 pub mod EntryKeeps
 pub mod EntryMoves

@@ -7,6 +7,7 @@ use Rattle.gh_invariant.specs.Effects.{slots_set}
 use Rattle.gh_invariant.specs.Events.{changes_of}
 use Rattle.gh_model.specs.Act.{Verdict, Done, Refused}
 use Rattle.gh_model.specs.Graced.{retirement}
+use Rattle.gh_model.specs.History as history
 use Rattle.gh_model.specs.Legal.{is_revoke, revoked_object, row_names}
 use Rattle.gh_model.specs.Rows.{fills, object_row}
 use Rattle.gh_model.specs.declared.entry.Entry.{Entry}
@@ -28,16 +29,23 @@ goes_on (Done new reply) = false
 goes_on (Refused reply) = slice_index reply.x 0 == 0
 
 -- a slot of a revoke's object, the least there is
-abbrev pub is_next_slot : State → Current → Entry → ℕ → ℕ → Bool
-is_next_slot s call entry space slot =
-    row_names (revoked_object (logged entry call)) (find (fills space slot) s.caps)
-    && is_least s (revoked_object (logged entry call)) space slot
+abbrev pub is_next_slot : State → history.Event → ℕ → ℕ → Bool
+is_next_slot s event space slot =
+    row_names (revoked_object event) (find (fills space slot) s.caps)
+    && is_least s (revoked_object event) space slot
 
-abbrev pub revokes_next : Config → Current → Entry → ℕ → ℕ → ℕ → Bool
-revokes_next conf call entry cpu space slot =
+abbrev pub revokes_next : Config → Current → history.Event → ℕ → ℕ → ℕ → Bool
+revokes_next conf call event cpu space slot =
     is_revoke call.given.call
-    && (goes_on (judged (present conf) cpu call)
-    && is_next_slot (present conf) call entry space slot)
+    && (goes_on (judged (present conf) cpu call) && is_next_slot (present conf) event space slot)
+
+-- a part is the next one of the holder's call
+abbrev pub part_goes : Config → Holder → Current → history.Event → Entry → Bool
+part_goes conf holder call event (Acted cpu number) = false
+part_goes conf holder call event (Part cpu number space slot) =
+    is_its holder call cpu.0 number && revokes_next conf call event cpu.0 space.0 slot
+part_goes conf holder call event (Retired serial seen) = false
+part_goes conf holder call event (Reclaimed serial seen) = false
 
 -- these counters, from a CPU on, are what was scanned
 abbrev pub scans_are : (ℕ → Option ℕ) → ℕ → List ℕ → Bool
@@ -67,8 +75,8 @@ abbrev pub kind_goes : Config → Holder → Current → Entry → Entry → Boo
 kind_goes conf holder call entry (Acted cpu number) =
     is_its holder call cpu.0 number && not (some_killed conf)
 kind_goes conf holder call entry (Part cpu number space slot) =
-    is_its holder call cpu.0 number
-    && (revokes_next conf call entry cpu.0 space.0 slot && not (some_killed conf))
+    part_goes conf holder call (logged entry call) (Part cpu number space slot)
+    && not (some_killed conf)
 kind_goes conf holder call entry (Retired serial seen) =
     conf.dead (conf.index serial.0) && (are_scans holder seen && not (has_part holder))
 kind_goes conf holder call entry (Reclaimed serial seen) =

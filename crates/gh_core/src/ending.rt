@@ -52,7 +52,7 @@ pub struct Reader {
 }
 
 /// Whether the scan of a CPU found this counter.
-fn is_scan(counter: u64, scan: Option<u64>) -> bool
+pub(crate) fn is_scan(counter: u64, scan: Option<u64>) -> bool
     ensures { result ≡ is_scan_of counter scan }
 {
     match scan {
@@ -62,7 +62,7 @@ fn is_scan(counter: u64, scan: Option<u64>) -> bool
 }
 
 /// What the scan of a CPU found.
-fn scanned(turn: &Turn, cpu: usize) -> Option<u64>
+pub(crate) fn scanned(turn: &Turn, cpu: usize) -> Option<u64>
     ensures { result ≡ (holder_of turn.now).scans cpu }
 {
     last_number(turn.scans.as_slice(), cpu as u64)

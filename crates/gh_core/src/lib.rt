@@ -5,6 +5,7 @@ mod acts;
 mod bounds;
 mod call_events;
 mod calls;
+mod commit;
 mod config;
 mod cpu;
 mod current;
