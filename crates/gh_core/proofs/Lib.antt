@@ -27,11 +27,13 @@ pub mod CpuMoves
 pub mod CpusRun
 pub mod Creates
 pub mod DeathsOn
+pub mod EndTests
 pub mod EntryBalance
 pub mod EntryCalls
 pub mod EntryKeeps
 pub mod EntryMoves
 pub mod EntryReferences
+pub mod EntryTests
 pub mod EventObjects
 pub mod EventRuns
 pub mod EventsKeep

@@ -5,6 +5,7 @@ pub mod Committing
 pub mod Config
 pub mod Course
 pub mod Entries
+pub mod EntryTests
 pub mod Events
 pub mod Grace
 pub mod HolderEvents

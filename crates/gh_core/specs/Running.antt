@@ -1,13 +1,16 @@
 -- The configuration that the running machine's tables stand for.
-use Rattle.std.specs.Prelude.{◌≡◌, ◌==◌, ◌&&◌, ◌<◌, if◌then◌else◌, ℕ, Bool, true, false, List, [], ◌∷◌, length, Option, Some, None, find, is_some, map, nat_lt, not, option_map, slice_get, IsTrue}
+use Rattle.std.specs.Prelude.{◌≡◌, ◌==◌, ◌&&◌, ◌<◌, if◌then◌else◌, ℕ, Bool, true, false, List, [], ◌∷◌, length, Option, Some, None, ◌++◌, filter, find, flat_map, is_some, map, nat_lt, not, option_map, slice_get, IsTrue}
 use Rattle.std.specs.List.{list_all, list_any}
 use Rattle.std.specs.Option.{option_map_or}
 use Rattle.gh_base.specs.declared.call.Call.{Call}
 use Rattle.gh_base.specs.declared.ids.Serial.{Serial}
 use Rattle.gh_base.specs.declared.limits.TheConstants.{CPUS, OBJECT_INDICES}
+use Rattle.gh_base.specs.declared.mark.Held.{Held}
+use Rattle.gh_base.specs.declared.mark.Held.TheVariants as held
 use Rattle.gh_model.specs.Act.{Verdict, Done, Refused}
 use Rattle.gh_model.specs.Boot.{boot_state}
 use Rattle.gh_model.specs.Decide.{judge}
+use Rattle.gh_model.specs.Held.{is_held}
 use Rattle.gh_model.specs.History as history
 use Rattle.gh_model.specs.Marks.{Made, Outcome, Fails, Grants, Seen, Wants}
 use Rattle.gh_model.specs.References.{is_doomed}
@@ -21,10 +24,12 @@ use Rattle.gh_core.specs.HolderEvents.{is_done, with_failed, with_turn, without_
 use Rattle.gh_core.specs.Start.{boot_cap, boot_dead, new_cpu}
 use Rattle.gh_core.specs.CallEvents.{begun, end_of_looks, finished, found, reply_of_looks, with_call, with_end, with_look, without_pin}
 use Rattle.gh_core.specs.Config.{put, references_at}
-use Rattle.gh_core.specs.Tests.{is_before_act}
-use Rattle.gh_core.specs.TurnEvents.{ready}
+use Rattle.gh_core.specs.Tests.{is_at_act, is_before_act}
+use Rattle.gh_core.specs.TurnEvents.{Ending, as_list, cause_of, causes, ending, has_causes, ready}
 use Rattle.gh_core.specs.Tables.{marks, numbers, options, words}
 use Rattle.gh_core.specs.declared.config.Running.{Running}
+use Rattle.gh_core.specs.declared.ending.Ended.{Ended}
+use Rattle.gh_core.specs.declared.ending.Reader.{Reader}
 use Rattle.gh_core.specs.declared.cpu.HeldPin.{HeldPin}
 use Rattle.gh_core.specs.declared.cpu.Seat.{Seat}
 use Rattle.gh_core.specs.declared.current.CallStage.{CallStage}
@@ -233,6 +238,69 @@ abbrev pub quits : Running → ℕ → Bool
 quits running at =
     nat_lt at CPUS
     && (turn_quits at running.turn && not (machine.some_killed (stands_for running)))
+
+-- how a call ends
+
+abbrev pub ended_of : Ended → Ending
+ended_of ended = record { end = ended.end; reply = ended.reply }
+
+abbrev pub reader_of : Reader → ℕ × ℕ
+reader_of reader = (reader.cpu.0, reader.counter)
+
+-- this CPU still reads the object
+abbrev pub reading_of : Serial → (ℕ × ℕ) → Held
+reading_of serial reader = held.Reading serial (record { 0 = reader.0 }) reader.1
+
+-- the causes of all objects that want one; none where one has none
+abbrev pub held_causes : machine.Holder → State → Option (List Held)
+held_causes holder s = if has_causes holder s then Some (causes holder s) else None
+
+-- these causes, and those of the ending objects among these rows; none where one has none
+abbrev pub causes_behind : machine.Holder → State → List Held → List ObjectRow → Option (List Held)
+causes_behind holder s held rows =
+    if list_all (λ (row : ObjectRow). is_some (cause_of holder row)) (filter (is_held s) rows)
+    then Some (held ++ flat_map (λ (row : ObjectRow). as_list (cause_of holder row)) (filter (is_held s) rows))
+    else None
+
+-- the end of the call of the turn's CPU, where it is at its act
+abbrev pub ending_of_call : machine.Config → ℕ → machine.Holder → machine.Current → Option Ending
+ending_of_call conf at holder call =
+    if is_at_act call.stage then ending conf at holder call else None
+
+abbrev pub ending_in : machine.Config → ℕ → machine.Holder → Option machine.Current → Option Ending
+ending_in conf at holder None = None
+ending_in conf at holder (Some call) = ending_of_call conf at holder call
+
+-- the same, where the CPU has the turn and nothing is owed
+abbrev pub turn_ending : Running → ℕ → Option Turn → Option Ending
+turn_ending running at None = None
+turn_ending running at (Some turn) =
+    if (turn.cpu.0 == at) && owes_nothing turn.owed
+    then ending_in (stands_for running) at (holder_of turn) ((stands_for running).cpu at).current
+    else None
+
+-- the CPU may give the turn back behind its act
+abbrev pub ends : Running → ℕ → Bool
+ends running at =
+    nat_lt at CPUS
+    && (not (machine.some_killed (stands_for running))
+    && is_some (turn_ending running at running.turn))
+
+-- the CPU with its call ended
+abbrev pub ended_cpu : ℕ → machine.Cpu → Ending → Option machine.Current → machine.Cpu
+ended_cpu at cpu ending None = cpu
+ended_cpu at cpu ending (Some call) = with_end cpu (finished at call ending.end ending.reply)
+
+abbrev pub seat_end : Running → ℕ → Option Ending → machine.Cpu
+seat_end running at None = (stands_for running).cpu at
+seat_end running at (Some ending) =
+    ended_cpu at ((stands_for running).cpu at) ending ((stands_for running).cpu at).current
+
+-- the configuration behind the end
+abbrev pub end_of : Running → ℕ → machine.Config
+end_of running at =
+    with_holder (with_cpu (stands_for running) at
+    (seat_end running at (turn_ending running at running.turn))) None
 
 -- what is kept
 

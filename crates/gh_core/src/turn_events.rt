@@ -150,7 +150,7 @@ fn is_paid(owed: &[Written], written: Written) -> bool
 }
 
 /// Whether nothing is owed at any index.
-fn owes_nothing(owed: &[Written]) -> bool
+pub(crate) fn owes_nothing(owed: &[Written]) -> bool
     ensures { result ≡ owes_nothing_of owed.now }
 {
     for written in owed {
