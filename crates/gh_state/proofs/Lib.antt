@@ -23,6 +23,7 @@ mod StandsMoved
 mod StandsObjects
 mod StandsOwed
 mod StandsQueues
+mod StandsQuota
 mod StandsRetired
 mod StandsSlots
 mod WordLemmas

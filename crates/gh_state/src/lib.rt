@@ -13,6 +13,7 @@ mod parts;
 mod queues;
 mod shares;
 mod slots;
+mod units;
 
 pub use body::Body;
 pub use journal::{Account, Journal, Memory};
