@@ -5,6 +5,7 @@ mod FoundRows
 mod IndexLemmas
 mod Living
 mod Options
+mod PlaceLemmas
 mod QueueChanges
 mod QueueLemmas
 mod Reindexed
@@ -15,6 +16,7 @@ mod StandsAttached
 mod StandsBells
 mod StandsBodies
 mod StandsCapabilities
+mod StandsCost
 mod StandsCounts
 mod StandsDropped
 mod StandsExit

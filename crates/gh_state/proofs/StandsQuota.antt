@@ -41,7 +41,7 @@ counts_not : (partition : ℕ) (row : PartitionRow) → row.parent.0 ≢ partiti
     → quota_in partition row ≡ 0
 counts_not partition row apart = rw (ne_eqb row.parent.0 partition apart) refl
 
-costs_in : (partition : ℕ) (row : ObjectRow) → row.partition.0 ≡ partition
+pub costs_in : (partition : ℕ) (row : ObjectRow) → row.partition.0 ≡ partition
     → cost_in partition row ≡ row.cost
 costs_in partition row same = rw (eq-eqb row.partition.0 partition same) refl
 
