@@ -21,6 +21,7 @@ mod StandsCounts
 mod StandsDropped
 mod StandsExit
 mod StandsFilled
+mod StandsLinked
 mod StandsMoved
 mod StandsObjects
 mod StandsOwed

@@ -8,6 +8,7 @@ mod capabilities;
 mod counts;
 mod cpus;
 mod journal;
+mod links;
 mod objects;
 mod parts;
 mod queues;
