@@ -29,10 +29,10 @@ use Rattle.gh_objects.specs.Headers.{header_at}
 use Rattle.gh_objects.specs.declared.count.Count.{Count}
 use Rattle.gh_objects.specs.declared.header.Header.{Header}
 use Rattle.gh_state.specs.Accounts.{costing_more, more_used, using}
-use Rattle.gh_state.specs.Bodies.{bell_in, body_of, mappings_in, queue_in, space_in, span_in}
+use Rattle.gh_state.specs.Bodies.{bell_in, body_of, fits_body, mappings_in, queue_in, space_in, span_in}
 use Rattle.gh_state.specs.Index.{home_in, index_of, partition_in, serial_at}
 use Rattle.gh_state.specs.Shares.{body_at, place_at, with_cost_at}
-use Rattle.gh_state.specs.Stands.{Stands, UnitsStand, account_of, count_of, header_of, is_account}
+use Rattle.gh_state.specs.Stands.{KindsStand, Stands, UnitsStand, account_of, count_of, header_of, is_account}
 use Rattle.gh_state.specs.declared.body.Body.{Body}
 use Rattle.gh_state.specs.declared.journal.Account.{Account}
 use Rattle.gh_state.specs.declared.parts.Parts.{Parts}
@@ -154,6 +154,11 @@ module _ (parts : Parts) (s : State) (stand : Stands parts s) (object : Serial) 
   body_seen see x =
       ap (see x) (sym (place_kept parts.shares at costly (λ (place : Place). place.body) refl (index_of headers x)))
 
+  kinds_now : KindsStand headers shares rows
+  kinds_now x =
+      subst (λ (body : Body). fits_body body (find (is_object x) rows) ≡ true) (body_seen (λ n b. b) x)
+      (seen (fits_body (body_of headers parts.shares x)) (λ one. refl) x ∙ stand.kinds x)
+
   -- units
   used_sums : (x : ℕ) → used_by rows x + cost_in x row ≡ used_by s.objects x + cost_in x (with_cost cost row)
   used_sums x =
@@ -261,6 +266,7 @@ module _ (parts : Parts) (s : State) (stand : Stands parts s) (object : Serial) 
       room = stand.objects.room;
     };
     references = record { each = counts_now; bare = stand.references.bare };
+    kinds = kinds_now;
     bells = λ x. stand.bells x ∙ body_seen bell_in x;
     queues = λ x. stand.queues x ∙ body_seen queue_in x;
     spans = λ x. stand.spans x ∙ body_seen span_in x;

@@ -64,6 +64,7 @@ module _ (s : State) (valid : IsValidWithin s) (room : HasRoom s) (row : LinkRow
   pub link_stands : Stands (with_links (parts.journal.links ++ row ∷ []) fourth) (add_link row s)
   link_stands = record {
     objects = stand.objects;
+    kinds = stand.kinds;
     references =
         references_moved (s.entries + 1) s (AddLink row) valid may fourth.table.headers fourth.journal.counts refl
         (subst (λ (owed : List Serial). ReferencesStand fourth.table.headers fourth.journal.counts owed s)

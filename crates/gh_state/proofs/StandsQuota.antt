@@ -236,6 +236,7 @@ module _ (parts : Parts) (s : State) (stand : Stands parts s) (valid : IsValidWi
   pub quota_stands : Stands (with_accounts accounts parts) (give_quota partition quota s)
   quota_stands = record {
     objects = stand.objects;
+    kinds = stand.kinds;
     references =
         references_moved (s.entries + 1) s (GiveQuota partition quota) valid may parts.table.headers parts.journal.counts refl stand.references;
     bells = stand.bells;
