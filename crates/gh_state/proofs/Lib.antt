@@ -10,6 +10,7 @@ mod QueueChanges
 mod QueueLemmas
 mod Reindexed
 mod SharesLemmas
+mod ShowsLemmas
 mod SlotLemmas
 mod SlotNumbers
 mod StandsAttached
@@ -29,4 +30,5 @@ mod StandsQueues
 mod StandsQuota
 mod StandsRetired
 mod StandsSlots
+mod StandsSpan
 mod WordLemmas

@@ -9,6 +9,7 @@ mod counts;
 mod cpus;
 mod journal;
 mod links;
+mod memory;
 mod objects;
 mod parts;
 mod queues;
