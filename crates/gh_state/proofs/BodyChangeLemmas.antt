@@ -1,11 +1,15 @@
 -- Each change of a body is that of one kind's rows, and leaves what the other kinds show.
 use Rattle.std.proofs.Common.{◌≡◌, ℕ, List, Option, Some, None, refl, option_map, sym, ap}
+use Rattle.gh_base.specs.declared.kind.Kind.{Kind}
+use Rattle.gh_base.specs.declared.kind.Kind.TheVariants as kind
+use Rattle.gh_doorbell.specs.Bell.{BellWords}
 use Rattle.gh_model.specs.Changes.{replaced, serial_of, with_room, without_first, without_messages}
 use Rattle.gh_model.specs.declared.rows.BellRow.{BellRow}
+use Rattle.gh_model.specs.declared.rows.ObjectRow.{ObjectRow}
 use Rattle.gh_model.specs.declared.rows.QueueRow.{QueueRow}
 use Rattle.gh_msgqueue.specs.Queue.{MessageQueue, empty_queue}
-use Rattle.gh_state.specs.Bodies.{bell_in, mappings_in, queue_in, space_in, span_in}
-use Rattle.gh_state.specs.BodyChanges.{belled, on_queue, roomed, without_any, without_one}
+use Rattle.gh_state.specs.Bodies.{bell_in, fits_body, is_body_of, mappings_in, queue_in, space_in, span_in}
+use Rattle.gh_state.specs.BodyChanges.{belled, on_queue, roomed, without_any, without_one, words_in}
 use Rattle.gh_state.specs.declared.body.Body.{Body}
 use Rattle.gh_state.specs.declared.body.Body.TheVariants.{Nothing, Bell, NewQueue, Queue, Space, Extent}
 
@@ -76,3 +80,48 @@ pub queue_memory : (change : MessageQueue → MessageQueue) (serial : ℕ) (body
     → KeepsMemory serial (on_queue change body) body
 queue_memory change serial (Queue queue) = record { spans = refl; mappings = refl; spaces = refl }
 queue_memory change serial _ = record { spans = refl; mappings = refl; spaces = refl }
+
+-- kinds stay
+
+kind_same : (k : Kind) (old new : MessageQueue) → is_body_of k (Queue new) ≡ is_body_of k (Queue old)
+kind_same kind.Partition old new = refl
+kind_same kind.Cspace old new = refl
+kind_same kind.Space old new = refl
+kind_same kind.Extent old new = refl
+kind_same kind.Bell old new = refl
+kind_same kind.Queue old new = refl
+
+kind_roomed : (k : Kind) (room : MessageQueue) → is_body_of k (Queue room) ≡ is_body_of k NewQueue
+kind_roomed kind.Partition room = refl
+kind_roomed kind.Cspace room = refl
+kind_roomed kind.Space room = refl
+kind_roomed kind.Extent room = refl
+kind_roomed kind.Bell room = refl
+kind_roomed kind.Queue room = refl
+
+kind_belled : (k : Kind) (old new : BellWords) → is_body_of k (Bell new) ≡ is_body_of k (Bell old)
+kind_belled kind.Partition old new = refl
+kind_belled kind.Cspace old new = refl
+kind_belled kind.Space old new = refl
+kind_belled kind.Extent old new = refl
+kind_belled kind.Bell old new = refl
+kind_belled kind.Queue old new = refl
+
+pub belled_kind : (row : BellRow) (body : Body) (found : Option ObjectRow)
+    → fits_body (belled row body) found ≡ fits_body body found
+belled_kind row body None = refl
+belled_kind row (Bell words) (Some object) = kind_belled object.kind words (words_in row)
+belled_kind row _ (Some object) = refl
+
+pub roomed_kind : (room : MessageQueue) (body : Body) (found : Option ObjectRow)
+    → fits_body (roomed room body) found ≡ fits_body body found
+roomed_kind room body None = refl
+roomed_kind room NewQueue (Some object) = kind_roomed object.kind room
+roomed_kind room (Queue queue) (Some object) = kind_same object.kind queue room
+roomed_kind room _ (Some object) = refl
+
+pub queue_kind : (change : MessageQueue → MessageQueue) (body : Body) (found : Option ObjectRow)
+    → fits_body (on_queue change body) found ≡ fits_body body found
+queue_kind change body None = refl
+queue_kind change (Queue queue) (Some object) = kind_same object.kind queue (change queue)
+queue_kind change _ (Some object) = refl

@@ -1,8 +1,9 @@
 -- A row that is found, once the first that passes the test is changed.
-use Rattle.std.proofs.Common.{◌≡◌, ◌∙◌, ◌⊎◌, inl, inr, Bool, true, false, List, [], ◌∷◌, refl, sym, ap, Option, Some, None, find, option_map, length, position, nat_lt, if◌then◌else◌}
+use Rattle.std.proofs.Common.{◌≡◌, ◌∙◌, ◌⊎◌, inl, inr, Bool, true, false, List, [], ◌∷◌, refl, sym, ap, Option, Some, None, find, option_map, length, position, get_or, slice_get, ℕ, nat_lt, if◌then◌else◌}
 use Rattle.std.specs.List.{position_or_len}
 use Rattle.std.proofs.lemmas.List.Folds.{find_at}
-use Rattle.std.proofs.lemmas.Option.{slice_get_past}
+use Rattle.std.proofs.lemmas.Option.{cond_some, slice_get-get_or, slice_get_past}
+use Rattle.std.proofs.lemmas.List.Quantifiers.{position-Some}
 use Rattle.std.proofs.lemmas.Bool.{cases_Bool, ltb-false}
 use Rattle.gh_invariant.proofs.Counting.{find_here, find_later}
 use Rattle.gh_model.proofs.ChangedRows.{change_here, change_later}
@@ -43,3 +44,11 @@ pub unplaced_none : {R : Type 0} (test : R → Bool) (rows : List R) → positio
     → find test rows ≡ None
 unplaced_none test rows none =
     unplaced_by test rows (nat_lt (position_or_len test rows) (length rows)) refl none
+
+-- what has a place is found there
+pub placed_found : {R : Type 0} (test : R → Bool) (rows : List R) (at : ℕ) (d : R)
+    → position test rows ≡ Some at → find test rows ≡ Some (get_or rows at d)
+placed_found test rows at d is =
+    find_at test rows
+    ∙ ap (slice_get rows) (cond_some (nat_lt (position_or_len test rows) (length rows)) (position_or_len test rows) at is).1
+    ∙ slice_get-get_or rows at d ((position-Some test rows at d is).0)

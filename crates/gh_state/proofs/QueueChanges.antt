@@ -10,7 +10,7 @@ use Rattle.gh_state.specs.BodyChanges.{on_queue, roomed, sent_to, without_any, w
 use Rattle.gh_state.specs.Stands.{Stands}
 use Rattle.gh_state.specs.declared.body.Body.{Body}
 use Rattle.gh_state.specs.declared.parts.Parts.{Parts}
-use Rattle.gh_state.proofs.BodyChangeLemmas.{flushed_shown, queue_bells, queue_memory, received_shown, roomed_bells, roomed_memory, roomed_shown}
+use Rattle.gh_state.proofs.BodyChangeLemmas.{flushed_shown, queue_bells, queue_kind, queue_memory, received_shown, roomed_bells, roomed_kind, roomed_memory, roomed_shown}
 use Rattle.gh_state.proofs.StandsQueues.{ChangesQueue, sent_shown}
 
 pub one_dropped : (serial : ℕ) (body : Body)
@@ -19,6 +19,7 @@ one_dropped serial body = record {
   nothing = refl;
   shown = received_shown serial body;
   named = λ row. refl;
+  kind = queue_kind without_one body;
   bells = queue_bells without_one serial body;
   memory = queue_memory without_one serial body;
 }
@@ -29,6 +30,7 @@ all_dropped serial body = record {
   nothing = refl;
   shown = flushed_shown serial body;
   named = λ row. refl;
+  kind = queue_kind without_any body;
   bells = queue_bells without_any serial body;
   memory = queue_memory without_any serial body;
 }
@@ -39,6 +41,7 @@ room_given depth size serial body = record {
   nothing = refl;
   shown = roomed_shown depth size serial body;
   named = λ row. refl;
+  kind = roomed_kind (empty_queue depth size) body;
   bells = roomed_bells (empty_queue depth size) serial body;
   memory = roomed_memory (empty_queue depth size) serial body;
 }
@@ -53,6 +56,7 @@ one_sent parts s stand serial message fits =
       nothing = refl;
       shown = sent_shown serial message body fits.row (sym (stand.queues serial) ∙ fits.found) fits.room fits.short;
       named = λ row. refl;
+      kind = queue_kind (sent_to message) body;
       bells = queue_bells (sent_to message) serial body;
       memory = queue_memory (sent_to message) serial body;
     }

@@ -11,7 +11,7 @@ use Rattle.gh_state.specs.declared.body.Body.{Body}
 use Rattle.gh_state.specs.declared.shares.Place.{Place}
 
 -- what holds of an element and of what was there holds once it is written there
-set_there : {X : Type 0} (P : X → Type 0) (xs : List X) (i : ℕ) (x d : X) → P x → P (get_or xs i d)
+pub set_there : {X : Type 0} (P : X → Type 0) (xs : List X) (i : ℕ) (x d : X) → P x → P (get_or xs i d)
     → P (get_or (set xs i x) i d)
 set_there P xs i x d new old =
     elim (cases_lt i (length xs)) [
@@ -36,7 +36,7 @@ body_in_twice places at first body =
     ]
 
 -- a share has a place for each of its objects
-abbrev sized_share : List Place → Type 0
+abbrev pub sized_share : List Place → Type 0
 sized_share places = length places ≡ PARTITION_PLACES
 
 -- the share of an index, and its place there
@@ -51,6 +51,15 @@ share_below index within = div_below index PARTITION_PLACES PARTITIONS (omega ar
 
 pub spot_below : (index : ℕ) → spot_of index < PARTITION_PLACES
 spot_below index = mod_below index PARTITION_PLACES (omega arith)
+
+-- another place of the same share
+pub other_spot : (index other : ℕ) → other ≢ index → share_of other ≡ share_of index
+    → spot_of other ≢ spot_of index
+other_spot index other apart share spot =
+    apart (sym (div-add-mod' other PARTITION_PLACES)
+    ∙ ap (λ (q : ℕ). q * PARTITION_PLACES + spot_of other) share
+    ∙ ap (λ (r : ℕ). share_of index * PARTITION_PLACES + r) spot
+    ∙ div-add-mod' index PARTITION_PLACES)
 
 module _ (shares : List (List Place)) (index : ℕ) (body : Body) where
   abbrev written : List Place
@@ -68,14 +77,6 @@ module _ (shares : List (List Place)) (index : ℕ) (body : Body) where
       ∙ ap (λ (place : Place). place.body)
       (get_or-set_same (get_or shares (share_of index) []) (spot_of index) _ no_place (omega (arith, sized, spot_below index)))
 
-  other_spot : (other : ℕ) → other ≢ index → share_of other ≡ share_of index
-      → spot_of other ≢ spot_of index
-  other_spot other apart share spot =
-      apart (sym (div-add-mod' other PARTITION_PLACES)
-      ∙ ap (λ (q : ℕ). q * PARTITION_PLACES + spot_of other) share
-      ∙ ap (λ (r : ℕ). share_of index * PARTITION_PLACES + r) spot
-      ∙ div-add-mod' index PARTITION_PLACES)
-
   -- every other index has what it had
   pub place_other : (other : ℕ) → other ≢ index
       → place_at (with_body shares index body) other ≡ place_at shares other
@@ -88,7 +89,7 @@ module _ (shares : List (List Place)) (index : ℕ) (body : Body) where
             ≡ place_in (get_or shares (share_of index) []) (spot_of other))
             shares (share_of index) written []
             (get_or-set_other (get_or shares (share_of index) []) (spot_of index) (spot_of other) _ no_place
-            (other_spot other apart same))
+            (other_spot index other apart same))
             refl)
         | inr another ↦
             ap (λ (places : List Place). place_in places (spot_of other))

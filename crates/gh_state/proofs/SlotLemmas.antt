@@ -6,7 +6,7 @@ use Rattle.std.proofs.lemmas.List.Folds.{find_at}
 use Rattle.std.proofs.lemmas.List.Quantifiers.{position-Some}
 use Rattle.std.proofs.lemmas.List.{set-set}
 use Rattle.std.proofs.lemmas.Option.{cond_some, slice_get-get_or}
-use Rattle.gh_state.proofs.FoundRows.{unplaced_none}
+use Rattle.gh_state.proofs.FoundRows.{placed_found, unplaced_none}
 use Rattle.gh_base.specs.declared.cap_word.CapWord.{CapWord}
 use Rattle.gh_base.specs.CapWord.{revoked_bits}
 use Rattle.gh_cspace.specs.Cspace.{empty_word, revoked_word, with_word, word_at}
@@ -16,10 +16,7 @@ use Rattle.gh_state.specs.declared.slots.Slots.{Slots}
 -- the slots at the place of a capability space are found
 pub found_home : (all : List Slots) (cspace at : ℕ) (d : Slots) → position (is_home cspace) all ≡ Some at
     → find (is_home cspace) all ≡ Some (get_or all at d)
-found_home all cspace at d is =
-    find_at (is_home cspace) all
-    ∙ ap (slice_get all) (cond_some (nat_lt (position_or_len (is_home cspace) all) (length all)) (position_or_len (is_home cspace) all) at is).1
-    ∙ slice_get-get_or all at d ((position-Some (is_home cspace) all at d is).0)
+found_home all cspace at d is = placed_found (is_home cspace) all at d is
 
 -- and have its words
 pub words_at_home : (all : List Slots) (cspace at : ℕ) (d : Slots) → position (is_home cspace) all ≡ Some at

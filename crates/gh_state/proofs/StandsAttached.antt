@@ -23,6 +23,7 @@ module _ (s : State) (valid : IsValidWithin s) (row : CpuRow) (may : MayAttach s
       → Stands (with_cpus (parts.journal.cpus ++ row ∷ []) parts) (add_cpu row s)
   attach_stands parts stand = record {
     objects = stand.objects;
+    kinds = stand.kinds;
     references =
         references_moved (s.entries + 1) s (AddCpu row) valid may parts.table.headers parts.journal.counts refl
         (subst (λ (b : Bool). ReferencesStand parts.table.headers parts.journal.counts (if b then [] else row.cspace ∷ row.space ∷ []) s)

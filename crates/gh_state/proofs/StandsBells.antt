@@ -13,9 +13,9 @@ use Rattle.gh_state.specs.Shares.{with_body}
 use Rattle.gh_state.specs.Stands.{StandsOwing}
 use Rattle.gh_state.specs.declared.body.Body.{Body}
 use Rattle.gh_state.specs.declared.parts.Parts.{Parts}
-use Rattle.gh_state.proofs.BodyChangeLemmas.{belled_memory, belled_queues, belled_shown}
+use Rattle.gh_state.proofs.BodyChangeLemmas.{belled_kind, belled_memory, belled_queues, belled_shown}
 use Rattle.gh_state.proofs.BodyLemmas.{rows_changed}
-use Rattle.gh_state.proofs.StandsBodies.{before, bells_kept, objects_kept, queues_kept, spaces_kept, spans_kept}
+use Rattle.gh_state.proofs.StandsBodies.{before, bells_kept, kinds_kept, objects_kept, queues_kept, spaces_kept, spans_kept}
 
 -- what is this serial's is no other's
 pub apart_serials : (serial other n : ℕ) → other ≢ serial → (n == serial) ≡ true → (n == other) ≡ false
@@ -35,6 +35,7 @@ module _ (owed : List Serial) (parts : Parts) (s : State) (stand : StandsOwing o
       record {
         objects = objects_kept owed parts s stand row.serial.0 new;
         references = record { each = stand.references.each; bare = stand.references.bare };
+        kinds = kinds_kept owed parts s stand row.serial.0 new (belled_kind row old);
         bells = rows_changed parts.table.headers parts.shares stand.objects.indexed stand.objects.whole row.serial.0 new
             is_bell bell_in s.bells (replaced row) (belled row) refl refl
             (λ old_row is. eq-eqb row.serial.0 row.serial.0 refl)

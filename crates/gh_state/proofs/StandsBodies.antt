@@ -1,13 +1,15 @@
 -- The parts stand for the rows once the body of one object is another: what is kept beside the rows
 -- of the body's kind.
-use Rattle.std.proofs.Common.{◌≡◌, ◌∙◌, ℕ, List, Option, Some, None, refl, sym}
+use Rattle.std.proofs.Common.{◌≡◌, ◌∙◌, ℕ, List, Option, Some, None, refl, sym, find}
 use Rattle.gh_base.specs.declared.ids.Serial.{Serial}
 use Rattle.gh_addrspace.specs.Space.{Space as AddressSpace}
+use Rattle.gh_model.specs.Rows.{is_object}
+use Rattle.gh_model.specs.declared.rows.ObjectRow.{ObjectRow}
 use Rattle.gh_model.specs.declared.state.State.{State}
-use Rattle.gh_state.specs.Bodies.{bell_in, body_of, mappings_in, queue_in, space_in, span_in}
+use Rattle.gh_state.specs.Bodies.{bell_in, body_of, fits_body, mappings_in, queue_in, space_in, span_in}
 use Rattle.gh_state.specs.Index.{index_of}
 use Rattle.gh_state.specs.Shares.{with_body}
-use Rattle.gh_state.specs.Stands.{BellsStand, ObjectsStand, QueuesStand, SpacesStand, SpansStand, StandsOwing}
+use Rattle.gh_state.specs.Stands.{BellsStand, KindsStand, ObjectsStand, QueuesStand, SpacesStand, SpansStand, StandsOwing}
 use Rattle.gh_state.specs.declared.body.Body.{Body}
 use Rattle.gh_state.specs.declared.parts.Parts.{Parts}
 use Rattle.gh_state.specs.declared.shares.Place.{Place}
@@ -40,6 +42,13 @@ module _ (owed : List Serial) (parts : Parts) (s : State) (stand : StandsOwing o
       → see x (body_of parts.table.headers parts.shares x) ≡ see x (body_of parts.table.headers shares_now x)
   seen see same x =
       sym (seen_kept parts.table.headers parts.shares stand.objects.indexed stand.objects.whole serial body see same x)
+
+  pub kinds_kept : ((found : Option ObjectRow) → fits_body body found ≡ fits_body before found)
+      → KindsStand parts.table.headers shares_now s.objects
+  kinds_kept same x =
+      seen_kept parts.table.headers parts.shares stand.objects.indexed stand.objects.whole serial body
+      (λ n b. fits_body b (find (is_object x) s.objects)) (same (find (is_object x) s.objects)) x
+      ∙ stand.kinds x
 
   pub bells_kept : bell_in serial body ≡ bell_in serial before
       → BellsStand parts.table.headers shares_now s.bells

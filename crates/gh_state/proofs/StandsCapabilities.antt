@@ -126,6 +126,7 @@ module _ (parts : Parts) (s : State) (row : CapabilityRow) (valid : IsValidWithi
   pub put_stands : Stands (with_filled row entry parts) (put_capability row s)
   put_stands = record {
     objects = stand.objects;
+    kinds = stand.kinds;
     references =
         references_moved (s.entries + 1) s (PutCapability row) valid may headers parts.journal.counts refl
         (subst (λ (owed : List Serial). ReferencesStand headers parts.journal.counts owed s)

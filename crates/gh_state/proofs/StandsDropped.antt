@@ -70,6 +70,7 @@ module _ (parts : Parts) (s : State) (cspace : Serial) (slot : ℕ) (at : IsFill
       (with_slots cspace.0 (emptied slot entry) parts) (drop_capability cspace slot s)
   drop_stands = record {
     objects = at.stand.objects;
+    kinds = at.stand.kinds;
     references =
         references_moved (s.entries + 1) s (DropCapability cspace slot) at.valid at.fill headers parts.journal.counts refl at.stand.references;
     bells = at.stand.bells;
@@ -139,6 +140,7 @@ module _ (parts : Parts) (s : State) (cspace : Serial) (slot : ℕ) (at : IsFill
       (with_slots cspace.0 (revoked slot entry) parts) (revoke_capability cspace slot s)
   revoke_stands = record {
     objects = at.stand.objects;
+    kinds = at.stand.kinds;
     references =
         references_moved (s.entries + 1) s (RevokeCapability cspace slot) at.valid at.fill headers parts.journal.counts refl at.stand.references;
     bells = at.stand.bells;

@@ -19,6 +19,7 @@ module _ (parts : Parts) (s : State) (stand : Stands parts s) (valid : IsValidWi
       (with_cpus (change_row (is_cpu cpu.0) as_exited parts.journal.cpus) parts) (exit_cpu cpu.0 s)
   exit_stands = record {
     objects = stand.objects;
+    kinds = stand.kinds;
     references = references_moved (s.entries + 1) s (Exit cpu) valid tt parts.table.headers parts.journal.counts refl stand.references;
     bells = stand.bells;
     queues = stand.queues;

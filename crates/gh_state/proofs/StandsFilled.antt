@@ -88,6 +88,7 @@ module _ (parts : Parts) (s : State) (row : CapabilityRow) (valid : IsValidWithi
   pub filled_stands : Stands (with_filled row (setting s row.cspace.0 row.slot) parts) (fill_slot row s)
   filled_stands = record {
     objects = stand.objects;
+    kinds = stand.kinds;
     references =
         references_moved (s.entries + 1) s (FillSlot row) valid may headers parts.journal.counts refl
         (subst (λ (owed : List Serial). ReferencesStand headers parts.journal.counts owed s)

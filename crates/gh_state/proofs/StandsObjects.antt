@@ -27,8 +27,9 @@ use Rattle.gh_objects.specs.Counts.{count_at}
 use Rattle.gh_objects.specs.Headers.{HeaderTable, has_serial, header_at, header_staged, in_stage}
 use Rattle.gh_objects.specs.declared.count.Count.{Count}
 use Rattle.gh_objects.specs.declared.header.Header.{Header}
+use Rattle.gh_state.specs.Bodies.{fits_body}
 use Rattle.gh_state.specs.Index.{AreIndexed, found_index, index_of, indexed}
-use Rattle.gh_state.specs.Shares.{place_at}
+use Rattle.gh_state.specs.Shares.{body_at, place_at}
 use Rattle.gh_state.specs.Stands.{ObjectsStand, ReferencesStand, StandsOwing, UnitsStand, account_of, count_of, header_of}
 use Rattle.gh_state.specs.declared.journal.Account.{Account}
 use Rattle.gh_state.specs.declared.parts.Parts.{Parts}
@@ -215,6 +216,10 @@ module _ (owed : List Serial) (parts : Parts) (s : State) (stand : StandsOwing o
       each = counts_now;
       bare = λ index none. stand.references.bare index (none_stays headers stage at index none);
     };
+    kinds = λ x.
+        seen (fits_body (body_at parts.shares (index_of now x))) (λ row. refl) x
+        ∙ ap (λ (i : ℕ). fits_body (body_at parts.shares i) (find (is_object x) s.objects)) (index_stays headers stage at x)
+        ∙ stand.kinds x;
     bells = bells_at headers now (index_stays headers stage at) parts.shares s.bells stand.bells;
     queues = queues_at headers now (index_stays headers stage at) parts.shares s.queues stand.queues;
     spans = spans_at headers now (index_stays headers stage at) parts.shares s.extents stand.spans;

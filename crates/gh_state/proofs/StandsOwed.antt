@@ -57,6 +57,7 @@ module _ (parts : Parts) (s : State) (object : Serial) (before after : List Seri
   pub owed_stands : StandsOwing after (recounted change parts object.0) s
   owed_stands = record {
     objects = stand.objects;
+    kinds = stand.kinds;
     references =
         references_recounted parts.table.headers parts.journal.counts s object.0 before after change
         stand.objects.indexed recounts stand.references;

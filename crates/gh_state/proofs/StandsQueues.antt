@@ -6,9 +6,10 @@ use Rattle.gh_base.specs.declared.ids.Serial.{Serial}
 use Rattle.gh_invariant.specs.Premises.{MaySend}
 use Rattle.gh_model.specs.Changes.{with_message}
 use Rattle.gh_model.specs.Rows.{change_row, is_queue}
+use Rattle.gh_model.specs.declared.rows.ObjectRow.{ObjectRow}
 use Rattle.gh_model.specs.declared.rows.QueueRow.{QueueRow}
 use Rattle.gh_model.specs.declared.state.State.{State}
-use Rattle.gh_state.specs.Bodies.{bell_in, body_of, queue_in}
+use Rattle.gh_state.specs.Bodies.{bell_in, body_of, fits_body, queue_in}
 use Rattle.gh_state.specs.BodyChanges.{on_queue, sent_to}
 use Rattle.gh_state.specs.Index.{index_of}
 use Rattle.gh_state.specs.Shares.{with_body}
@@ -19,7 +20,7 @@ use Rattle.gh_state.specs.declared.parts.Parts.{Parts}
 use Rattle.gh_state.proofs.BodyChangeLemmas.{KeepsMemory}
 use Rattle.gh_state.proofs.BodyLemmas.{rows_changed}
 use Rattle.gh_state.proofs.StandsBells.{apart_serials}
-use Rattle.gh_state.proofs.StandsBodies.{bells_kept, objects_kept, spaces_kept, spans_kept}
+use Rattle.gh_state.proofs.StandsBodies.{bells_kept, kinds_kept, objects_kept, spaces_kept, spans_kept}
 
 -- a change of a queue's body and one of its row that go together
 pub record ChangesQueue (serial : ℕ) (change : Body → Body) (row_change : QueueRow → QueueRow)
@@ -27,6 +28,7 @@ pub record ChangesQueue (serial : ℕ) (change : Body → Body) (row_change : Qu
   pub nothing : change Nothing ≡ Nothing
   pub shown : queue_in serial (change body) ≡ option_map row_change (queue_in serial body)
   pub named : (row : QueueRow) → (row_change row).serial ≡ row.serial
+  pub kind : (found : Option ObjectRow) → fits_body (change body) found ≡ fits_body body found
   pub bells : bell_in serial (change body) ≡ bell_in serial body
   pub memory : KeepsMemory serial (change body) body
 
@@ -44,6 +46,7 @@ module _ (owed : List Serial) (parts : Parts) (s : State) (stand : StandsOwing o
       record {
         objects = objects_kept owed parts s stand queue.0 new;
         references = record { each = stand.references.each; bare = stand.references.bare };
+        kinds = kinds_kept owed parts s stand queue.0 new changes.kind;
         bells = bells_kept owed parts s stand queue.0 new changes.bells;
         queues = rows_changed parts.table.headers parts.shares stand.objects.indexed stand.objects.whole queue.0 new
             is_queue queue_in s.queues row_change change changes.nothing refl

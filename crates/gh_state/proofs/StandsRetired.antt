@@ -24,6 +24,7 @@ use Rattle.gh_objects.specs.Counts.{as_retired, count_at, count_changed}
 use Rattle.gh_objects.specs.Headers.{header_at}
 use Rattle.gh_objects.specs.declared.count.Count.{Count}
 use Rattle.gh_objects.specs.declared.header.Header.{Header}
+use Rattle.gh_state.specs.Bodies.{body_of, fits_body}
 use Rattle.gh_state.specs.Index.{index_of}
 use Rattle.gh_state.specs.NumberChanges.{with_retired}
 use Rattle.gh_state.specs.Shares.{place_at}
@@ -190,6 +191,7 @@ module _ (parts : Parts) (s : State) (stand : Stands parts s) (object : Serial) 
       room = length-set parts.journal.retirements at (Some seen_by) ∙ stand.objects.room;
     };
     references = record { each = counts_now; bare = bare_now };
+    kinds = λ x. seen (fits_body (body_of headers parts.shares x)) (λ row. refl) x ∙ stand.kinds x;
     bells = stand.bells;
     queues = stand.queues;
     spans = stand.spans;

@@ -1,12 +1,15 @@
 -- What the body at an object's index shows: the row of a bell or a queue, the copy of an extent's
 -- span, the mapping rows of an address space.
-use Rattle.std.specs.Prelude.{ℕ, List, [], map, Option, Some, None}
+use Rattle.std.specs.Prelude.{ℕ, Bool, true, false, List, [], map, Option, Some, None}
+use Rattle.gh_base.specs.declared.kind.Kind.{Kind}
+use Rattle.gh_base.specs.declared.kind.Kind.TheVariants as kind
 use Rattle.gh_addrspace.specs.Space.{Space as AddressSpace}
 use Rattle.gh_addrspace.specs.declared.mapping.Mapping.{Mapping}
 use Rattle.gh_model.specs.Changes.{serial_of}
 use Rattle.gh_model.specs.declared.memory.Span.{Span}
 use Rattle.gh_model.specs.declared.rows.BellRow.{BellRow}
 use Rattle.gh_model.specs.declared.rows.MappingRow.{MappingRow}
+use Rattle.gh_model.specs.declared.rows.ObjectRow.{ObjectRow}
 use Rattle.gh_model.specs.declared.rows.QueueRow.{QueueRow}
 use Rattle.gh_objects.specs.declared.header.Header.{Header}
 use Rattle.gh_state.specs.Index.{index_of}
@@ -66,3 +69,19 @@ mappings_in serial _ = []
 abbrev pub space_in : Body → Option AddressSpace
 space_in (Space space) = Some space
 space_in _ = None
+
+-- the body is that of a kind; partitions and capability spaces have all in the journal
+abbrev pub is_body_of : Kind → Body → Bool
+is_body_of kind.Bell (Bell words) = true
+is_body_of kind.Queue NewQueue = true
+is_body_of kind.Queue (Queue queue) = true
+is_body_of kind.Space (Space space) = true
+is_body_of kind.Extent (Extent span) = true
+is_body_of kind.Partition Nothing = true
+is_body_of kind.Cspace Nothing = true
+is_body_of _ _ = false
+
+-- the body is that of the object's kind, if there is the object
+abbrev pub fits_body : Body → Option ObjectRow → Bool
+fits_body body None = true
+fits_body body (Some row) = is_body_of row.kind body

@@ -1,7 +1,9 @@
+pub mod Accounts
 pub mod Bodies
 pub mod BodyChanges
 pub mod Index
 pub mod Making
+pub mod MemoryChanges
 pub mod NumberChanges
 pub mod Owing
 pub mod Shares

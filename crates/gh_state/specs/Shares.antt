@@ -37,3 +37,13 @@ abbrev pub with_body : List (List Place) → ℕ → Body → List (List Place)
 with_body shares index body =
     slice_set shares (index / PARTITION_PLACES)
     (with_body_in (slice_index_or shares (index / PARTITION_PLACES) []) (index % PARTITION_PLACES) body)
+
+-- a share with another cost at a place
+abbrev pub with_cost_in : List Place → ℕ → ℕ → List Place
+with_cost_in places at cost = slice_set places at (record (place_in places at) { cost = cost })
+
+-- the shares with another cost at an index
+abbrev pub with_cost_at : List (List Place) → ℕ → ℕ → List (List Place)
+with_cost_at shares index cost =
+    slice_set shares (index / PARTITION_PLACES)
+    (with_cost_in (slice_index_or shares (index / PARTITION_PLACES) []) (index % PARTITION_PLACES) cost)

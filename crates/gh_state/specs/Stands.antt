@@ -30,7 +30,7 @@ use Rattle.gh_objects.specs.Counts.{count_at}
 use Rattle.gh_objects.specs.Headers.{header_at}
 use Rattle.gh_objects.specs.declared.count.Count.{Count}
 use Rattle.gh_objects.specs.declared.header.Header.{Header}
-use Rattle.gh_state.specs.Bodies.{bell_in, body_of, mappings_in, queue_in, space_in, span_in}
+use Rattle.gh_state.specs.Bodies.{bell_in, body_of, fits_body, mappings_in, queue_in, space_in, span_in}
 use Rattle.gh_state.specs.Index.{AreIndexed, index_of, indexed}
 use Rattle.gh_state.specs.Shares.{AreShares, place_at}
 use Rattle.gh_state.specs.Slots.{is_home, name_in, no_serial, word_in}
@@ -83,7 +83,13 @@ pub record ReferencesStand (headers : List (Option Header)) (counts : List (Opti
       ≡ option_map (count_of s owed) (find (is_object serial) s.objects)
   pub bare : (index : ℕ) → header_at headers index ≡ None → count_at counts index ≡ None
 
--- doorbells, queues, spans
+-- bodies: kinds, doorbells, queues, spans
+
+-- each object has the body of its kind
+abbrev pub KindsStand : List (Option Header) → List (List Place) → List ObjectRow → Type 0
+KindsStand headers shares objects =
+    (serial : ℕ)
+    → fits_body (body_of headers shares serial) (find (is_object serial) objects) ≡ true
 
 -- each bell's words are those of its row, and so with queues
 abbrev pub BellsStand : List (Option Header) → List (List Place) → List BellRow → Type 0
@@ -199,6 +205,7 @@ pub record NumbersStand (journal : Journal) (s : State) : Type 0 where
 pub record StandsOwing (owed : List Serial) (parts : Parts) (s : State) : Type 0 where
   pub objects :
       ObjectsStand parts.table.headers parts.shares parts.journal.retirements s.objects
+  pub kinds : KindsStand parts.table.headers parts.shares s.objects
   pub references : ReferencesStand parts.table.headers parts.journal.counts owed s
   pub bells : BellsStand parts.table.headers parts.shares s.bells
   pub queues : QueuesStand parts.table.headers parts.shares s.queues

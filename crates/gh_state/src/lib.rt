@@ -8,11 +8,14 @@ mod capabilities;
 mod counts;
 mod cpus;
 mod journal;
+mod links;
+mod memory;
 mod objects;
 mod parts;
 mod queues;
 mod shares;
 mod slots;
+mod units;
 
 pub use body::Body;
 pub use journal::{Account, Journal, Memory};

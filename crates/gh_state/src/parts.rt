@@ -1,7 +1,8 @@
 //! The parts of the hypervisor.
 
 ghost use Rattle.std.specs.Prelude.{◌≡◌, ◌<◌, IfSome};
-ghost use Rattle.gh_state.specs.Index.{AreIndexed, found_index};
+ghost use Rattle.gh_objects.specs.Headers.{header_at};
+ghost use Rattle.gh_state.specs.Index.{AreIndexed, found_index, home_in, partition_in, serial_at};
 
 use crate::journal::Journal;
 use crate::shares::Shares;
@@ -26,5 +27,37 @@ impl Parts {
         ensures within { IfSome result (λ index. index.0 < OBJECT_INDICES) }
     {
         self.table.index_of(serial)
+    }
+
+    /// The serial of the object at an index; 0 where there is none.
+    fn serial_at(&self, index: ObjIndex) -> Serial
+        ensures { result ≡ serial_at self.now.table.headers index.0 }
+    {
+        match self.table.get(index) {
+            None => Serial(0),
+            Some(header) => header.serial,
+        }
+    }
+
+    /// The serial of the partition that the object at an index lives in; 0 where there is none.
+    fn home_at(&self, index: ObjIndex) -> Serial
+        ensures { result ≡ serial_at self.now.table.headers
+            (partition_in (header_at self.now.table.headers index.0)) }
+    {
+        match self.table.get(index) {
+            None => Serial(0),
+            Some(header) => self.serial_at(header.partition),
+        }
+    }
+
+    /// The serial of the partition that an object lives in; 0 where there is no such object.
+    pub(crate) fn home(&self, object: Serial) -> Serial
+        requires { AreIndexed self.now.table.headers }
+        ensures { result ≡ home_in self.now.table.headers object.0 }
+    {
+        match self.index(object) {
+            None => Serial(0),
+            Some(index) => self.home_at(index),
+        }
     }
 }

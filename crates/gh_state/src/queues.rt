@@ -2,10 +2,12 @@
 
 ghost use Rattle.std.specs.Prelude.{◌≡◌, ◌<◌, OnErr, OnOk};
 ghost use Rattle.gh_invariant.specs.Premises.{MaySend};
-ghost use Rattle.gh_model.specs.Changes.{drop_message, empty_queue, put_message, set_room};
+ghost use Rattle.gh_model.specs.Changes.{configure_queue, drop_message, empty_queue, put_message, set_room};
+ghost use Rattle.gh_model.specs.declared.change.Change.TheVariants.{ConfigureQueue};
 ghost use Rattle.gh_model.specs.declared.state.State.{State};
 ghost use Rattle.gh_msgqueue.specs.Queue.{IsConfigurable};
 ghost use Rattle.gh_state.specs.BodyChanges.{on_queue, roomed, sent_to, without_any, without_one};
+ghost use Rattle.gh_state.specs.Making.{CanMake};
 ghost use Rattle.gh_state.specs.Stands.{Stands};
 
 use crate::body::Body;
@@ -93,6 +95,26 @@ impl Parts {
             let body = self.shares.take(index);
             self.shares.put(index, roomed(room, body));
         }
+        Ok(())
+    }
+
+    /// A message queue gets its room, and costs so many units from now on.
+    pub fn configure_queue(
+        &mut self,
+        alloc: Global,
+        queue: Serial,
+        depth: u16,
+        size: u16,
+        cost: u16,
+    ) -> Result<(), NoMemory>
+        ghost s: { State }
+        requires can { CanMake self.old s (ConfigureQueue queue depth size cost) }
+        requires fits { IsConfigurable depth size }
+        ensures ok { OnOk result (Stands self.new (configure_queue queue depth size cost s)) }
+        ensures err { OnErr result (self.new ≡ self.old) }
+    {
+        self.set_room(alloc, queue, depth, size)?;
+        self.cost_more(queue, cost);
         Ok(())
     }
 

@@ -2,7 +2,7 @@
 
 ghost use Rattle.std.specs.Prelude.{◌≡◌, ◌<◌, length};
 ghost use Rattle.gh_state.specs.Shares.{AreShares, body_at, place_in};
-ghost use Rattle.gh_state.specs.Shares.{with_body, with_body_in};
+ghost use Rattle.gh_state.specs.Shares.{with_body, with_body_in, with_cost_at, with_cost_in};
 
 use crate::body::Body;
 use gh_base::{OBJECT_INDICES, ObjIndex, PARTITION_PLACES};
@@ -59,6 +59,14 @@ impl Share {
     {
         mem::replace(&mut self.places[at].body, body)
     }
+
+    /// The object at a place costs so many units from now on.
+    fn set_cost(&mut self, at: usize, cost: u16)
+        requires { at < length self.old }
+        ensures { self.new ≡ with_cost_in self.old at cost }
+    {
+        self.places[at].cost = cost;
+    }
 }
 
 impl Shares {
@@ -89,5 +97,13 @@ impl Shares {
         ensures { self.new ≡ with_body self.old index.0 body }
     {
         let _ = self.exchange(index, body);
+    }
+    /// The object at an index costs so many units from now on.
+    pub fn set_cost(&mut self, index: ObjIndex, cost: u16)
+        requires { index.0 < OBJECT_INDICES }
+        ensures { self.new ≡ with_cost_at self.old index.0 cost }
+    {
+        let index = index.0 as usize;
+        self.shares[index / PARTITION_PLACES].set_cost(index % PARTITION_PLACES, cost);
     }
 }

@@ -1,0 +1,88 @@
+-- What is at each index once what is at one of them is another.
+use Rattle.std.proofs.Common.{◌≡◌, ◌≢◌, ◌<◌, ◌≤◌, ◌∙◌, ◌*◌, ◌+◌, ℕ, List, [], Option, None, refl, sym, ap, subst, arith, inl, inr, length, set, get_or}
+use Rattle.std.specs.Prelude.{All}
+use Rattle.std.proofs.lemmas.Bool.{cases_lt, cases_eq}
+use Rattle.std.proofs.lemmas.List.{get_or-set_same, get_or-set_other, length-set, set_past}
+use Rattle.std.proofs.lemmas.List.Elements.{All-get_or, All-set}
+use Rattle.std.proofs.lemmas.Nat.{le-div}
+use Rattle.gh_base.specs.declared.limits.TheConstants.{OBJECT_INDICES, PARTITION_PLACES, PARTITIONS}
+use Rattle.gh_state.specs.Shares.{AreShares, body_at, no_place, place_at, place_in, with_cost_at}
+use Rattle.gh_state.specs.declared.body.Body.{Body}
+use Rattle.gh_state.specs.declared.shares.Place.{Place}
+use Rattle.gh_objects.specs.declared.header.Header.{Header}
+use Rattle.gh_state.specs.Index.{AreIndexed, found_index, index_of}
+use Rattle.gh_state.proofs.IndexLemmas.{unfound_past}
+use Rattle.gh_state.proofs.SharesLemmas.{other_spot, set_there, share_below, share_of, sized_share, spot_below, spot_of}
+
+module _ (shares : List (List Place)) (index : ℕ) (place : Place) where
+  abbrev share : List Place
+  share = set (get_or shares (share_of index) []) (spot_of index) place
+
+  -- the shares with the place
+  abbrev pub placed : List (List Place)
+  placed = set shares (share_of index) share
+
+  pub place_here : AreShares shares → index < OBJECT_INDICES → place_at placed index ≡ place
+  place_here whole within =
+      let sized : length (get_or shares (share_of index) []) ≡ PARTITION_PLACES =
+      All-get_or sized_share shares (share_of index) [] (omega (arith, whole.partitions, share_below index within)) whole.places in
+      ap (λ (places : List Place). place_in places (spot_of index))
+      (get_or-set_same shares (share_of index) share [] (omega (arith, whole.partitions, share_below index within)))
+      ∙ get_or-set_same (get_or shares (share_of index) []) (spot_of index) place no_place (omega (arith, sized, spot_below index))
+
+  pub place_elsewhere : (other : ℕ) → other ≢ index → place_at placed other ≡ place_at shares other
+  place_elsewhere other apart =
+      elim (cases_eq (share_of other) (share_of index)) [
+        | inl same ↦
+            subst (λ (q : ℕ). place_in (get_or placed q []) (spot_of other) ≡ place_in (get_or shares q []) (spot_of other)) (sym same)
+            (set_there (λ (places : List Place). place_in places (spot_of other) ≡ place_in (get_or shares (share_of index) []) (spot_of other))
+            shares (share_of index) share []
+            (get_or-set_other (get_or shares (share_of index) []) (spot_of index) (spot_of other) place no_place
+            (other_spot index other apart same))
+            refl)
+        | inr another ↦
+            ap (λ (places : List Place). place_in places (spot_of other))
+            (get_or-set_other shares (share_of index) (share_of other) share [] another)
+      ]
+
+  -- what is kept of the place is kept everywhere
+  pub place_kept : {V : Type 0} (see : Place → V) → see place ≡ see (place_at shares index) → (other : ℕ)
+      → see (place_at placed other) ≡ see (place_at shares other)
+  place_kept see kept other =
+      elim (cases_eq other index) [
+        | inl same ↦
+            subst (λ (i : ℕ). see (place_at placed i) ≡ see (place_at shares i)) (sym same)
+            (set_there (λ (places : List Place). see (place_in places (spot_of index)) ≡ see (place_at shares index))
+            shares (share_of index) share []
+            (set_there (λ (one : Place). see one ≡ see (place_at shares index))
+            (get_or shares (share_of index) []) (spot_of index) place no_place kept refl)
+            refl)
+        | inr apart ↦ ap see (place_elsewhere other apart)
+      ]
+
+  pub place_past : AreShares shares → OBJECT_INDICES ≤ index → placed ≡ shares
+  place_past whole past =
+      set_past shares (share_of index) share
+      (omega (arith, whole.partitions, le-div PARTITIONS index PARTITION_PLACES (omega arith) past))
+
+  pub places_whole : AreShares shares → AreShares placed
+  places_whole whole = record {
+    partitions = length-set shares (share_of index) share ∙ whole.partitions;
+    places =
+        elim (cases_lt (share_of index) (length shares)) [
+          | inl below ↦
+              All-set sized_share shares (share_of index) share
+              (length-set (get_or shares (share_of index) []) (spot_of index) place
+              ∙ All-get_or sized_share shares (share_of index) [] below whole.places)
+              whole.places
+          | inr past ↦ subst (All sized_share) (sym (set_past shares (share_of index) share past)) whole.places
+        ];
+  }
+
+-- where an object isn't found no cost is set
+pub unfound_cost : (headers : List (Option Header)) (shares : List (List Place)) (serial cost : ℕ)
+    → AreIndexed headers → AreShares shares → None ≡ found_index headers serial
+    → with_cost_at shares (index_of headers serial) cost ≡ shares
+unfound_cost headers shares serial cost all whole none =
+    place_past shares (index_of headers serial) (record (place_at shares (index_of headers serial)) { cost = cost }) whole
+    (omega (arith, all.indices, unfound_past headers serial (sym none)))

@@ -1,0 +1,131 @@
+//! Changes of units.
+
+ghost use Rattle.std.specs.Prelude.{◌≡◌, ◌<◌, find, position};
+ghost use Rattle.std.specs.Option.{option_map_or};
+ghost use Rattle.gh_model.specs.Changes.{give_quota};
+ghost use Rattle.gh_model.specs.Rows.{change_row};
+ghost use Rattle.gh_model.specs.declared.change.Change.TheVariants.{GiveQuota};
+ghost use Rattle.gh_model.specs.declared.state.State.{State};
+ghost use Rattle.gh_state.specs.Accounts.{costing, costing_more, giver_in, giving, quoted, using, with_accounts};
+ghost use Rattle.gh_state.specs.Index.{AreIndexed};
+ghost use Rattle.gh_state.specs.Making.{CanMake};
+ghost use Rattle.gh_state.specs.Shares.{AreShares};
+ghost use Rattle.gh_state.specs.Stands.{Stands, is_account};
+
+use crate::journal::Account;
+use crate::parts::Parts;
+use gh_base::{Sequence, Serial};
+use gh_partition::Partition;
+
+impl Account {
+    /// It has so many units now, all of them free.
+    fn quote(&mut self, quota: u16)
+        ensures { self.new ≡ quoted quota self.old }
+    {
+        self.units = Partition::new(quota);
+    }
+
+    /// It uses so many units more, if they are free.
+    fn take(&mut self, cost: u16)
+        ensures { self.new ≡ using cost self.old }
+    {
+        let _ = self.units.take(cost);
+    }
+
+    /// It gives so many units away, if they are free.
+    fn give(&mut self, quota: u16)
+        ensures { self.new ≡ giving quota self.old }
+    {
+        let _ = self.units.give(quota);
+    }
+}
+
+/// The place of a partition's account.
+fn account_place(accounts: &[Account], partition: Serial) -> Option<usize>
+    ensures { result ≡ position (is_account partition.0) accounts.now }
+{
+    accounts
+        .iter()
+        .position(|account| account.partition == partition)
+}
+
+/// The partition that gave a partition its quota; serial 0 for one of the boot, and for none.
+fn giver(accounts: &[Account], partition: Serial) -> Serial
+    ensures { result ≡ giver_in (find (is_account partition.0) accounts.now) }
+{
+    match account_place(accounts, partition) {
+        None => Serial(0),
+        Some(at) => accounts[at].parent,
+    }
+}
+
+/// A partition gets its quota, all of it free.
+fn quote(accounts: &mut Sequence<Account>, partition: Serial, quota: u16)
+    ensures { accounts.new ≡ change_row (is_account partition.0) (quoted quota) accounts.old }
+{
+    if let Some(at) = account_place(accounts.as_slice(), partition) {
+        accounts.as_mut_slice()[at].quote(quota);
+    }
+}
+
+/// A partition gives units away, if they are free.
+fn give(accounts: &mut Sequence<Account>, partition: Serial, quota: u16)
+    ensures { accounts.new ≡ change_row (is_account partition.0) (giving quota) accounts.old }
+{
+    if let Some(at) = account_place(accounts.as_slice(), partition) {
+        accounts.as_mut_slice()[at].give(quota);
+    }
+}
+
+/// A partition uses units more, if they are free.
+fn take(accounts: &mut Sequence<Account>, partition: Serial, cost: u16)
+    ensures { accounts.new ≡ change_row (is_account partition.0) (using cost) accounts.old }
+{
+    if let Some(at) = account_place(accounts.as_slice(), partition) {
+        accounts.as_mut_slice()[at].take(cost);
+    }
+}
+
+impl Parts {
+    /// An object costs so many units from now on.
+    fn set_cost(&mut self, object: Serial, cost: u16)
+        requires indexed { AreIndexed self.old.table.headers }
+        requires whole { AreShares self.old.shares }
+        ensures { self.new ≡ costing object.0 cost self.old }
+    {
+        if let Some(index) = self.index(object) {
+            self.shares.set_cost(index, cost);
+        }
+    }
+
+    /// A partition uses units more, if they are free.
+    fn take_units(&mut self, partition: Serial, cost: u16)
+        ensures { self.new ≡ with_accounts
+            (change_row (is_account partition.0) (using cost) self.old.journal.accounts) self.old }
+    {
+        take(&mut self.journal.accounts, partition, cost);
+    }
+
+    /// A configured object, which cost one unit so far, costs so many from now on.
+    pub(crate) fn cost_more(&mut self, object: Serial, cost: u16)
+        requires indexed { AreIndexed self.old.table.headers }
+        requires whole { AreShares self.old.shares }
+        requires some { 0 < cost }
+        ensures { self.new ≡ costing_more object.0 cost self.old }
+    {
+        let home = self.home(object);
+        self.set_cost(object, cost);
+        self.take_units(home, cost - 1);
+    }
+
+    /// A partition gets its quota, which its parent gives.
+    pub fn give_quota(&mut self, partition: Serial, quota: u16)
+        ghost s: { State }
+        requires { CanMake self.old s (GiveQuota partition quota) }
+        ensures { Stands self.new (give_quota partition quota s) }
+    {
+        let parent = giver(self.journal.accounts.as_slice(), partition);
+        quote(&mut self.journal.accounts, partition, quota);
+        give(&mut self.journal.accounts, parent, quota);
+    }
+}
