@@ -26,6 +26,7 @@ pub use calls::{
     quit_keeps_calls, take_keeps_calls, undo_keeps_calls, unpin_keeps_calls, words_keep_calls,
 };
 pub use config::Config;
+pub use current::{CallStage, CurrentCall, GivenCall, SeenLook};
 pub use entries::{
     boot_file_has_references, commit_keeps_references, events_keep_state, set_cap_keeps_references,
     start_has_state,

@@ -1,0 +1,8 @@
+//! The items of calls, made on the slow machine as a schedule asks for them.
+#![tactic(auto)]
+
+mod call_items;
+mod look_item;
+mod progress;
+
+pub use progress::{Progress, Seat};
