@@ -1,3 +1,4 @@
 pub mod EnterLemmas
 pub mod LookLemmas
 pub mod SeatLemmas
+pub mod StageLemmas

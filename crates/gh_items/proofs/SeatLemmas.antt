@@ -7,7 +7,10 @@ use Rattle.std.proofs.lemmas.Option.{slice_get-get_or}
 use Rattle.gh_base.specs.declared.limits.TheConstants.{CPUS}
 use Rattle.gh_base.specs.declared.frame.Frame.{Frame}
 use Rattle.gh_base.specs.declared.call.Call.{Call}
-use Rattle.gh_core.specs.Config.{Config, Cpu}
+use Rattle.gh_core.specs.CallEvents.{at_stage}
+use Rattle.gh_core.specs.Config.{Config, Cpu, Current, Pin}
+use Rattle.gh_core.specs.Running.{current_of, stage_of}
+use Rattle.gh_core.specs.declared.current.CallStage.{CallStage}
 use Rattle.gh_core.specs.declared.current.CurrentCall.{CurrentCall}
 use Rattle.gh_items.specs.Stands.{SeatStands, Stands, with_call}
 use Rattle.gh_items.specs.declared.progress.Progress.{Progress}
@@ -75,3 +78,43 @@ module _ (progress : Progress) (conf : Config) (stands : Stands progress conf) (
     nine_calls = length-set progress.calls at call ∙ stands.nine_calls;
     seats = seat_after;
   }
+
+-- the call in progress that is taken out of the progress
+
+module _ (progress : Progress) (conf : Config) (at : ℕ) (call : CurrentCall) (stands : Stands (with_call progress at (Some call)) conf)
+    (within : at < CPUS) where
+  pub calls_there : at < length progress.calls
+  calls_there = omega (arith, length-set progress.calls at (Some call), stands.nine_calls)
+
+  pub seat_stands : (seat : Seat) → slice_get progress.seats at ≡ Some seat
+      → SeatStands at (cspace_of conf.boot at) progress.marks seat (Some call) (conf.cpu at)
+  seat_stands seat seated = stands.seats at seat (Some call) seated (set_here progress.calls at (Some call) calls_there)
+
+  -- it is the one of the configuration
+  pub current_is : (conf.cpu at).current ≡ Some (current_of call)
+  current_is = (seat_stands _ (slice_get-get_or progress.seats at some_seat (omega (arith, stands.nine_seats)))).current
+    where
+      some_seat : Seat
+      some_seat = record { cpu = record { 0 = 0 }; cspace = record { 0 = 0 }; calls = 0; sections = 0; place = 0; ended = false }
+
+  -- it goes on at another stage
+  pub stage_stands : (stage : CallStage) (counter count : ℕ → ℕ) (cpus : ℕ → Cpu) (pins : List Pin)
+      → ((n : ℕ) → (n == at) ≡ false → cpus n ≡ conf.cpu n)
+      → cpus at ≡ record (conf.cpu at) { current = Some (at_stage (stage_of stage) (current_of call)); pins = pins }
+      → Stands (with_call progress at (Some (record call { stage = stage }))) (moved conf counter count cpus)
+  stage_stands stage counter count cpus pins others here =
+      subst (λ (p : Progress). Stands p (moved conf counter count cpus)) (put_twice progress at (Some call) (Some (record call { stage = stage })))
+      (call_moves (with_call progress at (Some call)) conf stands at within (Some (record call { stage = stage })) counter count cpus others
+      (λ seat old there was.
+      subst (SeatStands at (cspace_of conf.boot at) progress.marks seat (Some (record call { stage = stage }))) (sym here) (record {
+        its_cpu = was.its_cpu;
+        space = was.space;
+        unasked = was.unasked;
+        current = refl;
+        dropped = λ none. absurd (let never : ⊥ = cc in never);
+        made = was.made;
+        calls = was.calls;
+        sections = was.sections;
+        place = was.place;
+        ended = was.ended;
+      })))

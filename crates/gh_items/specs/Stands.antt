@@ -1,7 +1,7 @@
 -- The configuration that a run's progress stands for: the present state, the history and the calls
 -- are those of the configuration. Its words are what a sound configuration has beside them, and
 -- aren't kept.
-use Rattle.std.specs.Prelude.{◌≡◌, ◌+◌, ◌-◌, ◌<◌, ◌≤◌, ⊤, ℕ, List, [], ◌∷◌, ◌++◌, length, Option, Some, None, Result, Ok, Err, count_by, filter, map, option_map, slice_get, slice_set}
+use Rattle.std.specs.Prelude.{◌≡◌, ◌+◌, ◌-◌, ◌<◌, ◌≤◌, ⊤, ℕ, Bool, true, false, List, [], ◌∷◌, ◌++◌, length, Option, Some, None, Result, Ok, Err, count_by, filter, map, option_map, slice_get, slice_set}
 use Rattle.std.specs.List.{list_any}
 use Rattle.std.specs.Option.{option_map_or}
 use Rattle.gh_base.specs.declared.errno.Errno.{Errno}
@@ -78,6 +78,14 @@ looked_call call seen stage = record call { seen = call.seen ++ seen ∷ []; sta
 abbrev pub stage_by : Result Serial Errno → CallStage
 stage_by (Ok serial) = stages.Looked
 stage_by (Err errno) = stages.Failed
+
+-- a call at another stage; a pin on a dead word is too late
+abbrev pub at_stage : CurrentCall → CallStage → CurrentCall
+at_stage call stage = record call { stage = stage }
+
+abbrev pub pin_stage : Bool → CallStage
+pin_stage true = stages.DeadPin
+pin_stage false = stages.Reading
 
 -- the progress stands for the configuration, whoever has the turn
 pub record Stands (progress : Progress) (conf : Config) : Type 0 where

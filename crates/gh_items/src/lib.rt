@@ -4,5 +4,6 @@
 mod call_items;
 mod look_item;
 mod progress;
+mod stage_items;
 
 pub use progress::{Progress, Seat};
