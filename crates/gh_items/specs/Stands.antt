@@ -1,16 +1,20 @@
 -- The configuration that a run's progress stands for: the present state, the history and the calls
 -- are those of the configuration. Its words are what a sound configuration has beside them, and
 -- aren't kept.
-use Rattle.std.specs.Prelude.{◌≡◌, ◌+◌, ◌-◌, ◌<◌, ◌≤◌, ⊤, ℕ, Bool, true, false, List, [], ◌∷◌, ◌++◌, length, Option, Some, None, Result, Ok, Err, count_by, filter, map, option_map, slice_get, slice_set}
+use Rattle.std.specs.Prelude.{◌≡◌, ◌||◌, ◌+◌, ◌-◌, ◌<◌, ◌≤◌, ⊤, ℕ, Bool, true, false, List, [], ◌∷◌, ◌++◌, length, Option, Some, None, Result, Ok, Err, count_by, filter, map, nat_lt, option_map, slice_get, slice_set, if◌then◌else◌}
 use Rattle.std.specs.List.{list_any}
-use Rattle.std.specs.Option.{option_map_or}
+use Rattle.std.specs.Option.{option_map_or, unwrap_or}
+use Rattle.gh_base.specs.declared.cap_word.Look.{Look}
 use Rattle.gh_base.specs.declared.errno.Errno.{Errno}
+use Rattle.gh_base.specs.declared.frame.Reply.{Reply}
 use Rattle.gh_base.specs.declared.ids.ObjIndex.{ObjIndex}
 use Rattle.gh_base.specs.declared.ids.Serial.{Serial}
 use Rattle.gh_base.specs.declared.limits.TheConstants.{CPUS, OBJECT_INDICES}
+use Rattle.gh_base.specs.declared.mark.End.{End}
 use Rattle.gh_base.specs.declared.mark.Mark.{Mark}
+use Rattle.gh_core.specs.CallEvents.{finished}
 use Rattle.gh_core.specs.Config.{Config, Cpu, present}
-use Rattle.gh_core.specs.Running.{current_of}
+use Rattle.gh_core.specs.Running.{current_of, seen_of}
 use Rattle.gh_core.specs.declared.current.CallStage.{CallStage}
 use Rattle.gh_core.specs.declared.current.CallStage.TheVariants as stages
 use Rattle.gh_core.specs.declared.current.CurrentCall.{CurrentCall}
@@ -20,7 +24,8 @@ use Rattle.gh_items.specs.declared.progress.Progress.{Progress}
 use Rattle.gh_items.specs.declared.progress.Seat.{Seat}
 use Rattle.gh_model.specs.History.{entry_of}
 use Rattle.gh_model.specs.Legal.{exits}
-use Rattle.gh_model.specs.Marks.{cspace_of, has_looks, mark_of, place_after}
+use Rattle.gh_model.specs.Marks.{cspace_of, has_looks, mark_of, place, place_after, place_after_looks}
+use Rattle.gh_model.specs.Program.{is_exit}
 use Rattle.gh_model.specs.Run.{is_mark_of}
 use Rattle.gh_model.specs.declared.rows.CapabilityRow.{CapabilityRow}
 
@@ -86,6 +91,32 @@ at_stage call stage = record call { stage = stage }
 abbrev pub pin_stage : Bool → CallStage
 pin_stage true = stages.DeadPin
 pin_stage false = stages.Reading
+
+-- the looks alone
+abbrev pub looks_of : List SeenLook → List Look
+looks_of seen = map (λ (one : SeenLook). one.look) seen
+
+-- the end of a call: its mark, what its CPU's finished calls come to with it, and the progress
+abbrev pub mark_at : ℕ → CurrentCall → End → Reply → Mark
+mark_at at call end reply = (finished at (current_of call) end reply).mark
+
+abbrev pub sections_of : CurrentCall → ℕ
+sections_of call = if nat_lt 0 (length call.seen) then 1 else 0
+
+abbrev pub seat_behind : Seat → CurrentCall → End → Seat
+seat_behind seat call end = record seat {
+  calls = seat.calls + 1;
+  sections = seat.sections + sections_of call;
+  place = unwrap_or (place end) (place_after_looks seat.place (map seen_of call.seen));
+  ended = seat.ended || is_exit call.given.frame;
+}
+
+abbrev pub with_end : Progress → ℕ → Seat → CurrentCall → End → Reply → Progress
+with_end progress at seat call end reply = record progress {
+  marks = progress.marks ++ mark_at at call end reply ∷ [];
+  seats = slice_set progress.seats at (seat_behind seat call end);
+  calls = slice_set progress.calls at None;
+}
 
 -- the progress stands for the configuration, whoever has the turn
 pub record Stands (progress : Progress) (conf : Config) : Type 0 where

@@ -2,6 +2,7 @@
 #![tactic(auto)]
 
 mod call_items;
+mod end;
 mod look_item;
 mod progress;
 mod stage_items;

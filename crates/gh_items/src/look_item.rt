@@ -18,7 +18,7 @@ use gh_core::{CallStage, CurrentCall, SeenLook};
 use gh_model::Word;
 
 /// The place of the last look, or the place before them.
-fn last_place(before: u32, seen: &[SeenLook]) -> u32
+pub(crate) fn last_place(before: u32, seen: &[SeenLook]) -> u32
     ensures { result ≡ place_after_looks before (map seen_of seen.now) }
 {
     let mut last = before;
