@@ -24,6 +24,13 @@ pub set_here : {X : Type 0} (xs : List X) (at : ℕ) (x : X) → at < length xs 
 set_here xs at x within =
     slice_get-get_or (slice_set xs at x) at x (omega (arith, length-set xs at x)) ∙ ap (λ (y : _). Some y) (get_or-set_same xs at x x within)
 
+pub set_other : {X : Type 0} (xs : List X) (at n : ℕ) (x : X) → n ≢ at → slice_get (slice_set xs at x) n ≡ slice_get xs n
+set_other [] at n x differs = refl
+set_other (y ∷ xs) zero zero x differs = absurd (differs refl)
+set_other (y ∷ xs) zero (suc n) x differs = refl
+set_other (y ∷ xs) (suc at) zero x differs = refl
+set_other (y ∷ xs) (suc at) (suc n) x differs = set_other xs at n x (λ same. differs (ap (λ (m : ℕ). suc m) same))
+
 set_twice : {X : Type 0} (xs : List X) (at : ℕ) (x y : X) → slice_set (slice_set xs at x) at y ≡ slice_set xs at y
 set_twice [] at x y = refl
 set_twice (z ∷ xs) zero x y = refl
