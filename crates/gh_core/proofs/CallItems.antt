@@ -72,7 +72,7 @@ unpins_lead conf at pins has =
     subst (λ (list : List Pin). Leads conf (map (unpin at) list) (λ new. IsUnpinning new at [])) (sym has.held) (unpins_done conf at pins has)
 
 -- a pin is at an index that there is
-pin_within : (conf : Config) (at i : ℕ) (pin : Pin) → IsSound conf
+pub pin_within : (conf : Config) (at i : ℕ) (pin : Pin) → IsSound conf
     → slice_get (conf.cpu at).pins i ≡ Some pin → pin.index < OBJECT_INDICES
 pin_within conf at i pin sound is =
     let pinned : IsPinned conf pin = (sound.references.holds at).pinned i pin is in

@@ -40,7 +40,7 @@ stands_counted p (first ∷ rows) (suc i) row is passes =
     omega (arith, all, stands_counted p rows i row is passes)
 
 -- and found
-stands_found : {R : Type 0} (p : R → Bool) (rows : List R) (i : ℕ) (row : R)
+pub stands_found : {R : Type 0} (p : R → Bool) (rows : List R) (i : ℕ) (row : R)
     → slice_get rows i ≡ Some row → p row ≡ true → count_by p rows ≤ 1 → find p rows ≡ Some row
 stands_found p [] i row is passes once = absurd (no_item i row is)
 stands_found p (first ∷ rows) zero row is passes once =

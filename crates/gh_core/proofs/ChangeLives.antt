@@ -19,7 +19,7 @@ use Rattle.gh_model.specs.declared.rows.ExtentRow.{ExtentRow}
 use Rattle.gh_model.specs.declared.rows.MappingRow.{MappingRow}
 use Rattle.gh_model.specs.declared.rows.ObjectRow.{ObjectRow}
 use Rattle.gh_model.specs.declared.state.State.{State}
-use Rattle.gh_invariant.specs.Effects.{attachments, gains, home_named, home_of, losses, object_named, object_of, parent_named, parent_of, slot_names}
+use Rattle.gh_invariant.specs.Effects.{attachments, gains, home_named, home_of, losses, object_named, object_of, parent_named, parent_of, sets, slot_names}
 use Rattle.gh_invariant.specs.Lives.{cpu_fits, is_housed, is_part_of, is_root, lives, lives_as, mapping_stands, slot_fits, span_fits}
 use Rattle.gh_invariant.specs.Premises.{MayChange}
 use Rattle.gh_invariant.specs.Valid.{HasOneAtMost, IsValidTo}
@@ -236,3 +236,50 @@ module _ (last : ℕ) (s : State) (valid : IsValidTo last s) where
   gains_live (change.FillSlot row) calls may = absurd (let never : ⊥ = cc in never)
   gains_live (change.AddCpu row) calls may = absurd (let never : ⊥ = cc in never)
   gains_live (change.AddLink row) calls may = absurd (let never : ⊥ = cc in never)
+
+  -- the capability space of the slot that a change sets lives
+  filled_home : (cspace slot : ℕ) (found : Option CapabilityRow)
+      → find (fills cspace slot) s.caps ≡ found → is_some found ≡ true → lives s.objects cspace ≡ true
+  filled_home cspace slot None is some = absurd (let never : ⊥ = cc in never)
+  filled_home cspace slot (Some row) is some =
+      let both = and_parts (row.cspace.0 == cspace) (row.slot == slot) (found_passes (fills cspace slot) s.caps row is) in
+      subst (λ (n : ℕ). lives s.objects n ≡ true) (eqb-true row.cspace.0 cspace both.0)
+      (lives_any s.objects row.cspace.0 kind.Cspace (parts_of cspace slot row is).home)
+
+  home_at : (cspace slot : ℕ) (place : ℕ × ℕ) → Some (cspace, slot) ≡ Some place
+      → lives s.objects cspace ≡ true → lives s.objects place.0 ≡ true
+  home_at cspace slot place is alive =
+      let same : (cspace, slot) ≡ place = cc in
+      subst (λ (one : ℕ × ℕ). lives s.objects one.0 ≡ true) same alive
+
+  pub sets_lives : (one : Change) → MayChange s one → (place : ℕ × ℕ) → sets one ≡ Some place
+      → lives s.objects place.0 ≡ true
+  sets_lives (change.PutCapability row) may place is =
+      home_at row.cspace.0 row.slot place is (lives_any s.objects row.cspace.0 kind.Cspace may.home)
+  sets_lives (change.DropCapability cspace slot) may place is =
+      home_at cspace.0 slot place is (filled_home cspace.0 slot (find (fills cspace.0 slot) s.caps) refl may)
+  sets_lives (change.RevokeCapability cspace slot) may place is =
+      home_at cspace.0 slot place is (filled_home cspace.0 slot (find (fills cspace.0 slot) s.caps) refl may)
+  sets_lives (change.AddObject row) may place is = absurd (let never : ⊥ = cc in never)
+  sets_lives (change.SetStage object stage) may place is = absurd (let never : ⊥ = cc in never)
+  sets_lives (change.Retire object seen) may place is = absurd (let never : ⊥ = cc in never)
+  sets_lives (change.Reclaim object) may place is = absurd (let never : ⊥ = cc in never)
+  sets_lives (change.GiveQuota partition quota) may place is = absurd (let never : ⊥ = cc in never)
+  sets_lives (change.AddExtent row) may place is = absurd (let never : ⊥ = cc in never)
+  sets_lives (change.MovePages first count holder) may place is = absurd (let never : ⊥ = cc in never)
+  sets_lives (change.PutMapping row) may place is = absurd (let never : ⊥ = cc in never)
+  sets_lives (change.DropMapping row) may place is = absurd (let never : ⊥ = cc in never)
+  sets_lives (change.SetBell row) may place is = absurd (let never : ⊥ = cc in never)
+  sets_lives (change.ConfigureQueue queue depth size cost) may place is = absurd (let never : ⊥ = cc in never)
+  sets_lives (change.PutMessage queue message) may place is = absurd (let never : ⊥ = cc in never)
+  sets_lives (change.DropMessage queue) may place is = absurd (let never : ⊥ = cc in never)
+  sets_lives (change.EmptyQueue queue) may place is = absurd (let never : ⊥ = cc in never)
+  sets_lives (change.Exit cpu) may place is = absurd (let never : ⊥ = cc in never)
+  sets_lives change.Ring may place is = absurd (let never : ⊥ = cc in never)
+  sets_lives (change.SetPages count) may place is = absurd (let never : ⊥ = cc in never)
+  sets_lives (change.AddPartition quota) may place is = absurd (let never : ⊥ = cc in never)
+  sets_lives (change.AddRoot row) may place is = absurd (let never : ⊥ = cc in never)
+  sets_lives (change.SetRoom queue depth size) may place is = absurd (let never : ⊥ = cc in never)
+  sets_lives (change.FillSlot row) may place is = absurd (let never : ⊥ = cc in never)
+  sets_lives (change.AddCpu row) may place is = absurd (let never : ⊥ = cc in never)
+  sets_lives (change.AddLink row) may place is = absurd (let never : ⊥ = cc in never)

@@ -104,7 +104,7 @@ module _ (s : State) (index : ℕ → ℕ) (at : ℕ) (found : ObjectRow)
       eqb-true (index found.serial.0) at (found_passes (is_at index at) s.objects found there)
 
 -- nothing isn't something
-nothing : (found : Option ObjectRow) → found ≡ None → is_some found ≡ true → ⊥
+pub nothing : (found : Option ObjectRow) → found ≡ None → is_some found ≡ true → ⊥
 nothing None none some = absurd (let never : ⊥ = cc in never)
 nothing (Some row) none some = absurd (let never : ⊥ = cc in never)
 

@@ -10,6 +10,7 @@ use Rattle.gh_model.specs.Act.{counted, grants_of}
 use Rattle.gh_model.specs.Changes.{changed, changed_all}
 use Rattle.gh_model.specs.Decide.{has_moved, verdict}
 use Rattle.gh_model.specs.History.{Event, after_entry, after_event, after_verdict, is_retired, is_unretired, may_act, may_part, numbered, took}
+use Rattle.gh_model.specs.Legal.{is_revoke}
 use Rattle.gh_model.specs.References.{is_doomed, references}
 use Rattle.gh_model.specs.Rows.{fills, is_object, object_row}
 use Rattle.gh_model.specs.declared.change.Change.{Change}
@@ -20,12 +21,14 @@ use Rattle.gh_model.specs.declared.entry.Entry.{Entry}
 use Rattle.gh_model.specs.declared.entry.Entry.TheVariants.{Acted, Part, Retired, Reclaimed}
 use Rattle.gh_model.specs.declared.rows.ObjectRow.{ObjectRow}
 use Rattle.gh_model.specs.declared.state.State.{State}
-use Rattle.gh_invariant.specs.Effects.{gained, gains, lost, losses, times}
+use Rattle.gh_invariant.specs.Effects.{gained, gains, lost, losses, sets, times}
 use Rattle.gh_invariant.specs.Events.{EntryFits, EventFits, changes_of, entry_changes, judged_by, made_by}
+use Rattle.gh_invariant.specs.Grants.{GivesToReferred, is_referred}
 use Rattle.gh_invariant.specs.Lives.{lives}
 use Rattle.gh_invariant.specs.Premises.{MayChangeAll}
 use Rattle.gh_invariant.specs.Valid.{IsValid, IsValidTo}
 use Rattle.gh_invariant.proofs.ChangesInOrder.{references_all}
+use Rattle.gh_invariant.proofs.DecisionGives.{decision_gives}
 use Rattle.gh_invariant.proofs.EntriesKept.{begins}
 use Rattle.gh_invariant.proofs.EventWords.{entry_of_calls, event_may}
 use Rattle.gh_invariant.proofs.SetsOne.{is_of_calls, keeps_objects}
@@ -33,9 +36,10 @@ use Rattle.gh_invariant.proofs.ValidKept.{valid_kept}
 use Rattle.gh_model.proofs.RoomLemmas.{change_counts}
 use Rattle.gh_core.specs.Committing.{added, adds, is_made}
 use Rattle.gh_core.specs.Config.{is_acted}
+use Rattle.gh_core.specs.Entries.{or_else, slot_set}
 use Rattle.gh_core.specs.HolderEvents.{is_create}
-use Rattle.gh_core.proofs.CallMakes.{Makes, MakesNew, decision_makes}
-use Rattle.gh_core.proofs.ChangeLives.{AllLive, both_live, gains_live, lives_here, losses_live}
+use Rattle.gh_core.proofs.CallMakes.{Makes, MakesNew, decision_makes, keeps_all}
+use Rattle.gh_core.proofs.ChangeLives.{AllLive, both_live, gains_live, lives_here, losses_live, sets_lives}
 use Rattle.gh_core.proofs.EntryKeeps.{lives_same, none_of}
 use Rattle.gh_core.proofs.EventObjects.{Goes, IsReclaimed, IsRetired, change_life, changes_life, entry_goes, life}
 
@@ -165,6 +169,23 @@ none_added_all (one ∷ others) keep =
     let keeps = and_parts (keeps_objects one) (list_all keeps_objects others) keep in
     rw (none_added one keeps.0) (none_added_all others keeps.1)
 
+-- the slot that they set is one of a capability space that lives
+or_none : (first others : Option (ℕ × ℕ)) (place : ℕ × ℕ) → or_else first others ≡ Some place
+    → (first ≡ Some place) ⊎ (others ≡ Some place)
+or_none None others place is = inr is
+or_none (Some first) others place is = inl is
+
+slot_home : (last : ℕ) (s : State) (changes : List Change) → s.entries + 1 ≤ last
+    → IsValidTo last s → MayChangeAll s changes → IsTrue (list_all keeps_objects changes)
+    → (place : ℕ × ℕ) → slot_set changes ≡ Some place → lives s.objects place.0 ≡ true
+slot_home last s [] room valid may keep place is = absurd (let never : ⊥ = cc in never)
+slot_home last s (one ∷ others) room valid may keep place is =
+    let keeps = and_parts (keeps_objects one) (list_all keeps_objects others) keep in
+    elim (or_none (sets one) (slot_set others) place is) as (λ _. lives s.objects place.0 ≡ true) [
+      | inl here ↦ sets_lives last s valid one may.first place here
+      | inr later ↦ sym (stay_alive s one keeps.0 place.0) ∙ slot_home last (changed s one) others (room_stays last s one room) (valid_kept last s one room valid may.first) may.others keeps.1 place later
+    ]
+
 -- what an event makes of the objects
 
 -- it makes none: what it gives a reference, and what it takes one from, lives, and what lives behind
@@ -175,6 +196,9 @@ pub record MakesNone (s : State) (event : Event) : Type 0 where
   pub lost : AllLive s.objects (lost s (changes_of s event))
   pub lived : (serial : ℕ) → lives (after_event s event).objects serial ≡ true
       → lives s.objects serial ≡ true
+  -- the capability space of a slot that it sets lives
+  pub home : (place : ℕ × ℕ) → slot_set (changes_of s event) ≡ Some place
+      → lives s.objects place.0 ≡ true
 
 -- or it is a create's act, and makes one
 pub record MakesOne (s : State) (event : Event) : Type 0 where
@@ -189,15 +213,12 @@ Objects s event = MakesNone s event ⊎ MakesOne s event
 abbrev LivedBefore : State → State → Type 0
 LivedBefore s new = (serial : ℕ) → lives new.objects serial ≡ true → lives s.objects serial ≡ true
 
-record KeepsAll (s new : State) (changes : List Change) : Type 0 where
-  keeps : IsTrue (list_all keeps_objects changes)
-  lived : LivedBefore s new
-
 record ReclaimsOne (s new : State) (changes : List Change) : Type 0 where
   none : added changes ≡ None
   gained : AllLive s.objects (gained s changes)
   lost : AllLive s.objects (lost s changes)
   lived : LivedBefore s new
+  home : (place : ℕ × ℕ) → slot_set changes ≡ Some place → lives s.objects place.0 ≡ true
 
 behind_lived : (s : State) (allowed : Bool) (decision : Decision)
     → IsTrue (list_all keeps_objects (made_by decision))
@@ -219,20 +240,22 @@ module _ (s : State) (event : Event) (valid : IsValid s) where
       → LivedBefore s new → ReclaimsOne s new changes
   by_keeps new changes may calls keep lived =
       let both : KeepLives s changes = keep_lives (s.entries + 1) s changes (omega arith) (begins s valid) may keep calls in
-      record { none = none_added_all changes keep; gained = both.gained; lost = both.lost; lived = lived }
+      record { none = none_added_all changes keep; gained = both.gained; lost = both.lost; lived = lived; home = λ place is. slot_home (s.entries + 1) s changes (omega arith) (begins s valid) may keep place is }
 
   -- a retirement or a reclaim: at most one change, which gives no reference
   by_one : (new : State) (one : Change) (allowed : Bool)
-      → MayChangeAll s (if allowed then one ∷ [] else []) → adds one ≡ None → gains s one ≡ []
+      → MayChangeAll s (if allowed then one ∷ [] else []) → adds one ≡ None → gains s one ≡ [] → sets one ≡ None
       → LivedBefore s (if allowed then new else numbered s)
       → ReclaimsOne s (if allowed then new else numbered s) (if allowed then one ∷ [] else [])
-  by_one new one true may none gives lived = record {
+  by_one new one true may none gives unset lived = record {
     none = rw none refl;
     gained = rw gives refl;
     lost = both_live s.objects (losses s one) [] (losses_live (s.entries + 1) s (begins s valid) one may.first) refl;
     lived = lived;
+    home = λ place is. let nothing : slot_set (one ∷ []) ≡ None = rw unset refl in absurd (let never : ⊥ = cc in never);
   }
-  by_one new one false may none gives lived = record { none = refl; gained = refl; lost = refl; lived = lived }
+  by_one new one false may none gives unset lived =
+      record { none = refl; gained = refl; lost = refl; lived = lived; home = λ place is. absurd (let never : ⊥ = cc in never) }
 
   retired_lived : (kind : Entry) (retired serial : ℕ)
       → (life (after_entry s event kind).objects serial ≡ life s.objects serial) ⊎ IsRetired s (after_entry s event kind) retired serial
@@ -262,10 +285,11 @@ module _ (s : State) (event : Event) (valid : IsValid s) where
       → ReclaimsOne s (if allowed then after_verdict s (verdict s decision) else numbered s) (if allowed then made_by decision else [])
       ⊎ ((is_create event.call ≡ true) × MakesNew s (grants_of event.call event.words) (if allowed then made_by decision else []))
   acted_makes cpu number allowed decision may calls (inl keep) =
-      inl (by_keeps _ (if allowed then made_by decision else []) may calls (if_keeps allowed (made_by decision) keep) (behind_lived s allowed decision keep))
+      let all : IsTrue (list_all keeps_objects (made_by decision)) = keeps_all (is_revoke event.call) decision keep in
+      inl (by_keeps _ (if allowed then made_by decision else []) may calls (if_keeps allowed (made_by decision) all) (behind_lived s allowed decision all))
   acted_makes cpu number true decision may calls (inr makes) = inr makes
   acted_makes cpu number false decision may calls (inr makes) =
-      inl (record { none = refl; gained = refl; lost = refl; lived = λ serial alive. alive })
+      inl (record { none = refl; gained = refl; lost = refl; lived = λ serial alive. alive; home = λ place is. absurd (let never : ⊥ = cc in never) })
 
   act_kind : {A B C : Type 0} → A ⊎ B → C → A ⊎ (C × B)
   act_kind (inl a) c = inl a
@@ -287,16 +311,46 @@ module _ (s : State) (event : Event) (valid : IsValid s) where
           by_goes (inl same) = inl same
           by_goes (inr never) = absurd never
   kind_makes (Retired retired seen) may =
-      inl (by_one (counted (changed s (change.Retire retired seen))) (change.Retire retired seen) (is_doomed s retired.0 && is_unretired (object_row s retired.0)) may refl refl
+      inl (by_one (counted (changed s (change.Retire retired seen))) (change.Retire retired seen) (is_doomed s retired.0 && is_unretired (object_row s retired.0)) may refl refl refl
       (λ serial alive. retired_lived (Retired retired seen) retired.0 serial (entry_goes s event (Retired retired seen) serial) alive))
   kind_makes (Reclaimed reclaimed seen) may =
-      inl (by_one (counted (changed s (change.Reclaim reclaimed))) (change.Reclaim reclaimed) (is_doomed s reclaimed.0 && is_retired (object_row s reclaimed.0)) may refl refl
+      inl (by_one (counted (changed s (change.Reclaim reclaimed))) (change.Reclaim reclaimed) (is_doomed s reclaimed.0 && is_retired (object_row s reclaimed.0)) may refl refl refl
       (λ serial alive. reclaimed_lived (Reclaimed reclaimed seen) reclaimed.0 serial (entry_goes s event (Reclaimed reclaimed seen) serial) alive))
 
   objects_by : KindMakes event.entry → Objects s event
-  objects_by (inl none) = inl (record { none = none.none; gained = none.gained; lost = none.lost; lived = none.lived })
+  objects_by (inl none) = inl (record { none = none.none; gained = none.gained; lost = none.lost; lived = none.lived; home = none.home })
   objects_by (inr one) = inr (record { acts = one.0; creates = one.1.0; new = one.1.1 })
 
   -- an event makes no object or one
   pub event_objects : EventFits s event → Objects s event
   event_objects fits = objects_by (kind_makes event.entry (event_may s event valid fits))
+
+-- what an event gives a reference has one, or is new
+
+none_given : (s : State) (allowed : Bool) (one : Change) → gains s one ≡ []
+    → IsTrue (list_all (is_referred s) (gained s (if allowed then one ∷ [] else [])))
+none_given s true one none = rw none refl
+none_given s false one none = refl
+
+act_given : (s : State) (allowed : Bool) (decision : Decision) → GivesToReferred s decision
+    → IsTrue (list_all (is_referred s) (gained s (if allowed then made_by decision else [])))
+act_given s false decision gives = refl
+act_given s true (Refuse errno) gives = refl
+act_given s true Unfinished gives = refl
+act_given s true (Make changes reply) gives = gives
+
+entry_given : (s : State) (event : Event) (entry : Entry) → EntryFits s event entry
+    → IsTrue (list_all (is_referred s) (gained s (entry_changes s event entry)))
+entry_given s event (Acted cpu number) fits =
+    act_given s (may_act s cpu.0 event.call event.words) (judged_by s cpu.0 event)
+    (decision_gives s (has_moved s cpu.0 event.call event.words) cpu.0 event.call event.bytes (grants_of event.call event.words) fits)
+entry_given s event (Part cpu number space slot) fits =
+    none_given s (may_part (find (fills space.0 slot) s.caps)) (change.RevokeCapability space slot) refl
+entry_given s event (Retired serial seen) fits =
+    none_given s (is_doomed s serial.0 && is_unretired (object_row s serial.0)) (change.Retire serial seen) refl
+entry_given s event (Reclaimed serial seen) fits =
+    none_given s (is_doomed s serial.0 && is_retired (object_row s serial.0)) (change.Reclaim serial) refl
+
+pub event_given : (s : State) (event : Event) → EventFits s event
+    → IsTrue (list_all (is_referred s) (gained s (changes_of s event)))
+event_given s event fits = entry_given s event event.entry fits

@@ -72,14 +72,14 @@ unretired_by true is = absurd (let never : ⊥ = cc in never)
 unretired_by false is = refl
 
 -- the row of an object behind a change of one row
-data RowBehind (s new : State) (serial : ℕ) (change : Option ObjectRow → Option ObjectRow) (x : ℕ) : Type 0 where
+pub data RowBehind (s new : State) (serial : ℕ) (change : Option ObjectRow → Option ObjectRow) (x : ℕ) : Type 0 where
   Kept : object_row new x ≡ object_row s x → RowBehind s new serial change x
   Changed : x ≡ serial → object_row new x ≡ change (object_row s x) → RowBehind s new serial change x
 
 apart_rows : (a b x : ℕ) → (x == b) ≡ false → (a == b) ≡ true → (a == x) ≡ false
 apart_rows a b x apart here = grind (arith, nat_tests)
 
-retire_row : (s : State) (serial : Serial) (seen : List ℕ) (x : ℕ)
+pub retire_row : (s : State) (serial : Serial) (seen : List ℕ) (x : ℕ)
     → RowBehind s (counted (retire_object serial seen s)) serial.0 (option_map (with_counters seen)) x
 retire_row s serial seen x =
     elim (eqb_tells x serial.0) as (λ _. RowBehind s (counted (retire_object serial seen s)) serial.0 (option_map (with_counters seen)) x) [
@@ -87,7 +87,7 @@ retire_row s serial seen x =
       | inr differs ↦ Kept (find_past_change (is_object x) (is_object serial.0) (with_counters seen) s.objects (λ row here. apart_rows row.serial.0 serial.0 x differs.0 here) (λ row here. apart_rows row.serial.0 serial.0 x differs.0 here))
     ]
 
-reclaim_row : (s : State) (serial : Serial) (x : ℕ)
+pub reclaim_row : (s : State) (serial : Serial) (x : ℕ)
     → RowBehind s (counted (reclaim_object serial s)) serial.0 (λ object. None) x
 reclaim_row s serial x =
     elim (eqb_tells x serial.0) as (λ _. RowBehind s (counted (reclaim_object serial s)) serial.0 (λ object. None) x) [
@@ -101,7 +101,7 @@ counters_now : (object : Option ObjectRow) (seen kept : List ℕ)
 counters_now None seen kept is = absurd (let never : ⊥ = cc in never)
 counters_now (Some row) seen kept is = same_some seen kept is
 
-killed_no_more : (object : Option ObjectRow) (seen : List ℕ) (dead : ℕ → Bool) (index : ℕ → ℕ)
+pub killed_no_more : (object : Option ObjectRow) (seen : List ℕ) (dead : ℕ → Bool) (index : ℕ → ℕ)
     → option_map_or (is_killed dead index) (option_map (with_counters seen) object) false ≡ true → ⊥
 killed_no_more None seen dead index is = cc
 killed_no_more (Some row) seen dead index is = cc

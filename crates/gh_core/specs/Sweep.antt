@@ -1,12 +1,13 @@
 -- The sweep: what the holder does about the objects without references. Each is killed where its
 -- word counts nothing, then retired, and reclaimed once every CPU has left that was reading then.
-use Rattle.std.specs.Prelude.{◌==◌, ◌&&◌, ◌||◌, ◌+◌, ◌*◌, not, ℕ, zero, suc, Bool, true, false, List, [], ◌∷◌, ◌++◌, length, Option, Some, None, filter, is_some, map, nat_lt, if◌then◌else◌}
+use Rattle.std.specs.Prelude.{◌≡◌, slice_get, ◌==◌, ◌&&◌, ◌||◌, ◌+◌, ◌*◌, not, ℕ, zero, suc, Bool, true, false, List, [], ◌∷◌, ◌++◌, length, Option, Some, None, filter, is_some, map, nat_lt, if◌then◌else◌}
 use Rattle.std.specs.List.{range_with_len}
 use Rattle.std.specs.Option.{unwrap_or}
 use Rattle.gh_base.specs.Counters.{is_odd}
 use Rattle.gh_base.specs.declared.ids.Serial.{Serial}
 use Rattle.gh_base.specs.declared.limits.TheConstants.{CPUS}
 use Rattle.gh_model.specs.Graced.{retirement}
+use Rattle.gh_model.specs.History as history
 use Rattle.gh_model.specs.History.{is_unretired}
 use Rattle.gh_model.specs.References.{is_doomed}
 use Rattle.gh_model.specs.Rows.{object_row}
@@ -14,7 +15,7 @@ use Rattle.gh_model.specs.declared.entry.Entry.TheVariants.{Retired, Reclaimed}
 use Rattle.gh_model.specs.declared.rows.ObjectRow.{ObjectRow}
 use Rattle.gh_model.specs.declared.state.State.{State}
 use Rattle.gh_core.specs.Committing.{committing, cpu_no, index_no}
-use Rattle.gh_core.specs.Config.{Config, Holder, entries, present}
+use Rattle.gh_core.specs.Config.{AtAct, Config, Current, HasTurn, Holder, IsIn, OwesNothing, entries, has_acted, has_part, present, some_killed}
 use Rattle.gh_core.specs.Events.{after}
 use Rattle.gh_core.specs.Grace.{scan_of}
 use Rattle.gh_core.specs.Trace.{after_all, and_then, for_each}
@@ -136,3 +137,21 @@ rounds at (suc more) conf =
 -- each object gives two entries at most, its retirement and its reclaim: so these rounds suffice
 unfoldable pub sweep : ℕ → Config → List Event
 sweep at conf = rounds at (2 * length (present conf).objects + 1) conf
+
+-- each entry of a history that keeps counters keeps those of all nine CPUs
+abbrev pub KeepsNine : List history.Event → Type 0
+KeepsNine events = (n : ℕ) (event : history.Event) (seen : List ℕ) → slice_get events n ≡ Some event
+    → history.counters event.entry ≡ Some seen → length seen ≡ CPUS
+
+-- the CPU has the turn, its call is at its act, and nothing of the act was committed: the holder owes
+-- nothing and revived no index, and no object is killed and not retired
+pub record HasNotBegun (conf : Config) (at : ℕ) : Type 0 where
+  pub holder : Holder
+  pub call : Current
+  pub has_turn : HasTurn conf at holder
+  pub in_act : IsIn (conf.cpu at) call AtAct
+  pub owes_nothing : OwesNothing holder
+  pub unrevived : holder.revived ≡ []
+  pub not_acted : has_acted holder ≡ false
+  pub no_part : has_part holder ≡ false
+  pub none_killed : some_killed conf ≡ false

@@ -1,13 +1,25 @@
 //! The items of a call: each is possible where its turn comes. The functions do nothing; their
 //! clauses are laws.
 
-ghost use Rattle.std.specs.Prelude.{◌≡◌, ◌<◌, ℕ, None};
+ghost use Rattle.std.specs.Prelude.{◌≡◌, ◌<◌, ℕ, List, Some, None, true};
 ghost use Rattle.gh_base.specs.declared.limits.TheConstants.{CPUS};
-ghost use Rattle.gh_core.specs.Config.{Config};
+ghost use Rattle.gh_core.specs.Committing.{HasFewReferences};
+ghost use Rattle.gh_core.specs.Config.{Config, Holder, present};
 ghost use Rattle.gh_core.specs.Items.{item};
 ghost use Rattle.gh_core.specs.Sound.{IsSound};
-ghost use Rattle.gh_core.specs.Trace.{AreDone};
-ghost use Rattle.gh_core.specs.TurnEvents.{ready};
+ghost use Rattle.gh_core.specs.Sweep.{HasNotBegun, KeepsNine, sweep};
+ghost use Rattle.gh_core.specs.Trace.{AreDone, after_all};
+ghost use Rattle.gh_core.specs.TurnEvents.{has_causes, ready};
+ghost use Rattle.gh_core.specs.declared.event.Event.{Event};
+
+/// Events that are each possible where they come keep a sound configuration, and nine counters on
+/// each entry that keeps counters.
+pub fn traces_keep_sound()
+    ensures sound { (conf : Config) (events : List Event) → IsSound conf → AreDone conf events
+        → IsSound (after_all conf events) }
+    ensures nine { (conf : Config) (events : List Event) → KeepsNine conf.history
+        → AreDone conf events → KeepsNine (after_all conf events).history }
+{}
 
 /// In a sound configuration the next item of a CPU is possible where its call isn't at its act: it
 /// begins a section, looks a capability up, pins what was granted, undoes a pin that came too late,
@@ -15,4 +27,18 @@ ghost use Rattle.gh_core.specs.TurnEvents.{ready};
 pub fn call_items_are_possible()
     ensures { (conf : Config) (at : ℕ) → IsSound conf → at < CPUS → ready (conf.cpu at) ≡ None
         → AreDone conf (item conf at) }
+{}
+
+/// In a sound configuration the holder of the turn can sweep before its act, and the act may begin
+/// behind the sweep. Each object that is retired or without references then has what holds it: the
+/// count that a failed kill saw, or the first CPU that still has its odd counter of the retirement.
+pub fn sweeps_are_possible()
+    ensures possible { (conf : Config) (at : ℕ) → IsSound conf → HasFewReferences conf.boot
+        → at < CPUS → HasNotBegun conf at → AreDone conf (sweep at conf) }
+    ensures begins { (conf : Config) (at : ℕ) → IsSound conf → HasFewReferences conf.boot
+        → at < CPUS → HasNotBegun conf at → HasNotBegun (after_all conf (sweep at conf)) at }
+    ensures held { (conf : Config) (at : ℕ) (holder : Holder) → IsSound conf
+        → HasFewReferences conf.boot → at < CPUS → HasNotBegun conf at → KeepsNine conf.history
+        → (after_all conf (sweep at conf)).turn ≡ Some holder
+        → has_causes holder (present (after_all conf (sweep at conf))) ≡ true }
 {}
