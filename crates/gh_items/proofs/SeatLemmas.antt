@@ -1,6 +1,7 @@
 -- A CPU moves, and the others stand as they did: the seats of a run's progress.
 use Rattle.std.proofs.Common.{◌≡◌, ◌≢◌, ◌==◌, ◌+◌, ◌*◌, ◌<◌, ◌∙◌, ◌⊎◌, inl, inr, ℕ, zero, suc, Bool, true, false, List, [], ◌∷◌, length, refl, sym, ap, subst, arith, Option, Some, None, slice_get, slice_set, option_map}
 use Rattle.std.specs.Prelude.{count_by}
+use Rattle.std.specs.Prelude.{OnOk, Result, Ok, Err}
 use Rattle.std.proofs.lemmas.Bool.{eqb-true, ne_eqb}
 use Rattle.std.proofs.lemmas.List.{get_or-set_same, length-set}
 use Rattle.std.proofs.lemmas.Option.{slice_get-get_or}
@@ -125,3 +126,8 @@ module _ (progress : Progress) (conf : Config) (at : ℕ) (call : CurrentCall) (
         place = was.place;
         ended = was.ended;
       })))
+
+-- what a value gives it gives also by way of something else
+pub if_ok : {T E P Q : Type 0} (result : Result T E) → (P → Q) → OnOk result P → OnOk result Q
+if_ok (Ok value) follows is = follows is
+if_ok (Err error) follows is = is
