@@ -134,7 +134,7 @@ module _ (progress : Progress) (conf : Config) (at : ℕ) (call : CurrentCall) (
       → SeatStands n (cspace_of conf.boot n) behind.marks other one (cpus n)
   all_seats n other one is is_one =
       elim (set_cases progress.seats at n seat (seat_behind seat call end) other seated is)
-          as (λ _. SeatStands n (cspace_of conf.boot n) behind.marks other one (cpus n)) [
+      as (λ _. SeatStands n (cspace_of conf.boot n) behind.marks other one (cpus n)) [
         | inl same ↦
             let gone : Option CurrentCall = None in
             let none : Some gone ≡ Some one =

@@ -1,5 +1,6 @@
 pub mod EndLemmas
 pub mod EnterLemmas
+pub mod ItemLemmas
 pub mod LeaveLemmas
 pub mod LikeLemmas
 pub mod LookLemmas

@@ -163,7 +163,7 @@ module _ (progress : Progress) (conf : Config) (at : ℕ) (call : CurrentCall) (
       let list : map seen_of (call.seen ++ seen ∷ []) ≡ map seen_of call.seen ++ found conf at slot (current_of call) ∷ [] =
       map_push seen_of call.seen seen ∙ ap (λ (s : Seen). map seen_of call.seen ++ s ∷ []) is in
       let stage : stage_of (stage_by (look_reply seen.word need))
-          ≡ stage_after_look (outcome (needs_of call.given.call) (map word_of (map seen_of call.seen ++ found conf at slot (current_of call) ∷ []))) =
+      ≡ stage_after_look (outcome (needs_of call.given.call) (map word_of (map seen_of call.seen ++ found conf at slot (current_of call) ∷ []))) =
       sym (ap (λ (words : List Word). stage_after_look (outcome (needs_of call.given.call) words)) (map_push word_of (map seen_of call.seen) (found conf at slot (current_of call)))
       ∙ look_stage (needs_of call.given.call) (map word_of (map seen_of call.seen)) looked_at slot need asked
       ∙ ap (λ (w : Word). stage_of (stage_by (look_reply w need))) (sym (ap word_of is))) in

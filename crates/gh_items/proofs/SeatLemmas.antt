@@ -1,6 +1,7 @@
 -- A CPU moves, and the others stand as they did: the seats of a run's progress.
-use Rattle.std.proofs.Common.{◌≡◌, ◌≢◌, ◌==◌, ◌+◌, ◌*◌, ◌<◌, ◌∙◌, ◌⊎◌, inl, inr, ℕ, zero, suc, Bool, true, false, List, [], ◌∷◌, length, refl, sym, ap, subst, arith, Option, Some, None, slice_get, slice_set, option_map}
+use Rattle.std.proofs.Common.{◌≡◌, ◌≢◌, ◌==◌, ◌+◌, ◌-◌, ◌*◌, ◌<◌, ◌∙◌, ◌⊎◌, inl, inr, ℕ, zero, suc, Bool, true, false, List, [], ◌∷◌, length, refl, sym, ap, subst, arith, Option, Some, None, slice_get, slice_set, option_map}
 use Rattle.std.specs.Prelude.{count_by}
+use Rattle.std.specs.List.{last_or}
 use Rattle.std.specs.Prelude.{OnOk, Result, Ok, Err}
 use Rattle.std.proofs.lemmas.Bool.{eqb-true, ne_eqb}
 use Rattle.std.proofs.lemmas.List.{get_or-set_same, length-set}
@@ -69,7 +70,7 @@ module _ (progress : Progress) (conf : Config) (stands : Stands progress conf) (
   seat_after n seat one is is_one =
       let there : at < length progress.calls = omega (arith, stands.nine_calls) in
       elim (set_cases progress.calls at n _ call one (slice_get-get_or progress.calls at None there) is_one)
-          as (λ _. SeatStands n (cspace_of conf.boot n) progress.marks seat one (cpus n)) [
+      as (λ _. SeatStands n (cspace_of conf.boot n) progress.marks seat one (cpus n)) [
         | inl same ↦ subst (λ (c : Option CurrentCall). SeatStands n (cspace_of conf.boot n) progress.marks seat c (cpus n)) same.1
             (seat_here n seat same.0 is)
         | inr differs ↦ subst (SeatStands n (cspace_of conf.boot n) progress.marks seat one) (sym (others n (ne_eqb n at differs.0)))
@@ -131,3 +132,14 @@ module _ (progress : Progress) (conf : Config) (at : ℕ) (call : CurrentCall) (
 pub if_ok : {T E P Q : Type 0} (result : Result T E) → (P → Q) → OnOk result P → OnOk result Q
 if_ok (Ok value) follows is = follows is
 if_ok (Err error) follows is = is
+
+-- the last item
+last_at : {X : Type 0} (x : X) (xs : List X) → slice_get (x ∷ xs) (length xs) ≡ last_or None (x ∷ xs)
+last_at x [] = refl
+last_at x (y ∷ xs) = last_at y xs
+
+pub last_get : {X : Type 0} (xs : List X) → slice_get xs (length xs - 1) ≡ last_or None xs
+last_get [] = refl
+last_get (x ∷ xs) =
+    let counted : length (x ∷ xs) - 1 ≡ length xs = omega arith in
+    ap (slice_get (x ∷ xs)) counted ∙ last_at x xs

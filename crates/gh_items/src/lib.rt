@@ -6,6 +6,7 @@ mod end;
 mod leave_item;
 mod look_item;
 mod progress;
+mod section_item;
 mod stage_items;
 
 pub use progress::{Progress, Seat};

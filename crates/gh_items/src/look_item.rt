@@ -46,7 +46,14 @@ fn cap_word(places: &[ObjIndex], word: Word) -> CapWord
         None => CapWord::empty(word.set_at),
         Some(row) => {
             let object = index_of(places, row.serial);
-            CapWord::filled(row.valid, row.kind, row.master, object, row.rights, word.set_at)
+            CapWord::filled(
+                row.valid,
+                row.kind,
+                row.master,
+                object,
+                row.rights,
+                word.set_at,
+            )
         }
     }
 }
@@ -72,13 +79,7 @@ fn looked_up(call: CurrentCall, seen: SeenLook, need: Need) -> CurrentCall
 }
 
 /// The call in its section looks up the slot that it wants next.
-pub(crate) fn look(
-    progress: &mut Progress,
-    cpu: CpuNo,
-    call: CurrentCall,
-    slot: u64,
-    need: Need,
-)
+pub(crate) fn look(progress: &mut Progress, cpu: CpuNo, call: CurrentCall, slot: u64, need: Need)
     ghost conf: { Config }
     requires stands { Stands (with_call progress.old cpu.0 (Some call)) conf }
     requires sound { IsSound conf }

@@ -15,7 +15,7 @@ use Rattle.gh_model.specs.Reads.{retired_counters}
 pub returns : goal.returns
 returns g c =
     subst (λ (p : Progress). Stands p (pinned g.conf c.args.cpu.0 (seen_index (seen_of c.args.last))))
-    (sym (c.put_call.ensures ∙ ap (λ (call : CurrentCall). with_call c.args.progress.now c.args.cpu.0 (Some call)) 
+    (sym (c.put_call.ensures ∙ ap (λ (call : CurrentCall). with_call c.args.progress.now c.args.cpu.0 (Some call))
     (c.at_stage-call.ensures ∙ ap (λ (stage : CallStage). at_stage c.args.call stage) c.pin_stage.ensures)))
     (pin_stands c.args.progress.now g.conf c.args.cpu.0 c.args.call c.requires.0 c.requires.1.1.0 c.requires.1.0 c.requires.1.1.1.0
     c.requires.1.1.1.1.0 c.args.last c.requires.1.1.1.1.1 c.is_some-dead.result
