@@ -151,7 +151,7 @@ module _ (conf : Config) (at slot : ℕ) (sound : HasCalls conf) (valid : HasVal
       let empty : word ≡ record { row = None; set_at = 0 } = rw none refl in
       is_shown 0 ∙ ap (shown conf.index) (sym empty)
 
-  loaded_is : (loaded conf at slot).0 ≡ shown conf.index word
+  pub loaded_is : (loaded conf at slot).0 ≡ shown conf.index word
   loaded_is = loaded_by (is_slot slot) refl
 
   set_few : word.set_at < settings
@@ -159,7 +159,7 @@ module _ (conf : Config) (at slot : ℕ) (sound : HasCalls conf) (valid : HasVal
       let within : word.set_at ≤ (present conf).entries = set_within (present conf) valid.valid cspace slot in
       omega (arith, within, room)
 
-  setting_is : set_at_of (loaded conf at slot).0 ≡ word.set_at
+  pub setting_is : set_at_of (loaded conf at slot).0 ≡ word.set_at
   setting_is = ap set_at_of loaded_is ∙ by_row word.row
     where
       by_row : (row : Option CapabilityRow) → set_at_of (row_shown conf.index word.set_at row) ≡ word.set_at

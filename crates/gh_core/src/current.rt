@@ -200,7 +200,7 @@ pub(crate) fn outcome(needs: &[(u64, Need)], seen: &[SeenLook]) -> Came
 
 impl CurrentCall {
     /// What its looks came to.
-    pub(crate) fn came_to(&self) -> Came
+    pub fn came_to(&self) -> Came
         ensures { came_of result ≡ came_to (current_of self.now) }
     {
         outcome(needs(&self.given.call).as_slice(), self.seen.as_slice())

@@ -1,0 +1,8 @@
+-- Both items begin in the configuration at hand.
+use Rattle.gh_items.proofs.section_item.read.Given as goal
+
+abbrev pub ghost-look : goal.ghost-look
+ghost-look g a = g.conf
+
+abbrev pub ghost-leave : goal.ghost-leave
+ghost-leave g a = g.conf

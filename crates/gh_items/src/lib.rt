@@ -1,0 +1,12 @@
+//! The items of calls, made on the slow machine as a schedule asks for them.
+#![tactic(auto)]
+
+mod call_items;
+mod end;
+mod leave_item;
+mod look_item;
+mod progress;
+mod section_item;
+mod stage_items;
+
+pub use progress::{Progress, Seat};
