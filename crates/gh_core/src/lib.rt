@@ -37,7 +37,6 @@ pub use calls::{
 };
 pub use config::Config;
 pub use course::{courses_are_runs, courses_are_sound, courses_end, interleavings_are_runs};
-pub use course::{courses_are_runs, courses_are_sound, courses_end};
 pub use current::{CallStage, Came, CurrentCall, GivenCall, SeenLook};
 pub use entries::{
     boot_file_has_references, commit_keeps_references, events_keep_state, set_cap_keeps_references,
