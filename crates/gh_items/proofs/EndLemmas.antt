@@ -30,19 +30,29 @@ use Rattle.gh_model.proofs.RunWhole.{set_cases}
 
 -- the marks of a CPU with one more of it, and of another
 
-own_marks : (at : ℕ) (marks : List Mark) (mark : Mark) → mark.cpu.0 ≡ at → filter (is_mark_of at) (marks ++ mark ∷ []) ≡ filter (is_mark_of at) marks ++ mark ∷ []
+pub own_marks : (at : ℕ) (marks : List Mark) (mark : Mark) → mark.cpu.0 ≡ at → filter (is_mark_of at) (marks ++ mark ∷ []) ≡ filter (is_mark_of at) marks ++ mark ∷ []
 own_marks at marks mark its =
     filter-append (is_mark_of at) marks (mark ∷ []) ∙ ap (λ (list : List Mark). filter (is_mark_of at) marks ++ list) (one (ap (λ (n : ℕ). n == at) its ∙ same_number at))
   where
     one : is_mark_of at mark ≡ true → filter (is_mark_of at) (mark ∷ []) ≡ mark ∷ []
     one is = rw is refl
 
-other_marks : (at : ℕ) (marks : List Mark) (mark : Mark) → (mark.cpu.0 == at) ≡ false → filter (is_mark_of at) (marks ++ mark ∷ []) ≡ filter (is_mark_of at) marks
+pub other_marks : (at : ℕ) (marks : List Mark) (mark : Mark) → (mark.cpu.0 == at) ≡ false → filter (is_mark_of at) (marks ++ mark ∷ []) ≡ filter (is_mark_of at) marks
 other_marks at marks mark differs =
     filter-append (is_mark_of at) marks (mark ∷ []) ∙ ap (λ (list : List Mark). filter (is_mark_of at) marks ++ list) (none differs) ∙ append-nil (filter (is_mark_of at) marks)
   where
     none : is_mark_of at mark ≡ false → filter (is_mark_of at) (mark ∷ []) ≡ []
     none is = rw is refl
+
+-- one call more, and no more tests
+
+pub length_snoc : (list : List Made) (one : Made) → length (list ++ one ∷ []) ≡ length list + 1
+length_snoc [] one = refl
+length_snoc (first ∷ list) one = omega (arith, length_snoc list one)
+
+pub or_none : (b : Bool) → b ≡ (b || false)
+or_none true = refl
+or_none false = refl
 
 module _ (progress : Progress) (conf : Config) (at : ℕ) (call : CurrentCall) (stands : Stands (with_call progress at (Some call)) conf)
     (within : at < CPUS) (seat : Seat) (seated : slice_get progress.seats at ≡ Some seat) (end : End) (reply : Reply)
@@ -75,10 +85,6 @@ module _ (progress : Progress) (conf : Config) (at : ℕ) (call : CurrentCall) (
       ap (λ (b : Bool). b || is_exit call.given.frame) was.ended
       ∙ ap (λ (b : Bool). list_any exits (conf.cpu at).made || b) (or_none (is_exit call.given.frame))
       ∙ sym (list_any-append exits (conf.cpu at).made (made ∷ []))
-    where
-      or_none : (b : Bool) → b ≡ (b || false)
-      or_none true = refl
-      or_none false = refl
 
   own_seat : SeatStands at (cspace_of conf.boot at) behind.marks (seat_behind seat call end) None (cpus at)
   own_seat =
@@ -99,10 +105,6 @@ module _ (progress : Progress) (conf : Config) (at : ℕ) (call : CurrentCall) (
         place = its_place;
         ended = its_end;
       })
-    where
-      length_snoc : (list : List Made) (one : Made) → length (list ++ one ∷ []) ≡ length list + 1
-      length_snoc [] one = refl
-      length_snoc (first ∷ list) one = omega (arith, length_snoc list one)
 
   seats_there : at < length progress.seats
   seats_there = omega (arith, stands.nine_seats)

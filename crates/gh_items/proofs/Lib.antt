@@ -1,5 +1,6 @@
 pub mod EndLemmas
 pub mod EnterLemmas
+pub mod FrameLemmas
 pub mod ItemLemmas
 pub mod LeaveLemmas
 pub mod LikeLemmas

@@ -6,11 +6,14 @@ use Rattle.std.specs.List.{list_any}
 use Rattle.std.specs.Option.{option_map_or, unwrap_or}
 use Rattle.gh_base.specs.declared.cap_word.Look.{Look}
 use Rattle.gh_base.specs.declared.errno.Errno.{Errno}
+use Rattle.gh_base.specs.Reply.{refusal}
+use Rattle.gh_base.specs.declared.frame.Frame.{Frame}
 use Rattle.gh_base.specs.declared.frame.Reply.{Reply}
 use Rattle.gh_base.specs.declared.ids.ObjIndex.{ObjIndex}
 use Rattle.gh_base.specs.declared.ids.Serial.{Serial}
 use Rattle.gh_base.specs.declared.limits.TheConstants.{CPUS, OBJECT_INDICES}
 use Rattle.gh_base.specs.declared.mark.End.{End}
+use Rattle.gh_base.specs.declared.mark.End.TheVariants as ends
 use Rattle.gh_base.specs.declared.mark.Mark.{Mark}
 use Rattle.gh_core.specs.CallEvents.{finished}
 use Rattle.gh_core.specs.Config.{Config, Cpu, present}
@@ -116,6 +119,27 @@ with_end progress at seat call end reply = record progress {
   marks = progress.marks ++ mark_at at call end reply ∷ [];
   seats = slice_set progress.seats at (seat_behind seat call end);
   calls = slice_set progress.calls at None;
+}
+
+-- a call whose frame is refused, the seat behind it, and the progress
+abbrev pub frame_mark : ℕ → ℕ → Errno → Mark
+frame_mark at number errno = record {
+  cpu = record { 0 = at };
+  number = number;
+  section = 0;
+  looks = [];
+  end = ends.Frame;
+  reply = refusal errno;
+}
+
+abbrev pub seat_refused : Seat → Frame → Seat
+seat_refused seat frame =
+    record seat { calls = seat.calls + 1; ended = seat.ended || is_exit frame }
+
+abbrev pub with_refused : Progress → ℕ → Seat → ℕ → Frame → Errno → Progress
+with_refused progress at seat number frame errno = record progress {
+  marks = progress.marks ++ frame_mark at number errno ∷ [];
+  seats = slice_set progress.seats at (seat_refused seat frame);
 }
 
 -- the progress stands for the configuration, whoever has the turn

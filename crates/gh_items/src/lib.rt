@@ -3,6 +3,7 @@
 
 mod call_items;
 mod end;
+mod frame_item;
 mod leave_item;
 mod look_item;
 mod progress;
