@@ -71,7 +71,7 @@ use Rattle.gh_core.proofs.EntryKeeps.{lives_same, some_of}
 use Rattle.gh_core.proofs.EntryMoves.{indices_of, lives_there, nothing}
 use Rattle.gh_core.proofs.EntryReferences.{MakesOne, event_moved}
 use Rattle.gh_core.proofs.EventObjects.{Goes, event_goes, life}
-use Rattle.gh_core.proofs.FewReferences.{event_gains_few}
+use Rattle.gh_core.proofs.FewGains.{event_gains_few}
 use Rattle.gh_core.proofs.Finding.{found_passes, put_here, put_other, same_number}
 use Rattle.gh_core.proofs.KilledNone.{NoneKilled, killed_in, life_killed, none_some}
 use Rattle.gh_core.proofs.LengthBound.{history_is_short}

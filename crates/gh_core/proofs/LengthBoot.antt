@@ -1,10 +1,9 @@
 -- A valid state has at most as many capabilities as there are slots, and in the state of a boot file
 -- no object is retired.
-use Rattle.std.proofs.Common.{◌≡◌, ◌==◌, ◌+◌, ◌*◌, ◌<◌, ◌≤◌, ◌∙◌, inl, inr, ℕ, zero, suc, Bool, true, false, List, [], ◌∷◌, ◌++◌, length, refl, subst, sym, ap, arith, IsTrue, Option, Some, None, find, fold}
+use Rattle.std.proofs.Common.{◌≡◌, ◌==◌, ◌*◌, ◌≤◌, ◌∙◌, ℕ, Bool, true, false, List, [], ◌∷◌, ◌++◌, length, refl, subst, sym, ap, arith, IsTrue, Option, Some, None, find, fold}
 use Rattle.std.specs.Prelude.{◌&&◌, count_by, is_some, nat_le}
 use Rattle.std.specs.List.{list_all, range_with_len, sum_by}
 use Rattle.std.proofs.lemmas.Bool.{and_from, and_parts, eqb-true, leb-true}
-use Rattle.std.proofs.lemmas.Bool.Decides.{eqb_tells, nat_tests}
 use Rattle.std.proofs.lemmas.List.FromFn.{length-range_with_len}
 use Rattle.std.proofs.lemmas.List.Sums.{sum_by-cons}
 use Rattle.gh_base.specs.Kind.{kind_number}
@@ -24,67 +23,10 @@ use Rattle.gh_invariant.specs.Valid.{IsValid}
 use Rattle.gh_invariant.proofs.Counting.{count_cons, count_most, count_push, found_one}
 use Rattle.gh_invariant.proofs.SlotsFit.{SlotParts, slot_parts}
 use Rattle.gh_core.specs.Length.{is_leaving}
+use Rattle.gh_core.proofs.Boxes.{in_boxes, in_range, ones, sum_most}
 use Rattle.gh_core.proofs.Finding.{finds, found_passes, same_number}
 
--- rows in boxes
-
-module _ {C R : Type 0} (holds : C → R → Bool) where
-  -- one more row in the boxes
-  one_more : (boxes : List C) (row : R) (rows : List R)
-      → sum_by (λ (box : C). count_by (holds box) (row ∷ rows)) boxes
-      ≡ count_by (λ (box : C). holds box row) boxes + sum_by (λ (box : C). count_by (holds box) rows) boxes
-  one_more [] row rows = refl
-  one_more (box ∷ boxes) row rows =
-      omega (
-        arith,
-        sum_by-cons (λ (one : C). count_by (holds one) (row ∷ rows)) box boxes,
-        sum_by-cons (λ (one : C). count_by (holds one) rows) box boxes,
-        count_cons (λ (one : C). holds one row) box boxes,
-        count_cons (holds box) row rows,
-        one_more boxes row rows,
-      )
-
-  -- where each row of a kind is in a box, the rows are at most what the boxes may hold
-  in_boxes : (boxes : List C) (keep fit : R → Bool) (most : C → ℕ) (rows : List R)
-      → ((row : R) → IsTrue (fit row) → keep row ≡ true → 1 ≤ count_by (λ (box : C). holds box row) boxes)
-      → IsTrue (list_all fit rows)
-      → count_by keep rows ≤ sum_by (λ (box : C). count_by (holds box) rows) boxes
-  in_boxes boxes keep fit most [] each fits = let none : count_by keep [] ≡ 0 = refl in omega arith
-  in_boxes boxes keep fit most (row ∷ rows) each fits =
-      let both = and_parts (fit row) (list_all fit rows) fits in
-      omega (arith, count_cons keep row rows, one_more boxes row rows, in_boxes boxes keep fit most rows each both.1, here (keep row) refl both.0)
-    where
-      here : (kept : Bool) → keep row ≡ kept → IsTrue (fit row)
-          → one_if kept ≤ count_by (λ (box : C). holds box row) boxes
-      here true is first = let one : one_if true ≡ 1 = refl in omega (arith, each row first is)
-      here false is first = let none : one_if false ≡ 0 = refl in omega arith
-
-  sum_most : (most : C → ℕ) (rows : List R) (boxes : List C) → ((box : C) → count_by (holds box) rows ≤ most box)
-      → sum_by (λ (box : C). count_by (holds box) rows) boxes ≤ sum_by most boxes
-  sum_most most rows [] few = omega arith
-  sum_most most rows (box ∷ boxes) few =
-      omega (arith, sum_by-cons (λ (one : C). count_by (holds one) rows) box boxes, sum_by-cons most box boxes, few box, sum_most most rows boxes few)
-
 -- slots
-
--- a number of a range is counted
-in_range : (p : ℕ → Bool) (first n k : ℕ) → first ≤ k → k < first + n → p k ≡ true
-    → 1 ≤ count_by p (range_with_len first n)
-in_range p first zero k low high passes = absurd (omega arith)
-in_range p first (suc n) k low high passes =
-    elim (eqb_tells k first) as (λ _. 1 ≤ count_by p (first ∷ range_with_len (first + 1) n)) [
-      | inl same ↦
-          let here : one_if (p first) ≡ 1 = ap one_if (ap p (sym same.1) ∙ passes) in
-          omega (arith, count_cons p first (range_with_len (first + 1) n), here)
-      | inr differs ↦
-          let apart : (k == first) ≡ false = differs.0 in
-          let above : first + 1 ≤ k = grind (arith, nat_tests) in
-          omega (arith, count_cons p first (range_with_len (first + 1) n), in_range p (first + 1) n k above (omega arith) passes)
-    ]
-
-ones : {X : Type 0} (xs : List X) → sum_by (λ (x : X). 1) xs ≡ length xs
-ones [] = refl
-ones {X = X} (x ∷ xs) = omega (arith, sum_by-cons (λ (one : X). 1) x xs, ones xs)
 
 module _ (s : State) (valid : IsValid s) where
   fit : CapabilityRow → Bool
@@ -102,7 +44,7 @@ module _ (s : State) (valid : IsValid s) where
   few_in_cspace : (cspace : ℕ) → count_by (is_in_cspace cspace) s.caps ≤ 127
   few_in_cspace cspace =
       let each : count_by (is_in_cspace cspace) s.caps ≤ sum_by (λ (slot : ℕ). count_by (fills cspace slot) s.caps) (range_with_len 1 127) =
-      in_boxes (λ (slot : ℕ) (row : CapabilityRow). fills cspace slot row) (range_with_len 1 127) (is_in_cspace cspace) fit (λ _. 1) s.caps in_slot all_fit in
+      in_boxes (λ (slot : ℕ) (row : CapabilityRow). fills cspace slot row) (range_with_len 1 127) (is_in_cspace cspace) fit s.caps in_slot all_fit in
       let few : sum_by (λ (slot : ℕ). count_by (fills cspace slot) s.caps) (range_with_len 1 127) ≤ sum_by (λ (slot : ℕ). 1) (range_with_len 1 127) =
       sum_most (λ (slot : ℕ) (row : CapabilityRow). fills cspace slot row) (λ _. 1) s.caps (range_with_len 1 127) (λ slot. valid.slots.once cspace slot) in
       omega (arith, each, few, ones (range_with_len 1 127), length-range_with_len 1 127)
@@ -165,7 +107,8 @@ module _ (s : State) (valid : IsValid s) where
       let passes : is_home object row ≡ true = and_from _ _ home (found_passes (is_object row.cspace.0) s.objects object is) in
       some_one (find (λ (one : ObjectRow). is_home one row) s.objects) refl (finds (is_object row.cspace.0) (λ (one : ObjectRow). is_home one row) s.objects object is passes)
     where
-      some_one : (one : Option ObjectRow) → find (λ (object : ObjectRow). is_home object row) s.objects ≡ one → is_some one ≡ true
+      some_one : (one : Option ObjectRow) → find (λ (object : ObjectRow). is_home object row) s.objects ≡ one
+          → is_some one ≡ true
           → 1 ≤ count_by (λ (object : ObjectRow). is_home object row) s.objects
       some_one None same some = absurd (let never : ⊥ = cc in never)
       some_one (Some object) same some = found_one (λ (object : ObjectRow). is_home object row) s.objects object same
@@ -175,7 +118,7 @@ module _ (s : State) (valid : IsValid s) where
   unfolding most_in
   few_capabilities =
       let each : count_by (λ (row : CapabilityRow). true) s.caps ≤ sum_by (λ (object : ObjectRow). count_by (is_home object) s.caps) s.objects =
-      in_boxes is_home s.objects (λ row. true) fit most_in s.caps (λ row fits here. home_by row (find (is_object row.cspace.0) s.objects) refl (parts_of row fits).home) all_fit in
+      in_boxes is_home s.objects (λ row. true) fit s.caps (λ row fits here. home_by row (find (is_object row.cspace.0) s.objects) refl (parts_of row fits).home) all_fit in
       let few : sum_by (λ (object : ObjectRow). count_by (is_home object) s.caps) s.objects ≤ sum_by most_in s.objects =
       sum_most is_home most_in s.caps s.objects at_most in
       omega (arith, each, few, few_spaces s.objects, valid.objects.cspaces, ones s.caps)

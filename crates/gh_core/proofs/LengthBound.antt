@@ -1,7 +1,7 @@
 -- Where the counts hold, the history is short.
 use Rattle.std.proofs.Common.{◌≡◌, ◌==◌, ◌+◌, ◌*◌, ◌<◌, ◌≤◌, ℕ, Bool, true, false, List, [], ◌∷◌, length, refl, subst, sym, ap, arith, IsTrue, Option, Some, None}
 use Rattle.std.specs.Prelude.{◌&&◌, ◌||◌, count_by, is_some}
-use Rattle.std.proofs.lemmas.Bool.{and_parts, eqb-true}
+use Rattle.std.proofs.lemmas.Bool.{and_parts, eqb-true, or_right}
 use Rattle.gh_base.specs.declared.call.Call.{Call}
 use Rattle.gh_base.specs.declared.call.Call.TheVariants as calls
 use Rattle.gh_base.specs.declared.limits.TheConstants.{CALL_NUMBERS, CPUS}
@@ -25,7 +25,7 @@ use Rattle.gh_core.specs.Words.{HasRoom}
 use Rattle.gh_core.proofs.Finding.{total_none}
 use Rattle.gh_core.proofs.LengthBoot.{few_capabilities, none_leaving}
 use Rattle.gh_core.proofs.LengthCalls.{total_most}
-use Rattle.gh_core.proofs.LengthEntries.{start_counts}
+use Rattle.gh_core.proofs.LengthEntries.{one_most, start_counts}
 use Rattle.gh_core.proofs.LookCalls.{entries_all}
 
 -- the start of each boot file
@@ -43,7 +43,8 @@ start_length lines index fits = record {
 
 -- each entry is of one kind
 
-kind_of : (entry : Event) (kind : Entry) → entry.entry ≡ kind → one_if (is_act entry) + (one_if (parts entry) + (one_if (retires_one entry) + one_if (reclaims_one entry))) ≡ 1
+kind_of : (entry : Event) (kind : Entry) → entry.entry ≡ kind
+    → one_if (is_act entry) + (one_if (parts entry) + (one_if (retires_one entry) + one_if (reclaims_one entry))) ≡ 1
 kind_of entry (Acted cpu number) is = rw is refl
 kind_of entry (Part cpu number space slot) is = rw is refl
 kind_of entry (Retired serial seen) is = rw is refl
@@ -76,13 +77,9 @@ acts_are_more (event ∷ events) =
     omega (arith, count_cons makes_one event events, count_cons copies_one event events, count_cons is_act event events, one_of (is_act event) event.call, acts_are_more events)
 
 -- a count is at most all
-count_all : {X : Type 0} (p : X → Bool) (xs : List X) → count_by p xs ≤ length xs
+pub count_all : {X : Type 0} (p : X → Bool) (xs : List X) → count_by p xs ≤ length xs
 count_all p [] = let none : count_by p [] ≡ 0 = refl in omega arith
 count_all p (x ∷ xs) = omega (arith, count_cons p x xs, one_most (p x), count_all p xs)
-  where
-    one_most : (b : Bool) → one_if b ≤ 1
-    one_most true = let one : one_if true ≡ 1 = refl in omega arith
-    one_most false = let none : one_if false ≡ 0 = refl in omega arith
 
 module _ (conf : Config) (long : HasLength conf) (sound : HasCalls conf) where
   -- who acts has its call in progress
@@ -98,13 +95,10 @@ module _ (conf : Config) (long : HasLength conf) (sound : HasCalls conf) where
   acts_few : (at : ℕ) (now : Bool) → acts conf.turn at ≡ now
       → count_by has_entry (conf.cpu at).made + one_if now ≤ calls_given (conf.cpu at)
   acts_few at true is =
-      let one : one_if (is_some (conf.cpu at).next || is_some (conf.cpu at).current) ≡ 1 = rw (acting at conf.turn refl is) (ap one_if (or_true (is_some (conf.cpu at).next))) in
+      let one : one_if (is_some (conf.cpu at).next || is_some (conf.cpu at).current) ≡ 1 =
+      rw (acting at conf.turn refl is) (ap one_if (or_right (is_some (conf.cpu at).next) true refl)) in
       let now : one_if true ≡ 1 = refl in
       omega (arith, count_all has_entry (conf.cpu at).made)
-    where
-      or_true : (b : Bool) → (b || true) ≡ true
-      or_true true = refl
-      or_true false = refl
   acts_few at false is = let none : one_if false ≡ 0 = refl in omega (arith, count_all has_entry (conf.cpu at).made)
 
   few_acts : count_by is_act conf.history ≤ CPUS * CALL_NUMBERS

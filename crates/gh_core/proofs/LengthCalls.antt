@@ -1,8 +1,9 @@
 -- Every event keeps the acts of the history as many as the calls that ended with their entries, and
 -- the numbers of calls within the last one.
-use Rattle.std.proofs.Common.{◌≡◌, ◌==◌, ◌+◌, ◌*◌, ◌<◌, ◌≤◌, ◌∙◌, inl, inr, ℕ, zero, suc, Bool, true, false, List, [], ◌∷◌, ◌++◌, length, refl, subst, sym, ap, arith, Option, Some, None}
+use Rattle.std.proofs.Common.{◌≡◌, ◌==◌, ◌+◌, ◌*◌, ◌<◌, ◌≤◌, ◌∙◌, inl, inr, ℕ, zero, suc, Bool, false, List, [], ◌∷◌, ◌++◌, length, refl, subst, sym, ap, arith, Option, Some, None}
 use Rattle.std.specs.Prelude.{◌&&◌, ◌||◌, count_by, is_some, option_map}
 use Rattle.std.specs.List.{list_any}
+use Rattle.std.proofs.lemmas.Bool.{and_left, and_right}
 use Rattle.std.proofs.lemmas.Bool.Decides.{eqb_tells, nat_tests}
 use Rattle.gh_base.specs.declared.limits.TheConstants.{CALL_NUMBERS, CPUS}
 use Rattle.gh_model.specs.History as history
@@ -32,7 +33,8 @@ total_most (suc n) most f few = grind (arith, total_most n most f few, few n)
 total_more : (f g : ℕ → ℕ) (at more : ℕ) → at < CPUS → ((i : ℕ) → g i ≡ put f at (f at + more) i)
     → total CPUS g ≡ total CPUS f + more
 total_more f g at more within same =
-    let all : total CPUS g ≡ total CPUS (λ i. put f at (f at + more) i) = total_same CPUS g (λ i. put f at (f at + more) i) same in
+    let all : total CPUS g ≡ total CPUS (λ i. put f at (f at + more) i) =
+    total_same CPUS g (λ i. put f at (f at + more) i) same in
     omega (arith, all, total_put f at (f at + more) (λ n. n) CPUS within)
 
 -- what holds of the value that was put and of the others, holds of each
@@ -94,7 +96,8 @@ module _ (events : List history.Event) (turn : Option Holder) (cpus : ℕ → Cp
 pub turn_counts : (events : List history.Event) (old new : Option Holder) (cpus : ℕ → Cpu)
     → ((n : ℕ) → acts new n ≡ acts old n) → CallsCount events old cpus → CallsCount events new cpus
 turn_counts events old new cpus same counts = record {
-  acts = counts.acts ∙ total_same CPUS (acts_of old cpus) (acts_of new cpus) (λ n. ap (λ (b : Bool). count_by has_entry (cpus n).made + one_if b) (sym (same n)));
+  acts = counts.acts
+      ∙ total_same CPUS (acts_of old cpus) (acts_of new cpus) (λ n. ap (λ (b : Bool). count_by has_entry (cpus n).made + one_if b) (sym (same n)));
   numbers = counts.numbers;
 }
 
@@ -110,11 +113,7 @@ acts_same (Some holder) change cpu entries at =
 
 -- nobody acts in a turn without its act
 pub none_acts : (holder : Holder) (at : ℕ) → has_acted holder ≡ false → acts (Some holder) at ≡ false
-none_acts holder at none = ap (λ (b : Bool). (holder.cpu == at) && b) none ∙ and_false (holder.cpu == at)
-  where
-    and_false : (b : Bool) → (b && false) ≡ false
-    and_false true = refl
-    and_false false = refl
+none_acts holder at none = and_right (holder.cpu == at) (has_acted holder) none
 
 -- one more entry
 module _ (events : List history.Event) (event : history.Event) (holder more : Holder) (cpus : ℕ → Cpu)
@@ -132,21 +131,13 @@ module _ (events : List history.Event) (event : history.Event) (holder more : Ho
       before : (i : ℕ) → one_if (acts (Some holder) i) ≡ 0
       before i = ap one_if (none_acts holder i none)
 
-      own : (b c : Bool) → b ≡ true → one_if (b && c) ≡ one_if c
-      own true c is = refl
-      own false c is = absurd (let never : ⊥ = cc in never)
-
-      not_own : (b c : Bool) → b ≡ false → one_if (b && c) ≡ 0
-      not_own true c is = absurd (let never : ⊥ = cc in never)
-      not_own false c is = refl
-
       here : acts_of (Some more) cpus holder.cpu ≡ acts_of (Some holder) cpus holder.cpu + one_if (is_act event)
-      here = omega (arith, ap one_if (now holder.cpu), own (holder.cpu == holder.cpu) (is_act event) (same_number holder.cpu), before holder.cpu)
+      here = omega (arith, ap one_if (now holder.cpu), ap (λ (b : Bool). one_if (b && is_act event)) (same_number holder.cpu), before holder.cpu)
 
       other : (i : ℕ) → (i == holder.cpu) ≡ false → acts_of (Some more) cpus i ≡ acts_of (Some holder) cpus i
       other i differs =
           let apart : (holder.cpu == i) ≡ false = grind (arith, nat_tests) in
-          omega (arith, ap one_if (now i), not_own (holder.cpu == i) (is_act event) apart, before i)
+          omega (arith, ap one_if (now i), ap one_if (and_left (holder.cpu == i) (is_act event) apart), before i)
 
   pub entry_counts : CallsCount events (Some holder) cpus → CallsCount (events ++ event ∷ []) (Some more) cpus
   entry_counts counts = record {

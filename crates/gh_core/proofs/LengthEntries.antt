@@ -41,6 +41,11 @@ leaving s = count_by is_leaving s.objects
 abbrev plain : State → ℕ
 plain s = count_by is_plain s.caps
 
+-- a truth value counts as one at most
+pub one_most : (b : Bool) → one_if b ≤ 1
+one_most true = let one : one_if true ≡ 1 = refl in omega arith
+one_most false = let none : one_if false ≡ 0 = refl in omega arith
+
 -- changes
 
 -- so many objects are made and capabilities put, and none is retired or reclaimed
@@ -68,7 +73,8 @@ recast s new test one objects caps keeps =
     let same : plain new ≡ plain s = ap (count_by is_plain) caps in
     record {
       stay = omega (arith, stay);
-      leave = ap (count_by is_leaving) objects ∙ count_change_kept is_leaving test one s.objects (λ row. ap is_some (keeps row));
+      leave = ap (count_by is_leaving) objects
+          ∙ count_change_kept is_leaving test one s.objects (λ row. ap is_some (keeps row));
       plain_most = omega (arith, same);
     }
   where
@@ -102,7 +108,8 @@ spare_adds s (change.SetStage object stage) spare =
 spare_adds s (change.ConfigureQueue queue depth size cost) spare =
     recast s _ (is_object queue.0) (with_cost cost) refl refl (λ row. refl)
 spare_adds s (change.DropCapability cspace slot) spare =
-    let fewer : plain (changed s (change.DropCapability cspace slot)) ≤ plain s = count_fewer is_plain (fills cspace.0 slot) s.caps in
+    let fewer : plain (changed s (change.DropCapability cspace slot)) ≤ plain s =
+    count_fewer is_plain (fills cspace.0 slot) s.caps in
     record { stay = omega arith; leave = refl; plain_most = omega (arith, fewer) }
 spare_adds s (change.RevokeCapability cspace slot) spare =
     record { stay = omega arith; leave = refl; plain_most = revoked_fewer (fills cspace.0 slot) s.caps }
@@ -147,10 +154,6 @@ one_adds s cap = record {
   leave = refl;
   plain_most = omega (arith, count_push is_plain s.caps cap, one_most (is_plain cap));
 }
-  where
-    one_most : (b : Bool) → one_if b ≤ 1
-    one_most true = let one : one_if true ≡ 1 = refl in omega arith
-    one_most false = let none : one_if false ≡ 0 = refl in omega arith
 
 effect_adds : (s : State) (call : Call) (changes : List Change) → Effect call changes
     → Adds (one_if (is_create call)) (one_if (is_copy call)) s (changed_all s changes)
@@ -175,7 +178,8 @@ decision_counts : (s new : State) (reply : Reply) (call : Call) (decision : Deci
 decision_counts s new reply call (Refuse errno) does is = absurd (let never : ⊥ = cc in never)
 decision_counts s new reply call Unfinished does is = absurd (let never : ⊥ = cc in never)
 decision_counts s new reply call (Make changes said) does is =
-    let adds : Adds (one_if (is_create call)) (one_if (is_copy call)) s (changed_all s changes) = effect_adds s call changes does in
+    let adds : Adds (one_if (is_create call)) (one_if (is_copy call)) s (changed_all s changes) =
+    effect_adds s call changes does in
     record { stay = adds.stay; leave = adds.leave; plain_most = adds.plain_most }
 
 act_counts : (s : State) (event : Event) (cpu : ℕ) (new : State) (reply : Reply)
@@ -195,7 +199,8 @@ part_counts : (s new : State) (cspace slot : ℕ)
     → (staying new ≡ staying s) × ((leaving new ≡ leaving s) × (plain new + 1 ≡ plain s))
 part_counts s new cspace slot may objects caps =
     let one : count_found is_plain (find (fills cspace slot) s.caps) ≡ 1 = plain_row (find (fills cspace slot) s.caps) may in
-    let none : count_found is_plain (option_map as_revoked (find (fills cspace slot) s.caps)) ≡ 0 = none_plain (find (fills cspace slot) s.caps) in
+    let none : count_found is_plain (option_map as_revoked (find (fills cspace slot) s.caps)) ≡ 0 =
+    none_plain (find (fills cspace slot) s.caps) in
     let now : plain new ≡ count_by is_plain (change_row (fills cspace slot) as_revoked s.caps) = ap (count_by is_plain) caps in (
       ap (count_by is_staying) objects,
       (
@@ -227,7 +232,8 @@ retire_counts : (s new : State) (serial : ℕ) (seen : List ℕ)
 retire_counts s new serial seen is objects =
     let before = stays_row (object_row s serial) is in
     let behind = retired_row (object_row s serial) seen is in
-    let stay : staying new ≡ count_by is_staying (change_row (is_object serial) (with_counters seen) s.objects) = ap (count_by is_staying) objects in
+    let stay : staying new ≡ count_by is_staying (change_row (is_object serial) (with_counters seen) s.objects) =
+    ap (count_by is_staying) objects in
     let leave : leaving new ≡ count_by is_leaving (change_row (is_object serial) (with_counters seen) s.objects) = ap (count_by is_leaving) objects in (
       omega (arith, stay, before.0, behind.0, count_change is_staying (is_object serial) (with_counters seen) s.objects),
       omega (arith, leave, before.1, behind.1, count_change is_leaving (is_object serial) (with_counters seen) s.objects),
@@ -256,7 +262,8 @@ module _ (conf : Config) (holder : Holder) (call : Current) (valid : IsValid (pr
   pub entry_counts : (entry : Entry) → KindAllows conf holder call entry entry
       → EventCounts (logged entry call) (present conf) (after_event (present conf) (logged entry call))
   entry_counts (Acted cpu number) allowed =
-      let adds = act_counts (present conf) (logged (Acted cpu number) call) cpu.0 allowed.new allowed.reply allowed.may_act allowed.is_done in
+      let adds =
+      act_counts (present conf) (logged (Acted cpu number) call) cpu.0 allowed.new allowed.reply allowed.may_act allowed.is_done in
       record {
         stay = omega (arith, adds.stay);
         leave = omega (arith, adds.leave);
@@ -264,7 +271,8 @@ module _ (conf : Config) (holder : Holder) (call : Current) (valid : IsValid (pr
       }
   entry_counts (Part cpu number space slot) allowed =
       let s : State = present conf in
-      let counts = part_counts s (numbered (took (changed s (change.RevokeCapability space slot)) space slot)) space.0 slot allowed.part.may_part refl refl in
+      let counts =
+      part_counts s (numbered (took (changed s (change.RevokeCapability space slot)) space slot)) space.0 slot allowed.part.may_part refl refl in
       rw allowed.part.may_part (record {
         stay = omega (arith, counts.0);
         leave = omega (arith, counts.1.0);
@@ -272,7 +280,8 @@ module _ (conf : Config) (holder : Holder) (call : Current) (valid : IsValid (pr
       })
   entry_counts (Retired serial seen) allowed =
       let s : State = present conf in
-      let counts = retire_counts s (counted (changed s (change.Retire serial seen))) serial.0 seen allowed.unreferenced.1 refl in
+      let counts =
+      retire_counts s (counted (changed s (change.Retire serial seen))) serial.0 seen allowed.unreferenced.1 refl in
       rw allowed.unreferenced.0 (rw allowed.unreferenced.1 (record {
         stay = omega (arith, counts.0);
         leave = omega (arith, counts.1);
@@ -280,8 +289,10 @@ module _ (conf : Config) (holder : Holder) (call : Current) (valid : IsValid (pr
       }))
   entry_counts (Reclaimed serial seen) allowed =
       let s : State = present conf in
-      let counts = reclaim_counts s (counted (changed s (change.Reclaim serial))) serial.0 allowed.unreferenced.1 (valid.objects.once serial.0) refl in
-      let fewer : count_by is_plain (without (is_in_cspace serial.0) s.caps) ≤ plain s = count_fewer is_plain (is_in_cspace serial.0) s.caps in
+      let counts =
+      reclaim_counts s (counted (changed s (change.Reclaim serial))) serial.0 allowed.unreferenced.1 (valid.objects.once serial.0) refl in
+      let fewer : count_by is_plain (without (is_in_cspace serial.0) s.caps) ≤ plain s =
+      count_fewer is_plain (is_in_cspace serial.0) s.caps in
       rw allowed.unreferenced.0 (rw allowed.unreferenced.1 (record {
         stay = omega (arith, counts.0);
         leave = omega (arith, counts.1);

@@ -1,6 +1,8 @@
 -- Every event keeps the counts of a history.
 use Rattle.std.proofs.Common.{◌≡◌, ◌==◌, ◌+◌, ◌-◌, ◌*◌, ◌<◌, ◌≤◌, ◌∙◌, ℕ, Bool, true, false, List, [], ◌∷◌, ◌++◌, length, refl, subst, sym, ap, arith, Option, Some, None, if◌then◌else◌}
 use Rattle.std.specs.Prelude.{◌&&◌, ◌||◌, Result, Ok, Err, count_by, is_some, option_map, slice_index}
+use Rattle.std.proofs.lemmas.Bool.{and_left}
+use Rattle.std.proofs.lemmas.List.{length_push}
 use Rattle.std.proofs.lemmas.Bool.Decides.{nat_tests}
 use Rattle.gh_base.specs.declared.call.Call.{Call}
 use Rattle.gh_base.specs.declared.errno.Errno.{Errno}
@@ -13,7 +15,7 @@ use Rattle.gh_model.specs.History.{state_at}
 use Rattle.gh_model.specs.Act.{Verdict, Done, Refused}
 use Rattle.gh_model.specs.History as history
 use Rattle.gh_model.specs.Legal.{is_short}
-use Rattle.gh_model.specs.Marks.{Made, Outcome, Wants, Fails, Grants, number}
+use Rattle.gh_model.specs.Marks.{Outcome, Wants, Fails, Grants, number}
 use Rattle.gh_model.specs.QueueCalls.{one_if}
 use Rattle.gh_model.specs.Registers.{call_of}
 use Rattle.gh_model.specs.declared.entry.Entry.{Entry}
@@ -36,7 +38,7 @@ use Rattle.gh_core.proofs.EntryCalls.{now_passes, still_fails}
 use Rattle.gh_core.proofs.Finding.{same_number}
 use Rattle.gh_core.proofs.LengthCalls.{acts_same, call_counts, cpu_counts, entry_counts, none_acts, part_counts, turn_counts}
 use Rattle.gh_core.proofs.LengthEntries as allowed
-use Rattle.gh_core.proofs.LengthEntries.{entries_count}
+use Rattle.gh_core.proofs.LengthEntries.{entries_count, one_most}
 
 -- an event that leaves the history
 module _ (conf : Config) (long : HasLength conf) where
@@ -97,14 +99,12 @@ module _ (conf : Config) (long : HasLength conf) where
       (alone : (conf.cpu at).next ≡ None) (end : End) (reply : Reply) where
     end_few : calls_given (with_end (conf.cpu at) (finished at call end reply)) ≤ CALL_NUMBERS
     end_few =
-        let before : one_if (is_some (conf.cpu at).next || is_some (conf.cpu at).current) ≡ 1 = rw alone (ap (λ (one : Option Current). one_if (is_some one)) is_current) in
+        let before : one_if (is_some (conf.cpu at).next || is_some (conf.cpu at).current) ≡ 1 =
+        rw alone (ap (λ (one : Option Current). one_if (is_some one)) is_current) in
         let now : one_if (is_some (conf.cpu at).next || false) ≡ 0 = rw alone refl in
-        let longer : length ((conf.cpu at).made ++ finished at call end reply ∷ []) ≡ length (conf.cpu at).made + 1 = length_push (conf.cpu at).made in
+        let longer : length ((conf.cpu at).made ++ finished at call end reply ∷ []) ≡ length (conf.cpu at).made + 1 =
+        length_push (conf.cpu at).made (finished at call end reply) in
         omega (arith, long.calls.numbers at, before, now, longer)
-      where
-        length_push : (made : List Made) → length (made ++ finished at call end reply ∷ []) ≡ length made + 1
-        length_push [] = refl
-        length_push (one ∷ made) = omega (arith, length_push made)
 
   looks_none : (came : Outcome) → is_some (number (end_of_looks came)) ≡ false
   looks_none (Wants slot need) = refl
@@ -140,10 +140,6 @@ module _ (conf : Config) (long : HasLength conf) where
   was_given None [] None call is = absurd (let never : ⊥ = cc in never)
   was_given None [] (Some given) call is = refl
   was_given None (pin ∷ pins) next call is = absurd (let never : ⊥ = cc in never)
-
-  one_most : (b : Bool) → one_if b ≤ 1
-  one_most true = let one : one_if true ≡ 1 = refl in omega arith
-  one_most false = let none : one_if false ≡ 0 = refl in omega arith
 
   take_counts : (at : ℕ) → MayTake conf at → Counts (taken conf at).turn (taken conf at).cpu
   take_counts at may =
@@ -206,7 +202,8 @@ module _ (conf : Config) (long : HasLength conf) where
   its_end at holder call end true acted is =
       acted_end (entries conf) (judged (state_at conf.boot conf.history (entries conf - 1)) at call) end is ∙ sym acted
   its_end at holder call end false acted is =
-      unacted_end holder (present conf) (entries conf) call.given.call (judged (present conf) at call) end (has_part holder) is ∙ sym acted
+      unacted_end holder (present conf) (entries conf) call.given.call (judged (present conf) at call) end (has_part holder) is
+      ∙ sym acted
 
   module _ (at : ℕ) (may : MayEnd conf at) (alone : (conf.cpu at).next ≡ None) where
     abbrev before : ℕ → Bool
@@ -216,27 +213,22 @@ module _ (conf : Config) (long : HasLength conf) where
     was n = ap (λ (turn : Option Holder). acts turn n) may.has_turn.turn
 
     here : before at ≡ has_acted may.holder
-    here = was at ∙ own (may.holder.cpu == at) (has_acted may.holder) (ap (λ (c : ℕ). c == at) may.has_turn.its_cpu ∙ same_number at)
-      where
-        own : (b c : Bool) → b ≡ true → (b && c) ≡ c
-        own true c is = refl
-        own false c is = absurd (let never : ⊥ = cc in never)
+    here =
+        was at
+        ∙ ap (λ (b : Bool). b && has_acted may.holder) (ap (λ (c : ℕ). c == at) may.has_turn.its_cpu ∙ same_number at)
 
     others : (n : ℕ) → (n == at) ≡ false → acts None n ≡ before n
     others n differs =
         let its : may.holder.cpu ≡ at = may.has_turn.its_cpu in
         let apart : (may.holder.cpu == n) ≡ false = grind (arith, nat_tests) in
-        sym (was n ∙ not_own (may.holder.cpu == n) (has_acted may.holder) apart)
-      where
-        not_own : (b c : Bool) → b ≡ false → (b && c) ≡ false
-        not_own true c is = absurd (let never : ⊥ = cc in never)
-        not_own false c is = refl
+        sym (was n ∙ and_left (may.holder.cpu == n) (has_acted may.holder) apart)
 
     ended_by : (end : Option Ending) → ending conf at may.holder may.call ≡ end → is_some end ≡ true
         → Counts None (put conf.cpu at (with_ending at (conf.cpu at) may.call end))
     ended_by None is some = absurd (let never : ⊥ = cc in never)
     ended_by (Some end) is some =
-        let has : is_some (number end.end) ≡ has_acted may.holder = its_end at may.holder may.call end (has_acted may.holder) refl is in
+        let has : is_some (number end.end) ≡ has_acted may.holder =
+        its_end at may.holder may.call end (has_acted may.holder) refl is in
         let entry : one_if (is_some (number end.end)) ≡ one_if (before at) = ap one_if (has ∙ sym here) in
         part_counts conf.history conf.turn None conf.cpu at _ long.calls
         (omega (arith, count_push has_entry (conf.cpu at).made (finished at may.call end.end end.reply), entry)) others
@@ -262,14 +254,10 @@ module _ (conf : Config) (at : ℕ) (number : ℕ) (frame : Frame) (long : HasLe
   given_by (Err errno) =
       cpu_counts conf.history conf.turn conf.cpu at _ long.calls
       (omega (arith, count_push has_entry (conf.cpu at).made (refused_frame at number frame errno), no_entry))
-      (omega (arith, none_next, length_push (conf.cpu at).made, may.counts, may.bounded))
+      (omega (arith, none_next, length_push (conf.cpu at).made (refused_frame at number frame errno), may.counts, may.bounded))
     where
       no_entry : one_if (has_entry (refused_frame at number frame errno)) ≡ 0
       no_entry = refl
-
-      length_push : (made : List Made) → length (made ++ refused_frame at number frame errno ∷ []) ≡ length made + 1
-      length_push [] = refl
-      length_push (one ∷ made) = omega (arith, length_push made)
 
   pub given_length : HasLength (given conf at number frame)
   unfolding given_cpu
@@ -309,7 +297,8 @@ module _ (conf : Config) (at : ℕ) (entry : Entry) (index : State → ℕ → �
   acts_on : CallsCount (conf.history ++ logged entry call ∷ []) (option_map behind conf.turn) conf.cpu
   unfolding behind
   acts_on =
-      let counts : CallsCount conf.history (Some holder) conf.cpu = subst (λ (turn : Option Holder). CallsCount conf.history turn conf.cpu) allows.has_turn.turn long.calls in
+      let counts : CallsCount conf.history (Some holder) conf.cpu =
+      subst (λ (turn : Option Holder). CallsCount conf.history turn conf.cpu) allows.has_turn.turn long.calls in
       let its : holder.cpu < CPUS = subst (λ (n : ℕ). n < CPUS) (sym allows.has_turn.its_cpu) within in
       subst (λ (turn : Option Holder). CallsCount (conf.history ++ logged entry call ∷ []) (option_map behind turn) conf.cpu) (sym allows.has_turn.turn)
       (entry_counts conf.history (logged entry call) holder (behind holder) conf.cpu its allows.not_acted refl (has_one (is_acted entry) refl) counts)
@@ -348,7 +337,8 @@ event_length conf (Kill cpu object) valid long may = killed_length conf object.0
 event_length conf (Commit cpu entry) valid long may =
     committed_length conf cpu.0 entry (λ new. conf.index) may.holder may.call may.allows may.is_cpu valid long
 event_length conf (SetCap cpu entry space slot word) valid long may =
-    let behind = committed_length conf cpu.0 entry (λ new. index_after conf new word) may.holder may.call may.allows may.is_cpu valid long in
+    let behind =
+    committed_length conf cpu.0 entry (λ new. index_after conf new word) may.holder may.call may.allows may.is_cpu valid long in
     record { entries = behind.entries; calls = behind.calls; few_objects = behind.few_objects; few_capabilities = behind.few_capabilities }
 event_length conf (Free cpu true) valid long may =
     stays conf long _ refl refl (end_counts conf long cpu.0 may ((valid.cpus cpu.0).alone (ap is_some may.in_act.is_current)))

@@ -1,7 +1,8 @@
 -- Sound configurations: the start of each boot file, every event, every call that is given, and so
 -- every run.
-use Rattle.std.proofs.Common.{◌≡◌, ◌==◌, ◌<◌, ◌∙◌, ℕ, Bool, true, false, Option, Some, None, if◌then◌else◌, List, [], ◌∷◌, length, refl, sym, ap, fold, IsTrue}
+use Rattle.std.proofs.Common.{◌≡◌, ◌==◌, ◌*◌, ◌<◌, ◌≤◌, ◌∙◌, ℕ, Bool, true, false, Option, Some, None, if◌then◌else◌, List, [], ◌∷◌, length, refl, subst, sym, ap, fold, IsTrue}
 use Rattle.gh_base.specs.declared.frame.Frame.{Frame}
+use Rattle.gh_base.specs.declared.limits.TheConstants.{CPUS, CSPACES, CSPACE_SLOTS}
 use Rattle.gh_invariant.proofs.BootValid.{boot_unretired}
 use Rattle.gh_model.specs.Boot.{after_line, boot_fits, boot_state, empty_state}
 use Rattle.gh_model.specs.History.{is_retired}
@@ -10,7 +11,7 @@ use Rattle.gh_model.specs.declared.boot_line.BootLine.TheVariants.{Pages, Partit
 use Rattle.gh_model.specs.declared.entry.Entry.{Entry}
 use Rattle.gh_model.specs.declared.rows.ObjectRow.{ObjectRow}
 use Rattle.gh_model.specs.declared.state.State.{State}
-use Rattle.gh_core.specs.Bounded.{IsBounded}
+use Rattle.gh_core.specs.Bounded.{HasBound, IsBounded}
 use Rattle.gh_core.specs.Calls.{BeginsAtBoot, HasCalls}
 use Rattle.gh_core.specs.Config.{Config, Current, object_at, present, put}
 use Rattle.gh_core.specs.Entries.{index_after}
@@ -27,6 +28,8 @@ use Rattle.gh_core.proofs.BoundKeeps.{event_bounded}
 use Rattle.gh_core.proofs.CallsEnd.{leave_keeps_calls}
 use Rattle.gh_core.proofs.CallsGoOn.{enter_keeps_calls, undo_keeps_calls, unpin_keeps_calls}
 use Rattle.gh_core.proofs.EventsKeep.{event_graced, event_sound}
+use Rattle.gh_core.proofs.FewPins.{event_pins, given_pins}
+use Rattle.gh_core.proofs.FewReferences.{boot_bound}
 use Rattle.gh_core.proofs.FreeCalls.{free_keeps_calls}
 use Rattle.gh_core.proofs.GivenCalls.{given_keeps_calls}
 use Rattle.gh_core.proofs.GivenKeeps.{given_keeps}
@@ -92,6 +95,7 @@ start_is_sound lines index fits indices =
       words = start_shows lines index fits indices;
       begins = none;
       long = start_length lines index fits;
+      bound = boot_bound lines index fits;
     }
 
 -- events
@@ -145,7 +149,7 @@ committed_boot conf entry index None = refl
 committed_boot conf entry index (Some call) = refl
 
 -- no event changes the boot state
-boot_stays : (conf : Config) (event : Event) → (after conf event).boot ≡ conf.boot
+pub boot_stays : (conf : Config) (event : Event) → (after conf event).boot ≡ conf.boot
 boot_stays conf (Enter cpu) = refl
 boot_stays conf (Leave cpu) = refl
 boot_stays conf (Take cpu) = refl
@@ -166,6 +170,16 @@ boot_stays conf (Revive cpu object count) = refl
 boot_stays conf (Join cpu) = refl
 boot_stays conf (Split cpu) = refl
 
+-- every event keeps the bounds
+event_bound : (conf : Config) (event : Event) → HasBound conf → HasCalls (after conf event) → Possible conf event
+    → HasBound (after conf event)
+event_bound conf event bound calls may = record {
+  bounded = event_bounded conf event bound.bounded may;
+  few_pins = event_pins conf event bound.few_pins calls may;
+  few_cpus = subst (λ (boot : State). length boot.cpus ≤ CPUS) (sym (boot_stays conf event)) bound.few_cpus;
+  few_links = subst (λ (boot : State). 2 * length boot.links ≤ CSPACES * CSPACE_SLOTS) (sym (boot_stays conf event)) bound.few_links;
+}
+
 -- every event keeps a sound configuration
 pub event_keeps_sound : (conf : Config) (event : Event) → IsSound conf → Possible conf event
     → IsSound (after conf event)
@@ -185,6 +199,7 @@ event_keeps_sound conf event sound may =
       words = event_shows conf event sound.references sound.state sound.valid sound.words (has_room (after conf event) long calls begins) may;
       begins = begins;
       long = long;
+      bound = event_bound conf event sound.bound calls may;
     }
 
 -- runs
@@ -204,14 +219,15 @@ given_keeps_sound conf at number frame sound may = record {
   words = record { filled = sound.words.filled; attached = sound.words.attached; empty = sound.words.empty; within = sound.words.within };
   begins = sound.begins;
   long = given_length conf at number frame sound.long may;
+  bound = record { bounded = sound.bound.bounded; few_pins = given_pins conf at number frame sound.bound.few_pins; few_cpus = sound.bound.few_cpus; few_links = sound.bound.few_links };
 }
 
-step_keeps_sound : (conf : Config) (step : Step) → IsSound conf → MayStep conf step
+pub step_keeps_sound : (conf : Config) (step : Step) → IsSound conf → MayStep conf step
     → IsSound (after_step conf step)
 step_keeps_sound conf (Gives at number frame) sound may = given_keeps_sound conf at number frame sound may
 step_keeps_sound conf (Does event) sound may = event_keeps_sound conf event sound may
 
-steps_keep_sound : (conf : Config) (steps : List Step) → IsSound conf → Runs conf steps
+pub steps_keep_sound : (conf : Config) (steps : List Step) → IsSound conf → Runs conf steps
     → IsSound (after_steps conf steps)
 steps_keep_sound conf [] sound runs = sound
 steps_keep_sound conf (step ∷ steps) sound runs =
@@ -232,14 +248,9 @@ run_is_short lines index steps fits indices runs =
     let sound : IsSound (after_steps (start (boot_state lines) index) steps) = run_is_sound lines index steps fits indices runs in
     history_is_short (after_steps (start (boot_state lines) index) steps) sound.long sound.calls
 
-step_keeps_bound : (conf : Config) (step : Step) → IsBounded conf → MayStep conf step
-    → IsBounded (after_step conf step)
-step_keeps_bound conf (Gives at number frame) bounded may = bounded
-step_keeps_bound conf (Does event) bounded may = event_bounded conf event bounded may
-
--- and what is owed stays within its bound
-pub steps_keep_bound : (conf : Config) (steps : List Step) → IsBounded conf → Runs conf steps
-    → IsBounded (after_steps conf steps)
-steps_keep_bound conf [] bounded runs = bounded
-steps_keep_bound conf (step ∷ steps) bounded runs =
-    steps_keep_bound (after_step conf step) steps (step_keeps_bound conf step bounded runs.0) runs.1
+-- and what is owed within its bound
+pub run_is_bounded : (lines : List BootLine) (index : ℕ → ℕ) (steps : List Step) → IsTrue (boot_fits lines)
+    → AreIndices (boot_state lines) index → Runs (start (boot_state lines) index) steps
+    → IsBounded (after_steps (start (boot_state lines) index) steps)
+run_is_bounded lines index steps fits indices runs =
+    (run_is_sound lines index steps fits indices runs).bound.bounded

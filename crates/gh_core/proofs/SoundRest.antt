@@ -1,11 +1,13 @@
 -- At rest: the turn is free and every CPU is between calls, so the history and the finished calls
 -- agree.
-use Rattle.std.proofs.Common.{◌≡◌, ◌+◌, ◌*◌, ◌≤◌, ◌<◌, ◌∙◌, ◌⊎◌, inl, inr, ℕ, true, false, List, [], subst, sym, ap, arith, Option, Some, None, is_some, slice_get}
+use Rattle.std.proofs.Common.{◌≡◌, ◌+◌, ◌*◌, ◌≤◌, ◌<◌, ◌∙◌, ◌⊎◌, inl, inr, ℕ, true, false, List, [], subst, sym, ap, arith, Option, Some, None, IsSome, IsTrue, is_some, slice_get}
 use Rattle.std.specs.Prelude.{count_by, slice_index}
+use Rattle.std.specs.List.{last_or}
 use Rattle.std.specs.Option.{option_map_or}
 use Rattle.gh_base.specs.declared.limits.TheConstants.{CPUS}
+use Rattle.gh_model.specs.Graced.{IsGraced}
 use Rattle.gh_model.specs.History as history
-use Rattle.gh_model.specs.Legal.{Agree, CallIs, EntryIs, GoesOn, IsEndOf, IsNumbered, IsRetiredBehind}
+use Rattle.gh_model.specs.Legal.{Agree, CallIs, EntryIs, GoesOn, IsEndOf, IsLegal, IsNumbered, IsRetiredBehind, is_exit_call}
 use Rattle.gh_model.specs.Marks.{InTurn, Made, Seen, has_looks}
 use Rattle.gh_model.specs.Act.{granted}
 use Rattle.gh_model.specs.Rows.{cpu_row}
@@ -104,3 +106,25 @@ module _ (conf : Config) (sound : IsSound conf) (rest : IsAtRest conf) where
       let counts : conf.counter cpu ≡ counted (conf.cpu cpu) = sound.calls.counters cpu in
       let none : steps (conf.cpu cpu).current ≡ 0 = ap steps (rest.between cpu).none in
       omega (arith, below, counts, none)
+
+  -- so where each CPU's last call is its exit call, they are legal
+  pub rest_legal : ((cpu : ℕ) → IsSome (cpu_row conf.boot cpu) → IsTrue (is_exit_call (last_or None (made_by conf cpu))))
+      → IsLegal conf.boot conf.history (made_by conf)
+  rest_legal exits = record {
+    agree = rest_agrees;
+    whole = record {
+      numbered = rest_numbered;
+      exits = exits;
+      cpus = λ cpu none. rest_idle cpu none;
+    };
+  }
+
+  -- and they are graced
+  pub rest_graced : IsGraced conf.boot conf.history (made_by conf)
+  rest_graced = record {
+    unreferenced = sound.calls.entries.unreferenced;
+    unread = sound.order.unread;
+    rising = sound.order.rising;
+    bounded = λ n cpu event seen is keeps within. rest_bounded n cpu event seen is keeps within;
+    fits = λ n cpu event seen is keeps within. (sound.between cpu n event seen is keeps within).finished;
+  }

@@ -1,6 +1,6 @@
--- How much is owed: never more than a reference word can count.
-use Rattle.std.specs.Prelude.{◌+◌, ◌<◌, ◌≤◌, ◌^◌, ℕ}
-use Rattle.gh_base.specs.declared.limits.TheConstants.{OBJECT_INDICES}
+-- How much is owed: never more than a reference word can count. And how many references there are.
+use Rattle.std.specs.Prelude.{◌+◌, ◌*◌, ◌<◌, ◌≤◌, ◌^◌, ℕ, length}
+use Rattle.gh_base.specs.declared.limits.TheConstants.{CPUS, CSPACES, CSPACE_SLOTS, OBJECT_INDICES}
 use Rattle.gh_model.specs.declared.state.State.{State}
 use Rattle.gh_core.specs.Config.{Config, live_references, references_at}
 use Rattle.gh_core.specs.References.{owed_at}
@@ -14,3 +14,15 @@ IsBounded conf = (at : ℕ) → at < OBJECT_INDICES
 -- no object of the boot has more than 2^62 references
 abbrev pub FewReferences : State → (ℕ → ℕ) → Type 0
 FewReferences boot index = (at : ℕ) → at < OBJECT_INDICES → references_at boot index at ≤ 2 ^ 62
+
+-- no object has so many references
+abbrev pub many_references : ℕ
+many_references = 131_072
+
+-- references and what is owed have their bound; the boot has few CPUs and links, each of which takes
+-- two slots; and a CPU has a pin for each of two looks at most, beside one on a dead word
+pub record HasBound (conf : Config) : Type 0 where
+  pub bounded : IsBounded conf
+  pub few_pins : (cpu : ℕ) → length (conf.cpu cpu).pins ≤ 2
+  pub few_cpus : length conf.boot.cpus ≤ CPUS
+  pub few_links : 2 * length conf.boot.links ≤ CSPACES * CSPACE_SLOTS

@@ -3,6 +3,7 @@ pub mod CallEvents
 pub mod Calls
 pub mod Committing
 pub mod Config
+pub mod Course
 pub mod Entries
 pub mod Events
 pub mod Grace
@@ -18,6 +19,7 @@ pub mod Sound
 pub mod Start
 pub mod Sweep
 pub mod Tables
+pub mod Tests
 pub mod Trace
 pub mod TurnEvents
 pub mod ValidState

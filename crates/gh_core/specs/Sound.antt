@@ -7,6 +7,7 @@ use Rattle.gh_model.specs.Graced.{GoesUnread}
 use Rattle.gh_model.specs.History as history
 use Rattle.gh_model.specs.Marks.{Made}
 use Rattle.gh_model.specs.declared.state.State.{State}
+use Rattle.gh_core.specs.Bounded.{HasBound}
 use Rattle.gh_core.specs.Calls.{BeginsAtBoot, HasCalls, SawPins}
 use Rattle.gh_core.specs.Config.{Config, IsBetween}
 use Rattle.gh_core.specs.Events.{Possible, after}
@@ -54,6 +55,8 @@ pub record IsSound (conf : Config) : Type 0 where
   pub begins : BeginsAtBoot conf
   -- and the history is no longer than its boot and its calls let it be
   pub long : HasLength conf
+  -- references and what is owed are within what a reference word can count
+  pub bound : HasBound conf
 
 -- a step of a run: a CPU is given its call of this number, or an event
 pub data Step : Type 0 where

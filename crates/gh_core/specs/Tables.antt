@@ -27,7 +27,7 @@ abbrev pub options : List Written → ℕ → Option ℕ
 options written = fold put_option nothing written
 
 abbrev pub later_number : ℕ → Option ℕ → Written → Option ℕ
-later_number at last written = if written.at == at then Some written.value else last
+later_number at last written = if at == written.at then Some written.value else last
 
 -- the last number at a place
 abbrev pub last_number : ℕ → List Written → Option ℕ
@@ -43,7 +43,7 @@ abbrev pub marks : (ℕ → Bool) → List Marked → ℕ → Bool
 marks first marked = fold put_mark first marked
 
 abbrev pub later_mark : ℕ → Option Bool → Marked → Option Bool
-later_mark at last marked = if marked.at == at then Some marked.dead else last
+later_mark at last marked = if at == marked.at then Some marked.dead else last
 
 abbrev pub last_mark : ℕ → List Marked → Option Bool
 last_mark at marked = fold (later_mark at) None marked
@@ -58,7 +58,7 @@ abbrev pub words : (ℕ → ℕ → CapWord) → List SlotWritten → ℕ → �
 words first written = fold put_slot first written
 
 abbrev pub is_slot_written : ℕ → ℕ → SlotWritten → Bool
-is_slot_written space slot written = (written.space == space) && (written.slot == slot)
+is_slot_written space slot written = (space == written.space) && (slot == written.slot)
 
 abbrev pub later_word : ℕ → ℕ → Option CapWord → SlotWritten → Option CapWord
 later_word space slot last written =

@@ -1,13 +1,17 @@
 //! Configurations of the running machine.
 
-ghost use Rattle.std.specs.Prelude.{◌≡◌};
+ghost use Rattle.std.specs.Prelude.{◌≡◌, ◌<◌, option_map, IfOk, OnOk};
+ghost use Rattle.gh_base.specs.declared.limits.TheConstants.{CPUS};
+ghost use Rattle.gh_core.specs.Running.{IsKept, cpu_of, holder_of, stands_for, with_count};
+ghost use Rattle.gh_core.specs.Running.{with_counter, with_cpu, with_holder, with_mark};
 
 use crate::cpu::Seat;
 use crate::holder::Turn;
-use crate::log::Logged;
+use crate::log::{Logged, copy_of_log};
 use crate::table::{Marked, SlotWritten, Written};
-use gh_base::Sequence;
+use gh_base::{CpuNo, NoMemory, Sequence};
 use gh_model::Boot;
+use std::alloc::Global;
 use std::marker::Model;
 
 /// All that a configuration is made of. The words of the boot are not kept, but read from its
@@ -30,6 +34,108 @@ pub struct Running {
     pub turn: Option<Turn>,
     /// The CPUs, by number.
     pub seats: Sequence<Seat>,
+}
+
+fn copy_of_boot(alloc: Global, boot: &Boot) -> Result<Boot, NoMemory>
+    ensures { IfOk result (λ copy. copy ≡ boot.now) }
+{
+    let lines = Vec::from_slice(alloc, boot.lines())?;
+    Ok(Boot::new(lines))
+}
+
+fn copy_of_turn(alloc: Global, turn: &Option<Turn>) -> Result<Option<Turn>, NoMemory>
+    ensures { IfOk result (λ copy. copy ≡ turn.now) }
+{
+    match turn {
+        None => Ok(None),
+        Some(turn) => Ok(Some(turn.copied(alloc)?)),
+    }
+}
+
+fn copies_of_seats(alloc: Global, seats: &[Seat]) -> Result<Sequence<Seat>, NoMemory>
+    ensures { IfOk result (λ copy. copy ≡ seats.now) }
+{
+    let mut copy = Sequence::with_room(alloc, seats.len())?;
+    for seat in seats {
+        copy.push(seat.copied(alloc)?)?;
+    }
+    Ok(copy)
+}
+
+impl Running {
+    pub(crate) fn copied(&self, alloc: Global) -> Result<Running, NoMemory>
+        ensures { IfOk result (λ copy. copy ≡ self.now) }
+    {
+        let boot = copy_of_boot(alloc, &self.boot)?;
+        let log = copy_of_log(alloc, self.log.as_slice())?;
+        let turn = copy_of_turn(alloc, &self.turn)?;
+        let seats = copies_of_seats(alloc, self.seats.as_slice())?;
+        Ok(Running {
+            boot,
+            log,
+            first: Sequence::from_slice(alloc, self.first.as_slice())?,
+            given: Sequence::from_slice(alloc, self.given.as_slice())?,
+            caps: Sequence::from_slice(alloc, self.caps.as_slice())?,
+            counts: Sequence::from_slice(alloc, self.counts.as_slice())?,
+            dead: Sequence::from_slice(alloc, self.dead.as_slice())?,
+            counters: Sequence::from_slice(alloc, self.counters.as_slice())?,
+            turn,
+            seats,
+        })
+    }
+}
+
+impl Running {
+    /// What a CPU keeps.
+    pub(crate) fn seat(&self, cpu: CpuNo) -> &Seat
+        requires kept { IsKept self.now }
+        requires within { cpu.0 < CPUS }
+        ensures { (stands_for self.now).cpu cpu.0 ≡ cpu_of result.now }
+    {
+        &self.seats.as_slice()[cpu.0 as usize]
+    }
+
+    pub(crate) fn put_seat(&mut self, cpu: CpuNo, seat: Seat)
+        requires kept { IsKept self.old }
+        requires within { cpu.0 < CPUS }
+        ensures put { stands_for self.new ≡ with_cpu (stands_for self.old) cpu.0 (cpu_of seat) }
+        ensures kept { IsKept self.new }
+    {
+        self.seats.set(cpu.0 as usize, seat);
+    }
+
+    pub(crate) fn put_counter(&mut self, cpu: CpuNo, value: u64) -> Result<(), NoMemory>
+        ensures put { OnOk result
+            (stands_for self.new ≡ with_counter (stands_for self.old) cpu.0 value) }
+        ensures kept { IsKept self.old → OnOk result (IsKept self.new) }
+    {
+        let at = cpu.0 as u64;
+        self.counters.push(Written { at, value })
+    }
+
+    pub(crate) fn put_count(&mut self, at: u64, value: u64) -> Result<(), NoMemory>
+        ensures put { OnOk result
+            (stands_for self.new ≡ with_count (stands_for self.old) at value) }
+        ensures kept { IsKept self.old → OnOk result (IsKept self.new) }
+    {
+        self.counts.push(Written { at, value })
+    }
+
+    pub(crate) fn put_mark(&mut self, at: u64, dead: bool) -> Result<(), NoMemory>
+        ensures put { OnOk result
+            (stands_for self.new ≡ with_mark (stands_for self.old) at dead) }
+        ensures kept { IsKept self.old → OnOk result (IsKept self.new) }
+    {
+        self.dead.push(Marked { at, dead })
+    }
+
+    pub(crate) fn put_turn(&mut self, turn: Option<Turn>)
+        ensures put { stands_for self.new
+            ≡ with_holder (stands_for self.old) (option_map holder_of turn) }
+        ensures kept { IsKept self.old → IsKept self.new }
+    {
+        self.turn = turn;
+    }
 }
 
 /// A configuration of the machine.

@@ -1,22 +1,30 @@
 //! The machine of all interleavings: its configurations and its events, one atomic step each.
 #![tactic(auto)]
 
+mod acts;
 mod bounds;
+mod call_events;
 mod calls;
 mod config;
+mod course;
 mod cpu;
 mod current;
 mod entries;
 mod event;
 mod grace;
 mod holder;
+mod holder_events;
+mod indices;
 mod items;
 mod log;
+mod lookups;
+mod reads;
 mod references;
 mod rising;
 mod sound;
 mod start;
 mod table;
+mod turn_events;
 mod validity;
 mod words;
 
@@ -26,6 +34,7 @@ pub use calls::{
     quit_keeps_calls, take_keeps_calls, undo_keeps_calls, unpin_keeps_calls, words_keep_calls,
 };
 pub use config::Config;
+pub use course::{courses_are_runs, courses_are_sound, courses_end};
 pub use entries::{
     boot_file_has_references, commit_keeps_references, events_keep_state, set_cap_keeps_references,
     start_has_state,
@@ -51,8 +60,9 @@ pub use references::{
 };
 pub use rising::{held_rise, objects_rise};
 pub use sound::{
-    events_keep_sound, given_call_keeps_sound, granted_objects_stay, looks_find_present,
-    reclaims_spare_calls, rest_is_graced, rest_is_legal, revived_index_is_free, runs_are_bounded,
+    counts_fit, events_keep_sound, given_call_keeps_sound, granted_objects_stay,
+    histories_are_short, indices_stay, looks_find_present, reclaims_spare_calls,
+    references_are_few, rest_is_graced, rest_is_legal, revived_index_is_free, runs_are_bounded,
     runs_are_sound, start_is_sound, words_count_references,
 };
 pub use start::start_has_references;

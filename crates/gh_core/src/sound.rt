@@ -1,7 +1,7 @@
 //! Every run from a boot file is sound, and what that means for objects, words and calls. The
 //! functions do nothing; their clauses are laws.
 
-ghost use Rattle.std.specs.Prelude.{◌≡◌, ◌+◌, ◌<◌, ◌≤◌, ℕ, List, [], Some, None, IsSome, IsTrue, false, length, slice_get, true};
+ghost use Rattle.std.specs.Prelude.{◌≡◌, ◌+◌, ◌^◌, ◌<◌, ◌≤◌, ℕ, List, [], Some, None, IsSome, IsTrue, false, length, slice_get, true};
 ghost use Rattle.std.specs.List.{last_or};
 ghost use Rattle.gh_base.specs.declared.errno.Errno.TheVariants.{CapNull, CapRevoked};
 ghost use Rattle.gh_base.specs.declared.frame.Frame.{Frame};
@@ -9,7 +9,7 @@ ghost use Rattle.gh_base.specs.declared.ids.CpuNo.{CpuNo};
 ghost use Rattle.gh_base.specs.declared.ids.ObjIndex.{ObjIndex};
 ghost use Rattle.gh_base.specs.declared.ids.Serial.{Serial};
 ghost use Rattle.gh_base.specs.declared.limits.TheConstants.{OBJECT_INDICES};
-ghost use Rattle.gh_core.specs.Bounded.{FewReferences, IsBounded};
+ghost use Rattle.gh_core.specs.Bounded.{IsBounded, many_references};
 ghost use Rattle.gh_core.specs.Calls.{pinned_looks};
 ghost use Rattle.gh_core.specs.Config.{Config, Current, came_to, pin_of, present};
 ghost use Rattle.gh_core.specs.Events.{Possible, after};
@@ -62,11 +62,24 @@ pub fn runs_are_sound()
         → IsSound (after_steps (start (boot_state lines) index) steps) }
 {}
 
-/// And where no object of the boot has more than 2^62 references, every such list leaves the
-/// references of an object and what is owed at its index within that together.
+/// And leaves the references of an object and what is owed at its index within 2^62 together.
 pub fn runs_are_bounded()
-    ensures { (boot : State) (index : ℕ → ℕ) (steps : List Step) → FewReferences boot index
-        → Runs (start boot index) steps → IsBounded (after_steps (start boot index) steps) }
+    ensures { (lines : List BootLine) (index : ℕ → ℕ) (steps : List Step)
+        → IsTrue (boot_fits lines) → AreIndices (boot_state lines) index
+        → Runs (start (boot_state lines) index) steps
+        → IsBounded (after_steps (start (boot_state lines) index) steps) }
+{}
+
+/// An object has fewer than 131,072 references.
+pub fn references_are_few()
+    ensures { (conf : Config) (serial : ℕ) → IsSound conf
+        → references (present conf) serial < many_references }
+{}
+
+/// And every count of a reference word is below 2^63, so that it and the dead mark fit 64 bits.
+pub fn counts_fit()
+    ensures { (conf : Config) (at : ℕ) → IsSound conf → at < OBJECT_INDICES
+        → conf.count at < 2 ^ 63 }
 {}
 
 /// No history is as long as 12,500,000 entries: neither that of a sound configuration, nor that of any
@@ -79,6 +92,16 @@ pub fn histories_are_short()
         → IsTrue (boot_fits lines) → AreIndices (boot_state lines) index
         → Runs (start (boot_state lines) index) steps
         → length (after_steps (start (boot_state lines) index) steps).history < too_long }
+{}
+
+/// The index of each object that was made stays: over an event, and over any list of steps.
+pub fn indices_stay()
+    ensures event { (conf : Config) (event : Event) (serial : ℕ)
+        → serial < (present conf).next_serial
+        → (after conf event).index serial ≡ conf.index serial }
+    ensures run { (conf : Config) (steps : List Step) (serial : ℕ)
+        → serial < (present conf).next_serial
+        → (after_steps conf steps).index serial ≡ conf.index serial }
 {}
 
 /// The word of a live object that isn't dead is its references, all pins on it and what the holder

@@ -6,14 +6,14 @@ ghost use Rattle.gh_core.specs.Tables.{last_mark, last_number, last_word};
 use gh_base::CapWord;
 
 /// A number that was written at a place.
-#[derive(Clone, Copy, Debug)]
+#[derive(Clone, Copy)]
 pub struct Written {
     pub at: u64,
     pub value: u64,
 }
 
 /// A reference word that was made dead, or came back to life.
-#[derive(Clone, Copy, Debug)]
+#[derive(Clone, Copy)]
 pub struct Marked {
     /// The object index.
     pub at: u64,
@@ -21,7 +21,7 @@ pub struct Marked {
 }
 
 /// A capability word that an entry set.
-#[derive(Clone, Copy, Debug)]
+#[derive(Clone, Copy)]
 pub struct SlotWritten {
     /// The index of the capability space.
     pub space: u64,
@@ -35,7 +35,7 @@ pub(crate) fn last_number(written: &[Written], at: u64) -> Option<u64>
 {
     let mut last = None;
     for number in written {
-        if number.at == at {
+        if at == number.at {
             last = Some(number.value);
         }
     }
@@ -48,7 +48,7 @@ pub(crate) fn last_mark(marked: &[Marked], at: u64) -> Option<bool>
 {
     let mut last = None;
     for mark in marked {
-        if mark.at == at {
+        if at == mark.at {
             last = Some(mark.dead);
         }
     }
@@ -61,7 +61,7 @@ pub(crate) fn last_word(written: &[SlotWritten], space: u64, slot: u64) -> Optio
 {
     let mut last = None;
     for word in written {
-        if word.space == space && word.slot == slot {
+        if space == word.space && slot == word.slot {
             last = Some(word.word);
         }
     }

@@ -1,5 +1,5 @@
 -- The law is the lemma.
-use Rattle.gh_core.proofs.SoundRest.{rest_agrees, rest_idle, rest_numbered}
+use Rattle.gh_core.proofs.SoundRest.{rest_agrees, rest_idle, rest_legal, rest_numbered}
 use Rattle.gh_core.proofs.sound.rest_is_legal.Goals as goal
 
 pub returns-clause-agree : goal.returns-clause-agree
@@ -12,11 +12,4 @@ pub returns-clause-idle : goal.returns-clause-idle
 returns-clause-idle c = λ conf cpu sound rest none. rest_idle conf sound rest cpu none
 
 pub returns-clause-legal : goal.returns-clause-legal
-returns-clause-legal c = λ conf sound rest exits. record {
-  agree = rest_agrees conf sound rest;
-  whole = record {
-    numbered = λ cpu. rest_numbered conf sound rest cpu;
-    exits = exits;
-    cpus = λ cpu none. rest_idle conf sound rest cpu none;
-  };
-}
+returns-clause-legal c = λ conf sound rest exits. rest_legal conf sound rest exits

@@ -1,0 +1,45 @@
+-- A row that is found, once the first that passes the test is changed.
+use Rattle.std.proofs.Common.{◌≡◌, ◌∙◌, ◌⊎◌, inl, inr, Bool, true, false, List, [], ◌∷◌, refl, sym, ap, Option, Some, None, find, option_map, length, position, nat_lt, if◌then◌else◌}
+use Rattle.std.specs.List.{position_or_len}
+use Rattle.std.proofs.lemmas.List.Folds.{find_at}
+use Rattle.std.proofs.lemmas.Option.{slice_get_past}
+use Rattle.std.proofs.lemmas.Bool.{cases_Bool, ltb-false}
+use Rattle.gh_invariant.proofs.Counting.{find_here, find_later}
+use Rattle.gh_model.proofs.ChangedRows.{change_here, change_later}
+use Rattle.gh_model.specs.Rows.{change_row}
+
+passing_by : {R : Type 0} (test : R → Bool) (change : R → R) (row : R) (rows : List R)
+    → (test row ≡ true) ⊎ (test row ≡ false) → (test row ≡ true → test (change row) ≡ true)
+    → find test (change_row test change rows) ≡ option_map change (find test rows)
+    → find test (change_row test change (row ∷ rows)) ≡ option_map change (find test (row ∷ rows))
+passing_by test change row rows (inl here) kept others =
+    ap (find test) (change_here test change row rows here)
+    ∙ find_here test (change row) rows (kept here)
+    ∙ sym (ap (option_map change) (find_here test row rows here))
+passing_by test change row rows (inr later) kept others =
+    ap (find test) (change_later test change row rows later)
+    ∙ find_later test row (change_row test change rows) later
+    ∙ others
+    ∙ sym (ap (option_map change) (find_later test row rows later))
+
+-- a row that is found is found changed, where the change leaves the rows that pass passing
+pub find_changed_passing : {R : Type 0} (test : R → Bool) (change : R → R) (rows : List R)
+    → ((row : R) → test row ≡ true → test (change row) ≡ true)
+    → find test (change_row test change rows) ≡ option_map change (find test rows)
+find_changed_passing test change [] kept = refl
+find_changed_passing test change (row ∷ rows) kept =
+    passing_by test change row rows (cases_Bool (test row)) (kept row)
+    (find_changed_passing test change rows kept)
+
+unplaced_by : {R : Type 0} (test : R → Bool) (rows : List R) (below : Bool)
+    → nat_lt (position_or_len test rows) (length rows) ≡ below
+    → (if below then Some (position_or_len test rows) else None) ≡ None → find test rows ≡ None
+unplaced_by test rows true is none = absurd (let never : ⊥ = cc in never)
+unplaced_by test rows false is none =
+    find_at test rows ∙ slice_get_past rows (position_or_len test rows) (ltb-false _ _ is)
+
+-- what has no place isn't found
+pub unplaced_none : {R : Type 0} (test : R → Bool) (rows : List R) → position test rows ≡ None
+    → find test rows ≡ None
+unplaced_none test rows none =
+    unplaced_by test rows (nat_lt (position_or_len test rows) (length rows)) refl none

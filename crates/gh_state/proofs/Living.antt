@@ -1,0 +1,50 @@
+-- What lives is found in the parts.
+use Rattle.std.proofs.Common.{◌≡◌, ◌<◌, ◌≤◌, ◌∙◌, ℕ, Bool, true, List, Option, Some, None, refl, sym, ap, subst, arith, inl, inr, find, is_some, length, IsTrue}
+use Rattle.std.specs.Option.{option_map}
+use Rattle.std.proofs.lemmas.Bool.{cases_lt}
+use Rattle.std.proofs.lemmas.List.{get_or_past}
+use Rattle.gh_base.specs.declared.kind.Kind.{Kind}
+use Rattle.gh_base.specs.declared.limits.TheConstants.{OBJECT_INDICES}
+use Rattle.gh_invariant.specs.Lives.{lives_as}
+use Rattle.gh_model.specs.Boot.{is_of_kind}
+use Rattle.gh_model.specs.Rows.{is_object}
+use Rattle.gh_model.specs.declared.rows.ObjectRow.{ObjectRow}
+use Rattle.gh_objects.specs.Headers.{header_at}
+use Rattle.gh_objects.specs.declared.header.Header.{Header}
+use Rattle.gh_state.specs.Index.{index_of}
+use Rattle.gh_state.specs.Stands.{ObjectsStand, header_of}
+use Rattle.gh_state.specs.declared.shares.Place.{Place}
+
+-- what is there, with what it is
+pub record There {X : Type 0} (found : Option X) : Type 0 where
+  pub it : X
+  pub is : found ≡ Some it
+
+pub there : {X : Type 0} (found : Option X) → is_some found ≡ true → There found
+there None some = absurd (let never : ⊥ = cc in never)
+there (Some x) some = record { it = x; is = refl }
+
+pub kind_there : (k : Kind) (found : Option ObjectRow) → IsTrue (is_of_kind k found) → There found
+kind_there k None is = absurd (let never : ⊥ = cc in never)
+kind_there k (Some row) is = record { it = row; is = refl }
+
+never_past : (headers : List (Option Header)) (row : ObjectRow) (index : ℕ)
+    → header_at headers index ≡ Some (header_of headers row) → length headers ≤ index → ⊥
+never_past headers row index is past =
+    let none : header_at headers index ≡ None = get_or_past headers index None past in
+    let never : ⊥ = cc in
+    never
+
+-- a live object has an index
+pub index_below : (headers : List (Option Header)) (shares : List (List Place))
+    (retirements : List (Option (List ℕ))) (objects : List ObjectRow)
+    → ObjectsStand headers shares retirements objects → (serial : ℕ) (row : ObjectRow)
+    → find (is_object serial) objects ≡ Some row → index_of headers serial < OBJECT_INDICES
+index_below headers shares retirements objects stand serial row is =
+    elim (cases_lt (index_of headers serial) OBJECT_INDICES) [
+      | inl below ↦ below
+      | inr past ↦
+          absurd (never_past headers row (index_of headers serial)
+          (stand.each serial ∙ ap (option_map (header_of headers)) is)
+          (omega (arith, stand.indexed.indices)))
+    ]

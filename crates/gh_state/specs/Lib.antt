@@ -1,0 +1,10 @@
+pub mod Bodies
+pub mod BodyChanges
+pub mod Index
+pub mod Making
+pub mod NumberChanges
+pub mod Owing
+pub mod Shares
+pub mod SlotChanges
+pub mod Slots
+pub mod Stands

@@ -1,0 +1,21 @@
+//! The locked state: the parts of the hypervisor, which show the rows of the state, and the changes
+//! of them in place.
+#![tactic(auto)]
+
+mod bells;
+mod body;
+mod capabilities;
+mod counts;
+mod cpus;
+mod journal;
+mod objects;
+mod parts;
+mod queues;
+mod shares;
+mod slots;
+
+pub use body::Body;
+pub use journal::{Account, Journal, Memory};
+pub use parts::Parts;
+pub use shares::{Place, Share, Shares};
+pub use slots::Slots;

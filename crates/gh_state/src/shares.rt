@@ -1,0 +1,93 @@
+//! The shares of the partition places: what the objects of each have beside their headers.
+
+ghost use Rattle.std.specs.Prelude.{◌≡◌, ◌<◌, length};
+ghost use Rattle.gh_state.specs.Shares.{AreShares, body_at, place_in};
+ghost use Rattle.gh_state.specs.Shares.{with_body, with_body_in};
+
+use crate::body::Body;
+use gh_base::{OBJECT_INDICES, ObjIndex, PARTITION_PLACES};
+use std::marker::Model;
+use std::mem;
+
+/// What an object has beside its header.
+#[derive(Debug, Drop)]
+pub struct Place {
+    /// Units.
+    pub cost: u16,
+    pub body: Body,
+}
+
+/// What belongs to the objects of one partition place, by their places there.
+#[derive(Debug, Drop)]
+pub struct Share {
+    places: Vec<Place>,
+}
+
+impl Model for Share {
+    ghost use Rattle.std.specs.Prelude.{List};
+    ghost use Rattle.gh_state.specs.declared.shares.Place.{Place};
+
+    ghost Value = { List Place };
+
+    ghost view = { λ s. s.places.items };
+}
+
+/// The shares of all partition places. No call but `new` takes memory.
+#[derive(Debug, Drop)]
+pub struct Shares {
+    shares: Vec<Share>,
+}
+
+impl Model for Shares {
+    ghost use Rattle.std.specs.Prelude.{List};
+    ghost use Rattle.gh_state.specs.declared.shares.Place.{Place};
+    ghost use Rattle.gh_state.specs.Shares.{AreShares};
+
+    ghost Value = { List (List Place) };
+
+    ghost view = { λ s. s.shares.items };
+
+    ghost invariant = { λ s. AreShares s.shares.items };
+}
+
+impl Share {
+    /// Puts another body to a place, and answers the one that was there.
+    fn exchange(&mut self, at: usize, body: Body) -> Body
+        requires { at < length self.old }
+        ensures before { result ≡ (place_in self.old at).body }
+        ensures put { self.new ≡ with_body_in self.old at body }
+    {
+        mem::replace(&mut self.places[at].body, body)
+    }
+}
+
+impl Shares {
+    /// Puts another body to an index, and answers the one that was there.
+    fn exchange(&mut self, index: ObjIndex, body: Body) -> Body
+        requires { index.0 < OBJECT_INDICES }
+        ensures before { result ≡ body_at self.old index.0 }
+        ensures put { self.new ≡ with_body self.old index.0 body }
+    {
+        let index = index.0 as usize;
+        self.shares[index / PARTITION_PLACES].exchange(index % PARTITION_PLACES, body)
+    }
+
+    /// Takes the body from an index, to be put back there changed.
+    pub fn take(&mut self, index: ObjIndex) -> Body
+        requires { index.0 < OBJECT_INDICES }
+        ensures before { result ≡ body_at self.old index.0 }
+        ensures taken { self.new ≡ with_body self.old index.0 Body.Nothing }
+        ensures shares { AreShares self.old }
+    {
+        let _ = &self.shares;
+        self.exchange(index, Body::Nothing)
+    }
+
+    /// Puts a body to an index.
+    pub fn put(&mut self, index: ObjIndex, body: Body)
+        requires { index.0 < OBJECT_INDICES }
+        ensures { self.new ≡ with_body self.old index.0 body }
+    {
+        let _ = self.exchange(index, body);
+    }
+}
