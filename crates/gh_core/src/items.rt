@@ -3,7 +3,6 @@
 
 ghost use Rattle.std.specs.Prelude.{◌≡◌, ◌<◌, ℕ, List, Some, None, true};
 ghost use Rattle.gh_base.specs.declared.limits.TheConstants.{CPUS};
-ghost use Rattle.gh_core.specs.Committing.{HasFewReferences};
 ghost use Rattle.gh_core.specs.Config.{Config, Current, Holder, IsBetween, present};
 ghost use Rattle.gh_core.specs.Items.{HasFreeIndex, act, item, judged_in};
 ghost use Rattle.gh_core.specs.Sound.{IsSound};
@@ -35,12 +34,10 @@ pub fn call_items_are_possible()
 /// behind the sweep. Each object that is retired or without references then has what holds it: the
 /// count that a failed kill saw, or the first CPU that still has its odd counter of the retirement.
 pub fn sweeps_are_possible()
-    ensures possible { (conf : Config) (at : ℕ) → IsSound conf → HasFewReferences conf.boot
-        → at < CPUS → HasNotBegun conf at → AreDone conf (sweep at conf) }
-    ensures begins { (conf : Config) (at : ℕ) → IsSound conf → HasFewReferences conf.boot
-        → at < CPUS → HasNotBegun conf at → HasNotBegun (after_all conf (sweep at conf)) at }
+    ensures possible { (conf : Config) (at : ℕ) → IsSound conf → at < CPUS → HasNotBegun conf at → AreDone conf (sweep at conf) }
+    ensures begins { (conf : Config) (at : ℕ) → IsSound conf → at < CPUS → HasNotBegun conf at → HasNotBegun (after_all conf (sweep at conf)) at }
     ensures held { (conf : Config) (at : ℕ) (holder : Holder) → IsSound conf
-        → HasFewReferences conf.boot → at < CPUS → HasNotBegun conf at → KeepsNine conf.history
+        → at < CPUS → HasNotBegun conf at → KeepsNine conf.history
         → (after_all conf (sweep at conf)).turn ≡ Some holder
         → has_causes holder (present (after_all conf (sweep at conf))) ≡ true }
 {}
@@ -51,26 +48,26 @@ pub fn sweeps_are_possible()
 /// its act is judged. The CPU is between calls then, and the turn is free again.
 pub fn acts_are_possible()
     ensures possible { (conf : Config) (at : ℕ) (call : Current) → IsSound conf
-        → HasFewReferences conf.boot → KeepsNine conf.history → at < CPUS → conf.turn ≡ None
+        → KeepsNine conf.history → at < CPUS → conf.turn ≡ None
         → ready (conf.cpu at) ≡ Some call → HasFreeIndex (judged_in conf at) at
         → AreDone conf (act at conf) }
     ensures between { (conf : Config) (at : ℕ) (call : Current) → IsSound conf
-        → HasFewReferences conf.boot → KeepsNine conf.history → at < CPUS → conf.turn ≡ None
+        → KeepsNine conf.history → at < CPUS → conf.turn ≡ None
         → ready (conf.cpu at) ≡ Some call → HasFreeIndex (judged_in conf at) at
         → IsBetween ((after_all conf (act at conf)).cpu at) }
     ensures free { (conf : Config) (at : ℕ) (call : Current) → IsSound conf
-        → HasFewReferences conf.boot → KeepsNine conf.history → at < CPUS → conf.turn ≡ None
+        → KeepsNine conf.history → at < CPUS → conf.turn ≡ None
         → ready (conf.cpu at) ≡ Some call → HasFreeIndex (judged_in conf at) at
         → (after_all conf (act at conf)).turn ≡ None }
 {}
 
 /// So with a free turn the next item of every CPU is possible, and the turn is free again behind it.
 pub fn items_are_possible()
-    ensures possible { (conf : Config) (at : ℕ) → IsSound conf → HasFewReferences conf.boot
+    ensures possible { (conf : Config) (at : ℕ) → IsSound conf
         → KeepsNine conf.history → at < CPUS → conf.turn ≡ None
         → ((call : Current) → ready (conf.cpu at) ≡ Some call → HasFreeIndex (judged_in conf at) at)
         → AreDone conf (item conf at) }
-    ensures free { (conf : Config) (at : ℕ) → IsSound conf → HasFewReferences conf.boot
+    ensures free { (conf : Config) (at : ℕ) → IsSound conf
         → KeepsNine conf.history → at < CPUS → conf.turn ≡ None
         → ((call : Current) → ready (conf.cpu at) ≡ Some call → HasFreeIndex (judged_in conf at) at)
         → (after_all conf (item conf at)).turn ≡ None }
