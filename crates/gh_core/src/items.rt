@@ -1,15 +1,19 @@
 //! The items of a call: each is possible where its turn comes. The functions do nothing; their
 //! clauses are laws.
 
-ghost use Rattle.std.specs.Prelude.{◌≡◌, ◌<◌, ℕ, List, Some, None, true};
+ghost use Rattle.std.specs.Prelude.{◌≡◌, ◌<◌, ℕ, List, Some, None, IsTrue, true};
 ghost use Rattle.gh_base.specs.declared.limits.TheConstants.{CPUS};
 ghost use Rattle.gh_core.specs.Config.{Config, Current, Holder, IsBetween, present};
+ghost use Rattle.gh_core.specs.Indices.{boot_index};
 ghost use Rattle.gh_core.specs.Items.{HasFreeIndex, act, item, judged_in};
 ghost use Rattle.gh_core.specs.Sound.{IsSound};
+ghost use Rattle.gh_core.specs.Start.{AreIndices};
 ghost use Rattle.gh_core.specs.Sweep.{HasNotBegun, KeepsNine, sweep};
 ghost use Rattle.gh_core.specs.Trace.{AreDone, after_all};
 ghost use Rattle.gh_core.specs.TurnEvents.{has_causes, ready};
 ghost use Rattle.gh_core.specs.declared.event.Event.{Event};
+ghost use Rattle.gh_model.specs.Boot.{boot_fits, boot_state};
+ghost use Rattle.gh_model.specs.declared.boot_line.BootLine.{BootLine};
 
 /// Events that are each possible where they come keep a sound configuration, and nine counters on
 /// each entry that keeps counters.
@@ -71,4 +75,11 @@ pub fn items_are_possible()
         → KeepsNine conf.history → at < CPUS → conf.turn ≡ None
         → ((call : Current) → ready (conf.cpu at) ≡ Some call → HasFreeIndex (judged_in conf at) at)
         → (after_all conf (item conf at)).turn ≡ None }
+{}
+
+/// The objects of each boot file have indices, each its own: 128 times the place of its partition
+/// among the boot's, and the number of earlier objects of that partition.
+pub fn boot_objects_have_indices()
+    ensures { (lines : List BootLine) → IsTrue (boot_fits lines)
+        → AreIndices (boot_state lines) (boot_index (boot_state lines)) }
 {}
