@@ -19,7 +19,7 @@ use Rattle.gh_model.specs.declared.entry.Entry.TheVariants.{Acted}
 use Rattle.gh_model.specs.declared.rows.ObjectRow.{ObjectRow}
 use Rattle.gh_model.specs.declared.state.State.{State}
 use Rattle.gh_invariant.specs.Events.{changes_of}
-use Rattle.gh_core.specs.Committing.{HasFewReferences, added, committing, cpu_no}
+use Rattle.gh_core.specs.Committing.{added, committing, cpu_no}
 use Rattle.gh_core.specs.Config.{Config, Current, Holder, entries, has_acted, has_part, judged, present}
 use Rattle.gh_core.specs.Entries.{logged}
 use Rattle.gh_core.specs.HolderEvents.{is_done}
@@ -199,7 +199,7 @@ module _ (at : ℕ) (call : Current) where
 
 -- the whole act
 
-module _ (conf : Config) (at : ℕ) (sound : IsSound conf) (few : HasFewReferences conf.boot)
+module _ (conf : Config) (at : ℕ) (sound : IsSound conf)
     (nine : KeepsNine conf.history) (is_cpu : at < CPUS) (free : conf.turn ≡ None) (call : Current)
     (is : ready (conf.cpu at) ≡ Some call) (frees : HasFreeIndex (judged_in conf at) at) where
   abbrev Taken : Config
@@ -212,7 +212,7 @@ module _ (conf : Config) (at : ℕ) (sound : IsSound conf) (few : HasFewReferenc
   begins = take_begins conf at sound is_cpu free call is
 
   prepared : Leads Taken (preparing at Taken) (λ new. IsPrepared new at begins.call)
-  prepared = preparing_leads at begins.call Taken (is_sweeping Taken at taken_sound few is_cpu begins) nine
+  prepared = preparing_leads at begins.call Taken (is_sweeping Taken at taken_sound is_cpu begins) nine
 
   Judged : Config → Type 0
   Judged new = IsPrepared new at begins.call × (new ≡ after_all Taken (preparing at Taken))

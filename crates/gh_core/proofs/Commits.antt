@@ -24,7 +24,7 @@ use Rattle.gh_invariant.specs.Valid.{IsValid}
 use Rattle.gh_invariant.proofs.Counting.{count_cons}
 use Rattle.gh_invariant.proofs.EventWords.{event_sets_few}
 use Rattle.gh_invariant.proofs.EventsKept.{event_valid}
-use Rattle.gh_core.specs.Committing.{HasFewReferences, commits, commits_of, committing, cpu_no, entry_event, gains_owed, index_no, is_made, losses_settled, owe, revives, settle, slot_word, with_new, added}
+use Rattle.gh_core.specs.Committing.{commits, commits_of, committing, cpu_no, entry_event, gains_owed, index_no, is_made, losses_settled, owe, revives, settle, slot_word, with_new, added}
 use Rattle.gh_base.specs.CapWord.{object_of}
 use Rattle.gh_model.specs.Word.{word_at}
 use Rattle.gh_core.specs.Config.{AtAct, Config, Current, HasTurn, Holder, IsIn, OwesNothing, live_references, present, put, references_at}
@@ -120,7 +120,6 @@ allows_owed conf at entry holder call count owed allows = record {
 -- the holder's call is at its act, and the holder owes nothing and revived nothing
 pub record IsActive (conf : Config) (at : ℕ) (holder : Holder) (call : Current) : Type 0 where
   pub sound : IsSound conf
-  pub few : HasFewReferences conf.boot
   pub is_cpu : at < CPUS
   pub has_turn : HasTurn conf at holder
   pub in_act : IsIn (conf.cpu at) call AtAct
@@ -232,7 +231,7 @@ module _ (conf : Config) (at : ℕ) (entry : Entry) (holder : Holder) (call : Cu
       omega (
         arith,
         active.owes_nothing i,
-        live_few conf active.sound active.few i,
+        live_few conf active.sound i,
         length_filtered (is_made s.next_serial) (gained s changes),
         event_gains_few s (logged entry call),
       )

@@ -1,5 +1,5 @@
--- How many references an object can have: an entry gives six at most, so a history that is short
--- leaves few.
+-- An entry gives six references at most, and in a sound configuration the references at each index
+-- are few.
 use Rattle.std.proofs.Common.{◌≡◌, ◌==◌, ◌+◌, ◌*◌, ◌^◌, ◌<◌, ◌≤◌, ◌∙◌, ◌⊎◌, inl, inr, ℕ, Bool, true, false, List, [], ◌∷◌, ◌++◌, refl, subst, sym, ap, arith, IsTrue, find, length, length-append, Option, Some, None, if◌then◌else◌}
 use Rattle.std.specs.Prelude.{◌&&◌, count_by, nat_le}
 use Rattle.std.specs.List.{list_all}
@@ -30,15 +30,14 @@ use Rattle.gh_invariant.proofs.Counting.{count_cons}
 use Rattle.gh_invariant.proofs.EventWords.{event_of_calls}
 use Rattle.gh_invariant.proofs.EventsKept.{event_valid}
 use Rattle.gh_invariant.proofs.SetsOne.{is_of_calls, keeps_objects}
-use Rattle.gh_core.specs.Committing.{HasFewReferences}
 use Rattle.gh_core.specs.Config.{Config, live_references, object_at, present}
-use Rattle.gh_core.specs.Length.{too_long}
+use Rattle.gh_core.specs.Bounded.{many_references}
 use Rattle.gh_core.specs.Sound.{IsSound}
 use Rattle.gh_core.proofs.CallMakes.{Makes, decision_makes, is_few, keeps_few}
 use Rattle.gh_core.proofs.EntryMoves.{there_lives}
 use Rattle.gh_core.proofs.EntryBalance.{lives_some}
 use Rattle.gh_core.proofs.EntryReferences.{event_moved}
-use Rattle.gh_core.proofs.LengthBound.{history_is_short}
+use Rattle.gh_core.proofs.FewReferences.{present_references}
 
 -- gains of changes
 
@@ -125,36 +124,14 @@ pub event_gains_few : (s : State) (event : Event) → length (gained s (changes_
 event_gains_few s event =
     omega (arith, gained_few s (changes_of s event) (event_of_calls s event), changes_few s event event.entry)
 
--- references behind a history
+-- the references at an index are few
 
-replay_few : (s : State) (events : List Event) (object : ℕ) → 0 < object → IsValid s → EventsFit s events
-    → references (replay s events) object ≤ references s object + 6 * length events
-replay_few s [] object some valid fit = omega arith
-replay_few s (event ∷ events) object some valid fit =
-    omega (
-      arith,
-      event_moved s event object valid fit.first some,
-      event_gains_few s event,
-      count_by-le-length (is_that object) (gained s (changes_of s event)),
-      replay_few (after_event s event) events object some (event_valid s event valid fit.first) fit.others,
-    )
-
-module _ (conf : Config) (sound : IsSound conf) (few : HasFewReferences conf.boot) where
+module _ (conf : Config) (sound : IsSound conf) where
   live_few_by : (at : ℕ) (found : Option ObjectRow) → object_at (present conf) conf.index at ≡ found
-      → option_map_or (λ (row : ObjectRow). references (present conf) row.serial.0) found 0 ≤ 2 ^ 61 + 75_000_000
+      → option_map_or (λ (row : ObjectRow). references (present conf) row.serial.0) found 0 ≤ many_references
   live_few_by at None is = omega arith
   live_few_by at (Some row) is =
-      let some : 0 < row.serial.0 = lives_some (present conf) sound.valid.valid row.serial.0 (there_lives (present conf) conf.index at row is) in
-      omega (
-        arith,
-        replay_few conf.boot conf.history row.serial.0 some sound.valid.boot_valid sound.valid.events_fit,
-        few row.serial.0,
-        short,
-      )
-    where
-      short : length conf.history < 12_500_000
-      short = history_is_short conf sound.long sound.calls
+      omega (arith, present_references conf sound.valid.valid sound.state sound.references.placed sound.bound.few_cpus sound.bound.few_links row.serial.0)
 
-  -- the references at an index are few
-  pub live_few : (at : ℕ) → live_references conf at ≤ 2 ^ 61 + 75_000_000
+  pub live_few : (at : ℕ) → live_references conf at ≤ many_references
   live_few at = live_few_by at (object_at (present conf) conf.index at) refl

@@ -85,6 +85,7 @@ pub mod PartItems
 pub mod PinCalls
 pub mod PinKeeps
 pub mod Places
+pub mod Ranks
 pub mod RetiredSince
 pub mod ReviveKeeps
 pub mod Revokes

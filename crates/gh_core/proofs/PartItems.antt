@@ -177,7 +177,6 @@ module _ (conf : Config) (at : ℕ) (call : Current) (revoking : IsRevoking conf
           holder = entered_by holder entry holder.revived owed;
           active = record {
             sound = sound;
-            few = revoking.judged.active.few;
             is_cpu = revoking.judged.active.is_cpu;
             has_turn = record { turn = refl; its_cpu = revoking.judged.active.has_turn.its_cpu };
             in_act = revoking.judged.active.in_act;

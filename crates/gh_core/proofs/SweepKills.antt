@@ -75,7 +75,6 @@ scanned_on conf at call sweeping new has =
         holder = with_scans sweeping.holder has.seen;
         active = record {
           sound = subst IsSound has.is has.sound;
-          few = sweeping.active.few;
           is_cpu = sweeping.active.is_cpu;
           has_turn = record { turn = refl; its_cpu = sweeping.active.has_turn.its_cpu };
           in_act = sweeping.active.in_act;
@@ -206,7 +205,6 @@ module _ (at : ℕ) (call : Current) (serial : Serial) where
             holder = with_scans dying.holder has.seen;
             active = record {
               sound = subst IsSound has.is has.sound;
-              few = dying.active.few;
               is_cpu = dying.active.is_cpu;
               has_turn = record { turn = refl; its_cpu = dying.active.has_turn.its_cpu };
               in_act = dying.active.in_act;
@@ -358,7 +356,6 @@ module _ (conf : Config) (at : ℕ) (call : Current) (serial : Serial) (scanned 
         holder = without_scans holder;
         active = record {
           sound = sound;
-          few = scanned.sweeping.active.few;
           is_cpu = scanned.sweeping.active.is_cpu;
           has_turn = record { turn = refl; its_cpu = scanned.sweeping.active.has_turn.its_cpu };
           in_act = scanned.sweeping.active.in_act;
@@ -391,7 +388,6 @@ module _ (conf : Config) (at : ℕ) (call : Current) (serial : Serial) (scanned 
           holder = seen_holder;
           active = record {
             sound = sound;
-            few = scanned.sweeping.active.few;
             is_cpu = scanned.sweeping.active.is_cpu;
             has_turn = record { turn = refl; its_cpu = scanned.sweeping.active.has_turn.its_cpu };
             in_act = scanned.sweeping.active.in_act;

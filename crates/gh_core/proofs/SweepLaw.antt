@@ -1,7 +1,6 @@
 -- The law of the sweep.
 use Rattle.std.proofs.Common.{◌≡◌, ◌<◌, ◌∙◌, ℕ, true, refl, subst, sym, ap, Option, Some}
 use Rattle.gh_base.specs.declared.limits.TheConstants.{CPUS}
-use Rattle.gh_core.specs.Committing.{HasFewReferences}
 use Rattle.gh_core.specs.Config.{Config, Holder, present}
 use Rattle.gh_core.specs.Sound.{IsSound}
 use Rattle.gh_core.specs.Sweep.{HasNotBegun, KeepsNine, sweep}
@@ -13,14 +12,12 @@ use Rattle.gh_core.proofs.SweepSteps.{IsScanned, IsSweeping}
 use Rattle.gh_core.proofs.TraceLaws.{Leads}
 use Rattle.gh_core.proofs.TraceSound.{trace_nine}
 
-module _ (conf : Config) (at : ℕ) (sound : IsSound conf) (few : HasFewReferences conf.boot)
-    (is_cpu : at < CPUS) (begins : HasNotBegun conf at) where
+module _ (conf : Config) (at : ℕ) (sound : IsSound conf) (is_cpu : at < CPUS) (begins : HasNotBegun conf at) where
   pub is_sweeping : IsSweeping conf at begins.call
   is_sweeping = record {
     holder = begins.holder;
     active = record {
       sound = sound;
-      few = few;
       is_cpu = is_cpu;
       has_turn = begins.has_turn;
       in_act = begins.in_act;

@@ -159,7 +159,6 @@ module _ (conf : Config) (at : ℕ) (call : Current) (entry : Entry) (holder : H
     holder = entered_by holder entry holder.revived committed.owed;
     active = record {
       sound = subst IsSound committed.is committed.sound;
-      few = active.few;
       is_cpu = active.is_cpu;
       has_turn = record { turn = refl; its_cpu = active.has_turn.its_cpu };
       in_act = active.in_act;

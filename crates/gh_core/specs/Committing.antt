@@ -1,13 +1,12 @@
 -- How the holder commits an entry: what gets a reference is owed one before the entry, and what
 -- loses one is owed it behind the entry until it is settled.
-use Rattle.std.specs.Prelude.{◌≤◌, ◌^◌, ℕ, Bool, true, List, [], ◌∷◌, ◌++◌, Option, Some, None, filter, map, nat_lt}
+use Rattle.std.specs.Prelude.{ℕ, Bool, true, List, [], ◌∷◌, ◌++◌, Option, Some, None, filter, map, nat_lt}
 use Rattle.gh_base.specs.declared.cap_word.CapWord.{CapWord}
 use Rattle.gh_base.specs.declared.ids.CpuNo.{CpuNo}
 use Rattle.gh_base.specs.declared.ids.ObjIndex.{ObjIndex}
 use Rattle.gh_base.specs.declared.ids.Serial.{Serial}
 use Rattle.gh_invariant.specs.Effects.{gained, lost, times}
 use Rattle.gh_invariant.specs.Events.{changes_of}
-use Rattle.gh_model.specs.References.{references}
 use Rattle.gh_model.specs.Word.{word_at}
 use Rattle.gh_model.specs.declared.change.Change.{Change}
 use Rattle.gh_model.specs.declared.change.Change.TheVariants.{AddObject}
@@ -19,11 +18,6 @@ use Rattle.gh_core.specs.Entries.{logged, next_state, shown, slot_set}
 use Rattle.gh_core.specs.Indices.{new_index}
 use Rattle.gh_core.specs.declared.event.Event.{Event}
 use Rattle.gh_core.specs.declared.event.Event.TheVariants.{Commit, Pin, Revive, SetCap, Unpin}
-
--- no object of the boot has more than 2^61 references: so with those of the entries there is room to
--- owe more
-abbrev pub HasFewReferences : State → Type 0
-HasFewReferences boot = (serial : ℕ) → references boot serial ≤ 2 ^ 61
 
 abbrev pub cpu_no : ℕ → CpuNo
 cpu_no at = record { 0 = at }

@@ -1,16 +1,19 @@
 //! The items of a call: each is possible where its turn comes. The functions do nothing; their
 //! clauses are laws.
 
-ghost use Rattle.std.specs.Prelude.{◌≡◌, ◌<◌, ℕ, List, Some, None, true};
+ghost use Rattle.std.specs.Prelude.{◌≡◌, ◌<◌, ℕ, List, Some, None, IsTrue, true};
 ghost use Rattle.gh_base.specs.declared.limits.TheConstants.{CPUS};
-ghost use Rattle.gh_core.specs.Committing.{HasFewReferences};
 ghost use Rattle.gh_core.specs.Config.{Config, Current, Holder, IsBetween, present};
+ghost use Rattle.gh_core.specs.Indices.{boot_index};
 ghost use Rattle.gh_core.specs.Items.{HasFreeIndex, act, item, judged_in};
 ghost use Rattle.gh_core.specs.Sound.{IsSound};
+ghost use Rattle.gh_core.specs.Start.{AreIndices};
 ghost use Rattle.gh_core.specs.Sweep.{HasNotBegun, KeepsNine, sweep};
 ghost use Rattle.gh_core.specs.Trace.{AreDone, after_all};
 ghost use Rattle.gh_core.specs.TurnEvents.{has_causes, ready};
 ghost use Rattle.gh_core.specs.declared.event.Event.{Event};
+ghost use Rattle.gh_model.specs.Boot.{boot_fits, boot_state};
+ghost use Rattle.gh_model.specs.declared.boot_line.BootLine.{BootLine};
 
 /// Events that are each possible where they come keep a sound configuration, and nine counters on
 /// each entry that keeps counters.
@@ -35,12 +38,10 @@ pub fn call_items_are_possible()
 /// behind the sweep. Each object that is retired or without references then has what holds it: the
 /// count that a failed kill saw, or the first CPU that still has its odd counter of the retirement.
 pub fn sweeps_are_possible()
-    ensures possible { (conf : Config) (at : ℕ) → IsSound conf → HasFewReferences conf.boot
-        → at < CPUS → HasNotBegun conf at → AreDone conf (sweep at conf) }
-    ensures begins { (conf : Config) (at : ℕ) → IsSound conf → HasFewReferences conf.boot
-        → at < CPUS → HasNotBegun conf at → HasNotBegun (after_all conf (sweep at conf)) at }
+    ensures possible { (conf : Config) (at : ℕ) → IsSound conf → at < CPUS → HasNotBegun conf at → AreDone conf (sweep at conf) }
+    ensures begins { (conf : Config) (at : ℕ) → IsSound conf → at < CPUS → HasNotBegun conf at → HasNotBegun (after_all conf (sweep at conf)) at }
     ensures held { (conf : Config) (at : ℕ) (holder : Holder) → IsSound conf
-        → HasFewReferences conf.boot → at < CPUS → HasNotBegun conf at → KeepsNine conf.history
+        → at < CPUS → HasNotBegun conf at → KeepsNine conf.history
         → (after_all conf (sweep at conf)).turn ≡ Some holder
         → has_causes holder (present (after_all conf (sweep at conf))) ≡ true }
 {}
@@ -51,27 +52,34 @@ pub fn sweeps_are_possible()
 /// its act is judged. The CPU is between calls then, and the turn is free again.
 pub fn acts_are_possible()
     ensures possible { (conf : Config) (at : ℕ) (call : Current) → IsSound conf
-        → HasFewReferences conf.boot → KeepsNine conf.history → at < CPUS → conf.turn ≡ None
+        → KeepsNine conf.history → at < CPUS → conf.turn ≡ None
         → ready (conf.cpu at) ≡ Some call → HasFreeIndex (judged_in conf at) at
         → AreDone conf (act at conf) }
     ensures between { (conf : Config) (at : ℕ) (call : Current) → IsSound conf
-        → HasFewReferences conf.boot → KeepsNine conf.history → at < CPUS → conf.turn ≡ None
+        → KeepsNine conf.history → at < CPUS → conf.turn ≡ None
         → ready (conf.cpu at) ≡ Some call → HasFreeIndex (judged_in conf at) at
         → IsBetween ((after_all conf (act at conf)).cpu at) }
     ensures free { (conf : Config) (at : ℕ) (call : Current) → IsSound conf
-        → HasFewReferences conf.boot → KeepsNine conf.history → at < CPUS → conf.turn ≡ None
+        → KeepsNine conf.history → at < CPUS → conf.turn ≡ None
         → ready (conf.cpu at) ≡ Some call → HasFreeIndex (judged_in conf at) at
         → (after_all conf (act at conf)).turn ≡ None }
 {}
 
 /// So with a free turn the next item of every CPU is possible, and the turn is free again behind it.
 pub fn items_are_possible()
-    ensures possible { (conf : Config) (at : ℕ) → IsSound conf → HasFewReferences conf.boot
+    ensures possible { (conf : Config) (at : ℕ) → IsSound conf
         → KeepsNine conf.history → at < CPUS → conf.turn ≡ None
         → ((call : Current) → ready (conf.cpu at) ≡ Some call → HasFreeIndex (judged_in conf at) at)
         → AreDone conf (item conf at) }
-    ensures free { (conf : Config) (at : ℕ) → IsSound conf → HasFewReferences conf.boot
+    ensures free { (conf : Config) (at : ℕ) → IsSound conf
         → KeepsNine conf.history → at < CPUS → conf.turn ≡ None
         → ((call : Current) → ready (conf.cpu at) ≡ Some call → HasFreeIndex (judged_in conf at) at)
         → (after_all conf (item conf at)).turn ≡ None }
+{}
+
+/// The objects of each boot file have indices, each its own: 128 times the place of its partition
+/// among the boot's, and the number of earlier objects of that partition.
+pub fn boot_objects_have_indices()
+    ensures { (lines : List BootLine) → IsTrue (boot_fits lines)
+        → AreIndices (boot_state lines) (boot_index (boot_state lines)) }
 {}
