@@ -55,6 +55,7 @@ pub mod LengthBound
 pub mod LengthCalls
 pub mod LengthEntries
 pub mod LengthKeeps
+pub mod LastPlaces
 pub mod LeaveKeeps
 pub mod Living
 pub mod LookCalls
