@@ -1,17 +1,16 @@
 -- What each event leaves of the calls of a CPU: it has the same calls, or the one in progress has
 -- ended.
-use Rattle.std.proofs.Common.{◌≡◌, ◌==◌, ◌⊎◌, inl, inr, ◌+◌, ◌∙◌, ℕ, Bool, true, false, List, [], ◌∷◌, ◌++◌, refl, subst, sym, ap, Option, Some, None, if◌then◌else◌}
+use Rattle.std.proofs.Common.{◌≡◌, ◌==◌, ◌⊎◌, inl, inr, ◌+◌, ◌∙◌, ℕ, Bool, true, false, [], ◌∷◌, ◌++◌, refl, subst, sym, ap, Option, Some, None, if◌then◌else◌}
 use Rattle.std.specs.Prelude.{is_some, option_map}
 use Rattle.gh_base.specs.declared.frame.Reply.{Reply}
 use Rattle.gh_base.specs.declared.mark.End.{End}
 use Rattle.gh_model.specs.Marks.{Made, frame_of}
-use Rattle.gh_core.specs.CallEvents.{MayEnter, after_leave, at_stage, begun, finished, found, has_needs, with_call, with_end, with_left, with_look, with_pin}
-use Rattle.gh_core.specs.Config as config
-use Rattle.gh_core.specs.Config.{AtAct, Config, Cpu, Current, DeadPin, Failed, Given, Holder, Looked, Reading, Stage, Undone, object_at, present, put}
+use Rattle.gh_core.specs.CallEvents.{MayEnter, after_leave, at_stage, begun, finished, found, with_call, with_end, with_left, with_look, with_pin}
+use Rattle.gh_core.specs.Config.{Config, Cpu, Current, DeadPin, Given, Holder, Reading, Stage, Undone, put}
 use Rattle.gh_core.specs.Course.{call_of_cpu, either_call}
 use Rattle.gh_core.specs.Entries.{index_after}
 use Rattle.gh_core.specs.Events.{Possible, after}
-use Rattle.gh_core.specs.TurnEvents.{Ending, MayTake, call_at_act, end_call, ending, if_at_act, ready, with_ending}
+use Rattle.gh_core.specs.TurnEvents.{Ending, MayTake, end_call, ending, ready, with_ending}
 use Rattle.gh_core.specs.ValidState.{HasValid}
 use Rattle.gh_core.specs.declared.event.Event.{Event}
 use Rattle.gh_core.specs.declared.event.Event.TheVariants.{Enter, Leave, Take, Look, Pin, Unpin, Undo, Kill, Commit, SetCap, Free, Scan, Revive, Join, Split}
@@ -114,7 +113,8 @@ taken_call conf at may = inl (record {
     its : Comes cpu may.call → Some may.call.given ≡ call_of_cpu cpu
     its (Was in_act) = sym (ap (λ (one : Option Current). either_call one cpu.next) in_act.is_current)
     its (Begins given none next no_needs same) =
-        ap (λ (one : Current). Some one.given) same ∙ sym next ∙ sym (ap (λ (one : Option Current). either_call one cpu.next) none)
+        ap (λ (one : Current). Some one.given) same ∙ sym next
+        ∙ sym (ap (λ (one : Option Current). either_call one cpu.next) none)
 
 pinned_call : (dead : Bool) (cpu : Cpu) → CallsOn cpu (with_pin dead cpu)
 pinned_call true cpu = changed_call cpu (at_stage DeadPin) (λ call. refl)

@@ -1,6 +1,6 @@
 -- A CPU's last place is never above the history, and never falls.
-use Rattle.std.proofs.Common.{◌≡◌, ◌==◌, ◌+◌, ◌-◌, ◌<◌, ◌≤◌, ◌∙◌, ℕ, Bool, true, false, List, [], ◌∷◌, ◌++◌, length, refl, subst, sym, ap, arith, Option, Some, None, slice_get, take, if◌then◌else◌}
-use Rattle.std.specs.Prelude.{Result, Ok, Err, is_some, max, option_map, slice_index}
+use Rattle.std.proofs.Common.{◌≡◌, ◌==◌, ◌+◌, ◌<◌, ◌≤◌, ◌∙◌, ℕ, Bool, true, false, List, [], ◌∷◌, ◌++◌, length, refl, subst, sym, ap, arith, Option, Some, None}
+use Rattle.std.specs.Prelude.{Result, Ok, Err, option_map}
 use Rattle.std.proofs.lemmas.List.{take-append-le}
 use Rattle.std.proofs.lemmas.List.Sums.{fold-append}
 use Rattle.std.proofs.lemmas.Option.{slice_get_within}
@@ -11,10 +11,10 @@ use Rattle.gh_base.specs.declared.frame.Reply.{Reply}
 use Rattle.gh_base.specs.declared.mark.End.{End}
 use Rattle.gh_model.proofs.RunLists.{slice_get_left}
 use Rattle.gh_model.specs.Legal.{CallIs}
-use Rattle.gh_model.specs.Marks.{InTurn, Made, Outcome, Wants, Fails, Grants, Seen, after_look, place, place_after, place_after_call, place_after_looks}
+use Rattle.gh_model.specs.Marks.{InTurn, Outcome, Wants, Fails, Grants, Seen, after_look, place, place_after, place_after_call}
 use Rattle.gh_core.specs.CallEvents.{after_leave, at_stage, begun, end_of_looks, finished, found, reply_of_looks, with_call, with_end, with_left, with_look, with_pin}
 use Rattle.gh_core.specs.Calls.{acted_call}
-use Rattle.gh_core.specs.Config.{AtAct, Config, Cpu, Current, DeadPin, Failed, Given, Holder, Looked, Reading, Stage, Undone, came_to, entries, last_place, put}
+use Rattle.gh_core.specs.Config.{Config, Cpu, Current, DeadPin, Given, Holder, Reading, Stage, Undone, came_to, entries, last_place, put}
 use Rattle.gh_core.specs.Sound.{IsSound, looks_now, made_by, place_now}
 use Rattle.std.specs.Option.{unwrap_or}
 use Rattle.gh_model.specs.Registers.{call_of}
