@@ -1,22 +1,22 @@
 -- What each event leaves of the calls of a CPU: it has the same calls, or the one in progress has
 -- ended.
-use Rattle.std.proofs.Common.{◌≡◌, ◌==◌, ◌⊎◌, inl, inr, ◌+◌, ◌∙◌, ℕ, Bool, true, false, List, [], ◌∷◌, ◌++◌, refl, subst, sym, ap, Option, Some, None, if◌then◌else◌}
+use Rattle.std.proofs.Common.{◌≡◌, ◌==◌, ◌⊎◌, inl, inr, ◌+◌, ◌∙◌, ℕ, Bool, true, false, [], ◌∷◌, ◌++◌, refl, subst, sym, ap, Option, Some, None, if◌then◌else◌}
 use Rattle.std.specs.Prelude.{is_some, option_map}
 use Rattle.gh_base.specs.declared.frame.Reply.{Reply}
 use Rattle.gh_base.specs.declared.mark.End.{End}
 use Rattle.gh_model.specs.Marks.{Made, frame_of}
-use Rattle.gh_core.specs.CallEvents.{MayEnter, after_leave, at_stage, begun, finished, found, has_needs, with_call, with_end, with_left, with_look, with_pin}
-use Rattle.gh_core.specs.Config as config
-use Rattle.gh_core.specs.Config.{AtAct, Config, Cpu, Current, DeadPin, Failed, Given, Holder, Looked, Reading, Stage, Undone, object_at, present, put}
+use Rattle.gh_core.specs.CallEvents.{MayEnter, after_leave, at_stage, begun, finished, found, with_call, with_end, with_left, with_look, with_pin}
+use Rattle.gh_core.specs.Config.{Config, Cpu, Current, DeadPin, Given, Holder, Reading, Stage, Undone, put}
 use Rattle.gh_core.specs.Course.{call_of_cpu, either_call}
 use Rattle.gh_core.specs.Entries.{index_after}
 use Rattle.gh_core.specs.Events.{Possible, after}
-use Rattle.gh_core.specs.TurnEvents.{Ending, MayTake, call_at_act, end_call, ending, if_at_act, ready, with_ending}
+use Rattle.gh_core.specs.TurnEvents.{Ending, MayTake, end_call, ending, ready, with_ending}
 use Rattle.gh_core.specs.ValidState.{HasValid}
 use Rattle.gh_core.specs.declared.event.Event.{Event}
 use Rattle.gh_core.specs.declared.event.Event.TheVariants.{Enter, Leave, Take, Look, Pin, Unpin, Undo, Kill, Commit, SetCap, Free, Scan, Revive, Join, Split}
 use Rattle.gh_core.proofs.FewPins.{committed_cpus, killed_cpus}
 use Rattle.gh_core.proofs.LengthCalls.{put_each}
+use Rattle.gh_core.proofs.TakeCalls.{Begins, Comes, Was, comes_by}
 
 -- the CPU has the same calls
 pub record SameCalls (before now : Cpu) : Type 0 where
@@ -95,26 +95,6 @@ freed_call conf at (Some holder) None is alone = as_before (conf.cpu at)
 freed_call conf at (Some holder) (Some call) is alone = freed_by at (conf.cpu at) call (ending conf at holder call) is (alone refl)
 
 -- a call that comes to its act
-taken_by : (current : Option Current) (pins : List config.Pin) (next : Option Given) (call : Current)
-    → call_at_act current pins next ≡ Some call
-    → either_call (Some call) (if is_some current then next else None) ≡ either_call current next
-taken_by (Some one) pins next call is = by_stage one.stage is
-  where
-    by_stage : (stage : Stage) → if_at_act stage one ≡ Some call → Some call.given ≡ Some one.given
-    by_stage AtAct same = let its : one ≡ call = cc in ap (λ (c : Current). Some c.given) (sym its)
-    by_stage Reading same = absurd (let never : ⊥ = cc in never)
-    by_stage Looked same = absurd (let never : ⊥ = cc in never)
-    by_stage DeadPin same = absurd (let never : ⊥ = cc in never)
-    by_stage Undone same = absurd (let never : ⊥ = cc in never)
-    by_stage Failed same = absurd (let never : ⊥ = cc in never)
-taken_by None [] None call is = absurd (let never : ⊥ = cc in never)
-taken_by None [] (Some given) call is = by_needs (has_needs given) is
-  where
-    by_needs : (needs : Bool) → (if needs then None else Some (begun 0 AtAct given)) ≡ Some call → Some call.given ≡ Some given
-    by_needs true same = absurd (let never : ⊥ = cc in never)
-    by_needs false same = let its : begun 0 AtAct given ≡ call = cc in ap (λ (c : Current). Some c.given) (sym its)
-taken_by None (pin ∷ pins) next call is = absurd (let never : ⊥ = cc in never)
-
 taken_call : (conf : Config) (at : ℕ) → MayTake conf at
     → CallsOn (conf.cpu at) (record (conf.cpu at) {
       next = if is_some (conf.cpu at).current then (conf.cpu at).next else None;
@@ -123,9 +103,18 @@ taken_call : (conf : Config) (at : ℕ) → MayTake conf at
 taken_call conf at may = inl (record {
   made = refl;
   same =
-      ap (λ (one : Option Current). either_call one (if is_some (conf.cpu at).current then (conf.cpu at).next else None)) may.is_ready
-      ∙ taken_by (conf.cpu at).current (conf.cpu at).pins (conf.cpu at).next may.call may.is_ready;
+      ap (λ (one : Option Current). either_call one (if is_some cpu.current then cpu.next else None)) may.is_ready
+      ∙ its (comes_by cpu may.call cpu.current cpu.pins cpu.next refl refl may.is_ready);
 })
+  where
+    cpu : Cpu
+    cpu = conf.cpu at
+
+    its : Comes cpu may.call → Some may.call.given ≡ call_of_cpu cpu
+    its (Was in_act) = sym (ap (λ (one : Option Current). either_call one cpu.next) in_act.is_current)
+    its (Begins given none next no_needs same) =
+        ap (λ (one : Current). Some one.given) same ∙ sym next
+        ∙ sym (ap (λ (one : Option Current). either_call one cpu.next) none)
 
 pinned_call : (dead : Bool) (cpu : Cpu) → CallsOn cpu (with_pin dead cpu)
 pinned_call true cpu = changed_call cpu (at_stage DeadPin) (λ call. refl)

@@ -1,12 +1,15 @@
 -- Every interleaving of programs is sound, and a run once all have made their exit calls.
-use Rattle.std.proofs.Common.{◌≡◌, ◌∙◌, inl, inr, ℕ, List, [], ◌∷◌, refl, subst, sym, ap, IsSome, IsTrue, Option, None, fold, map}
-use Rattle.std.specs.List.{last_or}
+use Rattle.std.proofs.Common.{◌≡◌, ◌∙◌, inl, inr, ℕ, List, [], ◌∷◌, refl, subst, sym, ap, IsSome, IsTrue, Option, None, fold, map, ◌+◌, ◌<◌, arith, length, false, true}
+use Rattle.std.specs.Prelude.{is_some}
+use Rattle.std.specs.List.{last_or, list_any}
 use Rattle.std.proofs.lemmas.Bool.Decides.{eqb_tells}
 use Rattle.gh_base.specs.declared.frame.Frame.{Frame}
 use Rattle.gh_base.specs.declared.frame.Reply.{Reply}
 use Rattle.gh_model.specs.Boot.{boot_fits, boot_state}
 use Rattle.gh_model.specs.History.{entry_of}
-use Rattle.gh_model.specs.Legal.{is_exit_call}
+use Rattle.gh_model.specs.Legal.{exits, is_exit_call}
+use Rattle.gh_model.specs.Marks.{Made}
+use Rattle.gh_model.specs.Program.{last_number}
 use Rattle.gh_model.specs.Programs.{frames_made}
 use Rattle.gh_model.specs.Registers.{call_of}
 use Rattle.gh_model.specs.Rows.{cpu_row}
@@ -14,17 +17,22 @@ use Rattle.gh_model.specs.Run.{IsRun}
 use Rattle.gh_model.specs.declared.boot_line.BootLine.{BootLine}
 use Rattle.gh_model.specs.declared.program.Step as program
 use Rattle.gh_model.specs.declared.state.State.{State}
-use Rattle.gh_core.specs.Config.{Config, Cpu, Current, present, put}
+use Rattle.gh_core.specs.Config.{Config, Cpu, Current, IsBetween, present, put}
 use Rattle.gh_core.specs.Course.{Course, IsInterleaving, IsNextCall, MayCome, begin, behind_step, call_of_cpu, either_call, marks_of, next_standing}
 use Rattle.gh_core.specs.Events.{after}
 use Rattle.gh_core.specs.Sound.{Does, Gives, IsAtRest, IsSound, MayStep, Runs, Step, after_step, after_steps, made_by}
-use Rattle.gh_core.specs.Start.{AreIndices, given, start, with_next}
+use Rattle.gh_core.specs.Start.{AreIndices, MayGive, given, new_cpu, start, with_next}
 use Rattle.gh_core.proofs.CallsOver.{CallsOn, event_calls}
-use Rattle.gh_core.proofs.CoursePrograms.{Follows, end_follows, new_follows, next_follows, same_follows}
+use Rattle.gh_core.proofs.CoursePrograms.{Follows, end_counted, end_follows, new_follows, next_counted, next_follows, same_follows}
 use Rattle.gh_core.proofs.CourseRuns.{rest_is_run}
 use Rattle.gh_core.proofs.CourseStays.{has_none, steps_boot}
 use Rattle.gh_core.proofs.Finding.{put_here, put_other}
+use Rattle.gh_core.proofs.LengthCalls.{put_each}
 use Rattle.gh_core.proofs.SoundEvents.{run_is_sound, step_keeps_sound, start_is_sound}
+
+-- a CPU whose program hasn't ended has a number left for its next call
+abbrev IsCounted : Cpu → Type 0
+IsCounted cpu = list_any exits cpu.made ≡ false → length cpu.made < last_number
 
 module _ {P : Type 0} (answer : P → Option Reply → program.Step) (after_reply : P → Option Reply → P) (first : ℕ → P) where
   abbrev Behind : Course P → Step → Course P
@@ -34,6 +42,7 @@ module _ {P : Type 0} (answer : P → Option Reply → program.Step) (after_repl
   record Keeps (course : Course P) : Type 0 where
     sound : IsSound course.conf
     follow : (cpu : ℕ) → Follows answer after_reply (first cpu) (course.conf.cpu cpu) (course.programs cpu)
+    counted : (cpu : ℕ) → IsCounted (course.conf.cpu cpu)
 
   -- a step of programs is a step
   step_may : (course : Course P) (step : Step) → MayCome answer after_reply course step → MayStep course.conf step
@@ -60,6 +69,18 @@ module _ {P : Type 0} (answer : P → Option Reply → program.Step) (after_repl
         (next_follows answer after_reply (first at) at number (course.conf.cpu at) (course.programs at) (keeps.follow at)
         come.may.runs come.may.between.none none (call_of (next_standing answer after_reply course at).frame))
 
+    here_counted : IsCounted (with_next at number frame (course.conf.cpu at) (call_of frame))
+    here_counted =
+        subst (λ (one : Frame). IsCounted (with_next at number one (course.conf.cpu at) (call_of one))) (sym come.its_frame)
+        (next_counted answer after_reply (first at) at number (course.conf.cpu at) (course.programs at) (keeps.follow at)
+        come.may.runs come.may.between.none none (call_of (next_standing answer after_reply course at).frame)
+        (keeps.counted at come.may.runs))
+
+    given_counted : (cpu : ℕ) → IsCounted ((given course.conf at number frame).cpu cpu)
+    given_counted cpu =
+        put_each (λ n one. IsCounted one) course.conf.cpu at (with_next at number frame (course.conf.cpu at) (call_of frame))
+        here_counted (λ n differs. keeps.counted n) cpu
+
     given_each : (cpu : ℕ)
         → Follows answer after_reply (first cpu) ((given course.conf at number frame).cpu cpu) (put course.programs at left cpu)
     given_each cpu =
@@ -84,15 +105,25 @@ module _ {P : Type 0} (answer : P → Option Reply → program.Step) (after_repl
       end_follows answer after_reply (first cpu) (course.conf.cpu cpu) now (course.programs cpu) (keeps.follow cpu) over.given over.call
       (has_none course.conf cpu over.given keeps.sound.calls over.has) over.has over.made over.frame over.none
 
+  event_counted : (course : Course P) (cpu : ℕ) (now : Cpu) → Keeps course → CallsOn (course.conf.cpu cpu) now → IsCounted now
+  event_counted course cpu now keeps (inl on) =
+      subst (λ (list : List Made). list_any exits list ≡ false → length list < last_number) (sym on.made) (keeps.counted cpu)
+  event_counted course cpu now keeps (inr over) =
+      let going : list_any exits (course.conf.cpu cpu).made ≡ false = has_none course.conf cpu over.given keeps.sound.calls over.has in
+      end_counted answer after_reply (first cpu) (course.conf.cpu cpu) now (course.programs cpu) (keeps.follow cpu) over.given over.call
+      going over.has over.made over.frame (keeps.counted cpu going)
+
   step_keeps : (course : Course P) (step : Step) → Keeps course → MayCome answer after_reply course step
       → Keeps (Behind course step)
   step_keeps course (Gives at number frame) keeps come = record {
     sound = step_keeps_sound course.conf (Gives at number frame) keeps.sound come.may;
     follow = given_each course at number frame keeps come;
+    counted = given_counted course at number frame keeps come;
   }
   step_keeps course (Does event) keeps come = record {
     sound = step_keeps_sound course.conf (Does event) keeps.sound come;
     follow = λ cpu. event_each course cpu ((after course.conf event).cpu cpu) keeps (event_calls course.conf event keeps.sound.valid come cpu);
+    counted = λ cpu. event_counted course cpu ((after course.conf event).cpu cpu) keeps (event_calls course.conf event keeps.sound.valid come cpu);
   }
 
   steps_keep : (steps : List Step) (course : Course P) → Keeps course → IsInterleaving answer after_reply course steps
@@ -125,6 +156,7 @@ module _ {P : Type 0} (answer : P → Option Reply → program.Step) (after_repl
     begin_keeps = record {
       sound = start_is_sound lines index fits indices;
       follow = λ cpu. new_follows answer after_reply (first cpu);
+      counted = λ cpu none. let zero_calls : length new_cpu.made ≡ 0 = refl in omega arith;
     }
 
     pub interleaving_sound : IsSound last
@@ -148,3 +180,21 @@ module _ {P : Type 0} (answer : P → Option Reply → program.Step) (after_repl
         rest_is_run lines fits last boot_is interleaving_sound rest
         (λ cpu there. exits cpu (subst (λ (boot : State). IsSome (cpu_row boot cpu)) boot_is there))
         (λ cpu. frames_made answer after_reply (first cpu)) (λ cpu. (last_follows cpu).frames)
+
+    last_counted : (cpu : ℕ) → IsCounted (last.cpu cpu)
+    last_counted cpu =
+        subst (λ (conf : Config). IsCounted (conf.cpu cpu)) (steps_conf steps (begin (start (boot_state lines) index) first))
+        ((steps_keep steps (begin (start (boot_state lines) index) first) begin_keeps come).counted cpu)
+
+    -- a program that hasn't ended goes on
+    pub program_goes_on : (cpu : ℕ) → IsSome (cpu_row (boot_state lines) cpu) → IsBetween (last.cpu cpu)
+        → (last.cpu cpu).next ≡ None → list_any exits (made_by last cpu) ≡ false
+        → MayGive last cpu (length (made_by last cpu) + 1)
+    program_goes_on cpu there between none going = record {
+      is_cpu = subst (λ (boot : State). is_some (cpu_row boot cpu) ≡ true) (sym boot_is) there;
+      between = between;
+      none = none;
+      runs = going;
+      counts = refl;
+      bounded = omega (arith, last_counted cpu going);
+    }

@@ -66,6 +66,7 @@ pub mod Interleavings
 pub mod ItemsLaw
 pub mod KillKeeps
 pub mod KilledNone
+pub mod LastPlaces
 pub mod LeaveKeeps
 pub mod LengthBoot
 pub mod LengthBound

@@ -20,7 +20,7 @@ use Rattle.gh_core.proofs.Finding.{put_here, put_other}
 use Rattle.gh_core.proofs.HolderCalls.{none_committed}
 
 -- where a call at its act comes from: it was in progress, or it is the next one and has no looks
-data Comes (cpu : Cpu) (call : Current) : Type 0 where
+pub data Comes (cpu : Cpu) (call : Current) : Type 0 where
   Was : IsIn cpu call AtAct → Comes cpu call
   Begins : (given : Given) → cpu.current ≡ None → cpu.next ≡ Some given → has_needs given ≡ false
       → call ≡ begun 0 AtAct given → Comes cpu call
@@ -41,7 +41,7 @@ begins_by cpu given call true needs none next is = absurd (let never : ⊥ = cc 
 begins_by cpu given call false needs none next is =
     Begins given none next needs (let same : begun 0 AtAct given ≡ call = cc in sym same)
 
-comes_by : (cpu : Cpu) (call : Current) (current : Option Current) (pins : List Pin)
+pub comes_by : (cpu : Cpu) (call : Current) (current : Option Current) (pins : List Pin)
     (next : Option Given) → cpu.current ≡ current → cpu.next ≡ next
     → call_at_act current pins next ≡ Some call → Comes cpu call
 comes_by cpu call (Some one) pins next was given is =

@@ -19,10 +19,14 @@ FewReferences boot index = (at : ℕ) → at < OBJECT_INDICES → references_at 
 abbrev pub many_references : ℕ
 many_references = 131_072
 
--- references and what is owed have their bound; the boot has few CPUs and links, each of which takes
--- two slots; and a CPU has a pin for each of two looks at most, beside one on a dead word
+-- the most capabilities that a call looks up
+abbrev pub most_looks : ℕ
+most_looks = 2
+
+-- references and what is owed have their bound; a CPU has a pin for each look of a call at most,
+-- beside one on a dead word; and the boot has few CPUs and links, each of which takes two slots
 pub record HasBound (conf : Config) : Type 0 where
   pub bounded : IsBounded conf
-  pub few_pins : (cpu : ℕ) → length (conf.cpu cpu).pins ≤ 2
+  pub few_pins : (cpu : ℕ) → length (conf.cpu cpu).pins ≤ most_looks
   pub few_cpus : length conf.boot.cpus ≤ CPUS
   pub few_links : 2 * length conf.boot.links ≤ CSPACES * CSPACE_SLOTS

@@ -1,15 +1,15 @@
 -- Sound configurations: all that every event keeps, as one record, and the runs over which it
 -- stands.
-use Rattle.std.specs.Prelude.{◌≡◌, ◌<◌, ◌≤◌, ⊤, ℕ, List, [], ◌∷◌, Some, None, fold, slice_get, slice_index}
+use Rattle.std.specs.Prelude.{◌≡◌, ◌<◌, ◌≤◌, ⊤, ℕ, List, [], ◌∷◌, Option, Some, None, fold, slice_get, slice_index}
 use Rattle.gh_base.specs.declared.frame.Frame.{Frame}
 use Rattle.gh_base.specs.declared.limits.TheConstants.{CPUS}
 use Rattle.gh_model.specs.Graced.{GoesUnread}
 use Rattle.gh_model.specs.History as history
-use Rattle.gh_model.specs.Marks.{Made}
+use Rattle.gh_model.specs.Marks.{Made, Seen}
 use Rattle.gh_model.specs.declared.state.State.{State}
 use Rattle.gh_core.specs.Bounded.{HasBound}
 use Rattle.gh_core.specs.Calls.{BeginsAtBoot, HasCalls, SawPins}
-use Rattle.gh_core.specs.Config.{Config, IsBetween}
+use Rattle.gh_core.specs.Config.{Config, Cpu, Current, IsBetween, last_place}
 use Rattle.gh_core.specs.Events.{Possible, after}
 use Rattle.gh_core.specs.Grace.{AreBetween, HasGrace}
 use Rattle.gh_core.specs.Length.{HasLength}
@@ -83,6 +83,15 @@ Runs conf [] = ⊤
 Runs conf (step ∷ steps) = MayStep conf step × Runs (after_step conf step) steps
 
 -- places
+
+-- the looks of the call in progress, none between calls
+abbrev pub looks_now : Option Current → List Seen
+looks_now None = []
+looks_now (Some call) = call.seen
+
+-- a CPU's last place, behind its finished calls and the looks of the one in progress
+abbrev pub place_now : Cpu → ℕ
+place_now cpu = last_place cpu (looks_now cpu.current)
 
 -- the object is reclaimed by an entry behind this place
 pub record IsReclaimedBehind (events : List history.Event) (place serial : ℕ) : Type 0 where

@@ -1,18 +1,18 @@
 //! What programs and a schedule make of a boot file, item by item and then by whole calls, is a
 //! run, and so is every interleaving of programs. The functions do nothing; their clauses are laws.
 
-ghost use Rattle.std.specs.Prelude.{◌≡◌, ℕ, List, None, IsSome, IsTrue, false, map};
-ghost use Rattle.std.specs.List.{last_or};
+ghost use Rattle.std.specs.Prelude.{◌≡◌, ◌+◌, ℕ, List, None, IsSome, IsTrue, false, length, map};
+ghost use Rattle.std.specs.List.{last_or, list_any};
 ghost use Rattle.gh_base.specs.declared.ids.CpuNo.{CpuNo};
-ghost use Rattle.gh_core.specs.Config.{Config, present};
+ghost use Rattle.gh_core.specs.Config.{Config, IsBetween, present};
 ghost use Rattle.gh_core.specs.Course.{IsInterleaving, IsCourse, begin, marks_of};
 ghost use Rattle.gh_core.specs.Schedule.{AreItems, course_of, scheduled};
 ghost use Rattle.gh_core.specs.Sound.{IsAtRest, IsSound, Step, after_steps, made_by};
-ghost use Rattle.gh_core.specs.Start.{AreIndices, start};
+ghost use Rattle.gh_core.specs.Start.{AreIndices, MayGive, start};
 ghost use Rattle.gh_core.specs.declared.event.Event.{Event};
 ghost use Rattle.gh_model.specs.Boot.{boot_fits, boot_state, has_manager};
 ghost use Rattle.gh_model.specs.History.{entry_of};
-ghost use Rattle.gh_model.specs.Legal.{is_exit_call};
+ghost use Rattle.gh_model.specs.Legal.{exits, is_exit_call};
 ghost use Rattle.gh_model.specs.Programs.{frames_made};
 ghost use Rattle.gh_model.specs.Rows.{cpu_row};
 ghost use Rattle.gh_model.specs.Run.{IsRun};
@@ -63,13 +63,24 @@ pub fn courses_are_runs<P: Program>()
 
 /// And so is every interleaving of programs: where CPUs are given their programs' calls in turn, and
 /// possible events come as they may, the configuration is sound; and once all is at rest and each
-/// CPU of the boot has made its exit call, it is a run.
+/// CPU of the boot has made its exit call, it is a run. Until then a CPU between calls may be given
+/// its program's next one.
 pub fn interleavings_are_runs<P: Program>()
     ensures sound { (boot : List BootLine) (index : ℕ → ℕ) (programs : ℕ → P) (steps : List Step)
         → IsTrue (boot_fits boot) → AreIndices (boot_state boot) index
         → IsInterleaving P.answer P.after
         (begin (start (boot_state boot) index) programs) steps
         → IsSound (after_steps (start (boot_state boot) index) steps) }
+    ensures goes_on { (boot : List BootLine) (index : ℕ → ℕ) (programs : ℕ → P) (steps : List Step)
+        (cpu : ℕ) → IsTrue (boot_fits boot) → AreIndices (boot_state boot) index
+        → IsInterleaving P.answer P.after
+        (begin (start (boot_state boot) index) programs) steps
+        → IsSome (cpu_row (boot_state boot) cpu)
+        → IsBetween ((after_steps (start (boot_state boot) index) steps).cpu cpu)
+        → ((after_steps (start (boot_state boot) index) steps).cpu cpu).next ≡ None
+        → list_any exits (made_by (after_steps (start (boot_state boot) index) steps) cpu) ≡ false
+        → MayGive (after_steps (start (boot_state boot) index) steps) cpu
+        (length (made_by (after_steps (start (boot_state boot) index) steps) cpu) + 1) }
     ensures run { (boot : List BootLine) (index : ℕ → ℕ) (programs : ℕ → P) (steps : List Step)
         → IsTrue (boot_fits boot) → has_manager boot ≡ false → AreIndices (boot_state boot) index
         → IsInterleaving P.answer P.after

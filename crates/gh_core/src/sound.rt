@@ -16,7 +16,7 @@ ghost use Rattle.gh_core.specs.Events.{Possible, after};
 ghost use Rattle.gh_core.specs.Grace.{granting_at, holds_grant};
 ghost use Rattle.gh_core.specs.Length.{too_long};
 ghost use Rattle.gh_core.specs.References.{IsGranted, IsPinned, IsRow, owed_at, pins_at};
-ghost use Rattle.gh_core.specs.Sound.{IsAtRest, IsReclaimedBehind, IsSound, Runs, Step, after_steps, made_by};
+ghost use Rattle.gh_core.specs.Sound.{IsAtRest, IsReclaimedBehind, IsSound, Runs, Step, after_steps, made_by, place_now};
 ghost use Rattle.gh_core.specs.Start.{AreIndices, MayGive, given, start};
 ghost use Rattle.gh_core.specs.declared.event.Event.{Event};
 ghost use Rattle.gh_core.specs.declared.event.Event.TheVariants.{Commit, Look, Revive};
@@ -92,6 +92,18 @@ pub fn histories_are_short()
         → IsTrue (boot_fits lines) → AreIndices (boot_state lines) index
         → Runs (start (boot_state lines) index) steps
         → length (after_steps (start (boot_state lines) index) steps).history < too_long }
+{}
+
+/// A CPU's last place is never above the history, and never falls: neither by an event, nor by a call
+/// that a CPU is given.
+pub fn last_places_rise()
+    ensures within { (conf : Config) (cpu : ℕ) → IsSound conf
+        → place_now (conf.cpu cpu) ≤ length conf.history }
+    ensures event { (conf : Config) (event : Event) (cpu : ℕ) → IsSound conf → Possible conf event
+        → place_now (conf.cpu cpu) ≤ place_now ((after conf event).cpu cpu) }
+    ensures call { (conf : Config) (at number : ℕ) (frame : Frame) (cpu : ℕ)
+        → MayGive conf at number
+        → place_now (conf.cpu cpu) ≤ place_now ((given conf at number frame).cpu cpu) }
 {}
 
 /// The index of each object that was made stays, and what was made stays made: over an event, and

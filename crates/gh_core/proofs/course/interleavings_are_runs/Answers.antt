@@ -1,5 +1,5 @@
 -- The law is the lemma.
-use Rattle.gh_core.proofs.Interleavings.{interleaving_is_run, interleaving_sound}
+use Rattle.gh_core.proofs.Interleavings.{interleaving_is_run, interleaving_sound, program_goes_on}
 use Rattle.gh_core.proofs.course.interleavings_are_runs.Goals as goal
 
 pub returns-clause-sound : goal.returns-clause-sound
@@ -9,3 +9,7 @@ returns-clause-sound g c = λ boot index programs steps fits indices come.
 pub returns-clause-run : goal.returns-clause-run
 returns-clause-run g c = λ boot index programs steps fits none indices come rest exits.
     interleaving_is_run g.P.Program.answer g.P.Program.after programs boot index steps fits indices come rest exits
+
+pub returns-clause-goes_on : goal.returns-clause-goes_on
+returns-clause-goes_on g c = λ boot index programs steps cpu fits indices come there between none going.
+    program_goes_on g.P.Program.answer g.P.Program.after programs boot index steps fits indices come cpu there between none going
