@@ -1,5 +1,7 @@
 pub mod ActCalls
 pub mod ActFits
+pub mod AllowTests
+pub mod BootTables
 pub mod BoundKeeps
 pub mod CallMoves
 pub mod CallTests
@@ -7,6 +9,7 @@ pub mod CallsEnd
 pub mod CallsGoOn
 pub mod CallsKeep
 pub mod CausesHeld
+pub mod CommitTests
 pub mod CpuMoves
 pub mod CpusRun
 pub mod DeathsOn
@@ -47,6 +50,7 @@ pub mod LookKeeps
 pub mod LookRoom
 pub mod NoPins
 pub mod OweKeeps
+pub mod OwedLemmas
 pub mod PartCalls
 pub mod PinCalls
 pub mod PinKeeps

@@ -7,6 +7,7 @@ pub mod EntryTests
 pub mod Events
 pub mod Grace
 pub mod HolderEvents
+pub mod Owing
 pub mod References
 pub mod Replayed
 pub mod Running

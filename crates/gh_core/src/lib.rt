@@ -2,24 +2,29 @@
 #![tactic(auto)]
 
 mod acts;
+mod boot;
 mod bounds;
 mod call_events;
 mod calls;
 mod commit;
+mod commit_events;
 mod config;
 mod cpu;
 mod current;
 mod ending;
 mod entries;
 mod event;
+mod given;
 mod grace;
 mod holder;
 mod holder_events;
 mod indices;
 mod log;
 mod lookups;
+mod owing;
 mod reads;
 mod references;
+mod slots_set;
 mod sound;
 mod start;
 mod table;
