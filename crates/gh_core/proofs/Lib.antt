@@ -2,6 +2,8 @@ pub mod ActCalls
 pub mod ActFits
 pub mod ActItems
 pub mod Acting
+pub mod AllowTests
+pub mod BootTables
 pub mod BoundKeeps
 pub mod Boxes
 pub mod CallEffects
@@ -15,6 +17,7 @@ pub mod CallsKeep
 pub mod CallsOver
 pub mod CausesHeld
 pub mod ChangeLives
+pub mod CommitTests
 pub mod Commits
 pub mod CountsFit
 pub mod CourseEnds
@@ -80,6 +83,7 @@ pub mod LookKeeps
 pub mod LookRoom
 pub mod NoPins
 pub mod OweKeeps
+pub mod OwedLemmas
 pub mod Owing
 pub mod PartCalls
 pub mod PartItems

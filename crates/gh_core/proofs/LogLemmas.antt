@@ -1,5 +1,5 @@
 -- The replay of what the log keeps.
-use Rattle.std.proofs.Common.{◌≡◌, ◌∙◌, ◌-◌, ◌<◌, ◌≤◌, ◌++◌, ap, sym, subst, map, take, ℕ, zero, suc, Bool, true, false, List, [], ◌∷◌, length, drop, refl, arith, Option, Some, None, slice_get}
+use Rattle.std.proofs.Common.{◌≡◌, ◌∙◌, ◌-◌, ◌<◌, ◌≤◌, ◌++◌, ap, sym, subst, map, take, ℕ, zero, suc, Bool, true, false, List, [], ◌∷◌, length, drop, refl, arith, Option, Some, None, Result, Ok, Err, IfOk, OnOk, slice_get}
 use Rattle.gh_base.specs.declared.cap_word.Need.{Need}
 use Rattle.gh_model.specs.History.{Event, after_event, grants_fit, replay, state_at}
 use Rattle.gh_model.specs.declared.state.State.{State}
@@ -63,3 +63,28 @@ pub front_replayed : (s : State) (log : List Logged) (front : List Logged) (n : 
     → replay s (map event_of front) ≡ state_at s (map event_of log) (length (map event_of log) - 1)
 front_replayed s log front n is counts =
     ap (replay s) (front_of_log s log front n is ∙ ap (λ (k : ℕ). take k (map event_of log)) (counts ∙ ap (λ (k : ℕ). k - 1) (sym (mapped_length event_of log))))
+
+-- a log with one entry more that is allowed
+pub log_more : (s : State) (log new : List Logged) (logged : Logged) → new ≡ log ++ logged ∷ [] → all_made s (map event_of log) ≡ true
+    → is_made (replay s (map event_of log)) (event_of logged) ≡ true → all_made s (map event_of new) ≡ true
+log_more s log new logged is made more =
+    subst (λ (es : List Event). all_made s es ≡ true) (sym (ap (λ (ls : List Logged). map event_of ls) is ∙ map_more log logged))
+    (more_made s (map event_of log) (event_of logged) made more)
+  where
+    map_more : (log : List Logged) (logged : Logged) → map event_of (log ++ logged ∷ []) ≡ map event_of log ++ event_of logged ∷ []
+    map_more [] logged = refl
+    map_more (first ∷ log) logged = ap (λ (es : List Event). event_of first ∷ es) (map_more log logged)
+
+-- what follows where it went well
+pub on_ok : {X E A B : Type 0} (result : Result X E) → OnOk result A → (A → B) → OnOk result B
+on_ok (Ok value) is then = then is
+on_ok (Err error) is then = tt
+
+pub if_ok : {X E : Type 0} {P Q : X → Type 0} (result : Result X E) → IfOk result P → ((x : X) → P x → Q x) → IfOk result Q
+if_ok (Ok value) is then = then value is
+if_ok (Err error) is then = tt
+
+pub if_ok_two : {X E : Type 0} {P Q R : X → Type 0} (result : Result X E) → IfOk result P → IfOk result Q → ((x : X) → P x → Q x → R x)
+    → IfOk result R
+if_ok_two (Ok value) first second then = then value first second
+if_ok_two (Err error) first second then = tt

@@ -75,7 +75,7 @@ lines_count s [] = refl
 lines_count s (line ∷ lines) = lines_count (after_line s line) lines ∙ line_counts s line
 
 -- so no entry was counted before it
-begins_there : (lines : List BootLine) → (boot_state lines).entries ≡ 0
+pub begins_there : (lines : List BootLine) → (boot_state lines).entries ≡ 0
 begins_there lines = lines_count empty_state lines
 
 -- the start of each boot file is sound

@@ -70,31 +70,56 @@ abbrev pub is_unread : Option (List ℕ) → List ℕ → Bool
 is_unread None seen = true
 is_unread (Some before) seen = have_left before seen
 
--- what an entry needs beside that the state allows it
-abbrev pub kind_goes : Config → Holder → Current → Entry → Entry → Bool
-kind_goes conf holder call entry (Acted cpu number) =
-    is_its holder call cpu.0 number && not (some_killed conf)
-kind_goes conf holder call entry (Part cpu number space slot) =
-    part_goes conf holder call (logged entry call) (Part cpu number space slot)
-    && not (some_killed conf)
-kind_goes conf holder call entry (Retired serial seen) =
-    conf.dead (conf.index serial.0) && (are_scans holder seen && not (has_part holder))
-kind_goes conf holder call entry (Reclaimed serial seen) =
-    is_unread (retirement (object_row (present conf) serial.0)) seen
+-- the object's word is dead, and the counters were scanned before any part
+abbrev pub retires : Config → Holder → ℕ → List ℕ → Bool
+retires conf holder serial seen =
+    conf.dead (conf.index serial) && (are_scans holder seen && not (has_part holder))
+
+-- every CPU that was reading at the object's retirement has left, by these counters
+abbrev pub reclaims : State → Holder → ℕ → List ℕ → Bool
+reclaims s holder serial seen =
+    is_unread (retirement (object_row s serial)) seen
     && (are_scans holder seen && not (has_part holder))
 
--- the entry is allowed to a holder whose call is at its act
+-- what an entry needs beside that the state allows it
+abbrev pub kind_goes : Config → Holder → Current → history.Event → Entry → Bool
+kind_goes conf holder call event (Acted cpu number) =
+    is_its holder call cpu.0 number && not (some_killed conf)
+kind_goes conf holder call event (Part cpu number space slot) =
+    part_goes conf holder call event (Part cpu number space slot) && not (some_killed conf)
+kind_goes conf holder call event (Retired serial seen) = retires conf holder serial.0 seen
+kind_goes conf holder call event (Reclaimed serial seen) =
+    reclaims (present conf) holder serial.0 seen
+
+-- the CPU has the turn, its call is at its act, and the act's entry is still to come
+abbrev pub may_commit : ℕ → Holder → Current → Bool
+may_commit at holder call =
+    (holder.cpu == at) && (is_at_act call.stage && not (has_acted holder))
+
+-- the event is allowed to a holder whose call is at its act
+abbrev pub event_goes : Config → ℕ → Holder → Current → history.Event → Bool
+event_goes conf at holder call event =
+    may_commit at holder call
+    && (kind_goes conf holder call event event.entry && is_made (present conf) event)
+
 abbrev pub allows : Config → ℕ → Entry → Holder → Current → Bool
-allows conf at entry holder call =
-    ((holder.cpu == at) && (is_at_act call.stage && not (has_acted holder)))
-    && (kind_goes conf holder call entry entry && is_made (present conf) (logged entry call))
+allows conf at entry holder call = event_goes conf at holder call (logged entry call)
 
 -- no owed amount falls below 0 at an index
 abbrev pub covers_at : Config → Holder → State → (ℕ → ℕ) → ℕ → Bool
 covers_at conf holder new index at =
     nat_le (references_at new index at) (holder.owed at + live_references conf at)
 
--- the entry sets so many slots
-abbrev pub sets_slots : Config → Entry → Current → ℕ → Bool
-sets_slots conf entry call count =
-    slots_set (changes_of (present conf) (logged entry call)) == count
+-- the event sets so many slots
+abbrev pub sets_slots : State → history.Event → ℕ → Bool
+sets_slots s event count = slots_set (changes_of s event) == count
+
+-- the entry is allowed, and sets so many slots
+abbrev pub goes_in : Config → ℕ → Entry → ℕ → Option Holder → Option Current → Bool
+goes_in conf at entry count None current = false
+goes_in conf at entry count (Some holder) None = false
+goes_in conf at entry count (Some holder) (Some call) =
+    allows conf at entry holder call && sets_slots (present conf) (logged entry call) count
+
+abbrev pub entry_goes : Config → ℕ → Entry → ℕ → Bool
+entry_goes conf at entry count = goes_in conf at entry count conf.turn (conf.cpu at).current

@@ -12,6 +12,7 @@ pub mod HolderEvents
 pub mod Indices
 pub mod Items
 pub mod Length
+pub mod Owing
 pub mod References
 pub mod Replayed
 pub mod Rising

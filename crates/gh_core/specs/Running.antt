@@ -1,5 +1,5 @@
 -- The configuration that the running machine's tables stand for.
-use Rattle.std.specs.Prelude.{◌≡◌, ◌==◌, ◌&&◌, ◌<◌, if◌then◌else◌, ℕ, Bool, true, false, List, [], ◌∷◌, length, Option, Some, None, ◌++◌, filter, find, flat_map, is_some, map, nat_lt, not, option_map, slice_get, IsTrue}
+use Rattle.std.specs.Prelude.{◌≡◌, ◌-◌, ◌==◌, ◌&&◌, ◌<◌, if◌then◌else◌, ℕ, Bool, true, false, List, [], ◌∷◌, length, Option, Some, None, ◌++◌, filter, find, flat_map, is_some, map, nat_lt, not, option_map, slice_get, IsTrue}
 use Rattle.std.specs.List.{list_all, list_any}
 use Rattle.std.specs.Option.{option_map_or}
 use Rattle.gh_base.specs.declared.call.Call.{Call}
@@ -15,13 +15,14 @@ use Rattle.gh_model.specs.History as history
 use Rattle.gh_model.specs.Marks.{Made, Outcome, Fails, Grants, Seen, Wants}
 use Rattle.gh_model.specs.References.{is_doomed}
 use Rattle.gh_model.specs.Rows.{fills, object_row}
+use Rattle.gh_model.specs.declared.boot_line.BootLine.{BootLine}
 use Rattle.gh_model.specs.declared.entry.Entry.{Entry}
 use Rattle.gh_model.specs.declared.entry.Entry.TheVariants.{Acted, Part, Retired, Reclaimed}
 use Rattle.gh_model.specs.declared.rows.ObjectRow.{ObjectRow}
 use Rattle.gh_model.specs.declared.state.State.{State}
 use Rattle.gh_core.specs.Config as machine
 use Rattle.gh_core.specs.HolderEvents.{is_done, with_failed, with_turn, without_scans}
-use Rattle.gh_core.specs.Start.{boot_cap, boot_dead, new_cpu}
+use Rattle.gh_core.specs.Start.{AreIndices, boot_cap, boot_dead, new_cpu, start}
 use Rattle.gh_core.specs.CallEvents.{begun, end_of_looks, finished, found, reply_of_looks, with_call, with_end, with_look, without_pin}
 use Rattle.gh_core.specs.Config.{put, references_at}
 use Rattle.gh_core.specs.Tests.{is_at_act, is_before_act}
@@ -42,6 +43,7 @@ use Rattle.gh_core.specs.declared.current.MadeCall.{MadeCall}
 use Rattle.gh_core.specs.declared.current.SeenLook.{SeenLook}
 use Rattle.gh_core.specs.declared.holder.Turn.{Turn}
 use Rattle.gh_core.specs.declared.log.Logged.{Logged}
+use Rattle.gh_core.specs.declared.slots_set.SlotSet.{SlotSet}
 use Rattle.gh_core.specs.declared.table.Written.{Written}
 
 -- calls
@@ -145,6 +147,23 @@ stands_for running = record {
   turn = option_map holder_of running.turn;
   cpu = cpus running.seats;
 }
+
+-- the begin
+
+-- the index of an object of the boot: the number before its serial
+abbrev pub placed : ObjectRow → Written
+placed row = record { at = row.serial.0; value = row.serial.0 - 1 }
+
+-- the configuration is that of a boot file before any event, whose objects have indices, each its
+-- own
+pub record IsBooted (lines : List BootLine) (conf : machine.Config) : Type 0 where
+  pub index : ℕ → ℕ
+  pub indices : AreIndices (boot_state lines) index
+  pub is : conf ≡ start (boot_state lines) index
+
+-- a slot that a change sets
+abbrev pub slot_of : SlotSet → ℕ × ℕ
+slot_of slot = (slot.cspace.0, slot.slot)
 
 -- what is changed
 

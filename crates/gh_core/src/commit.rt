@@ -44,7 +44,7 @@ pub(crate) fn logged(alloc: Global, entry: Entry, call: &CurrentCall) -> Result<
 }
 
 /// Whether an entry of this CPU and number is of the holder's call.
-fn is_its(turn: &Turn, call: &CurrentCall, cpu: CpuNo, number: u32) -> bool
+pub(crate) fn is_its(turn: &Turn, call: &CurrentCall, cpu: CpuNo, number: u32) -> bool
     ensures { result ≡ is_its_of (holder_of turn.now) (current_of call.now) cpu.0 number }
 {
     cpu == turn.cpu && number == call.given.number
@@ -76,7 +76,11 @@ fn is_revoke(call: &Call) -> bool
     matches!(call, Call::CapsRevoke { .. })
 }
 
-fn capability_row(rows: &[CapabilityRow], space: Serial, slot: u8) -> Option<CapabilityRow>
+pub(crate) fn capability_row(
+    rows: &[CapabilityRow],
+    space: Serial,
+    slot: u8,
+) -> Option<CapabilityRow>
     ensures { result ≡ find (fills space.0 slot) rows.now }
 {
     rows.iter()
@@ -143,7 +147,7 @@ fn is_next_slot(present: &State, logged: &Logged, space: Serial, slot: u8) -> bo
 // Retirements and reclaims
 
 /// Whether these counters are what was scanned.
-fn are_scans(turn: &Turn, seen: Counters) -> bool
+pub(crate) fn are_scans(turn: &Turn, seen: Counters) -> bool
     ensures { result ≡ are_scans_of (holder_of turn.now) seen }
 {
     for at in 0..CPUS {
@@ -177,7 +181,7 @@ fn have_left(before: Counters, now: Counters) -> bool
 }
 
 /// Whether every CPU that was reading at the object's retirement has.
-fn is_unread(row: Option<ObjectRow>, seen: Counters) -> bool
+pub(crate) fn is_unread(row: Option<ObjectRow>, seen: Counters) -> bool
     ensures { result ≡ is_unread_of (retirement row) seen }
 {
     match row {
@@ -191,7 +195,7 @@ fn is_unread(row: Option<ObjectRow>, seen: Counters) -> bool
 
 // Each kind of entry
 
-fn part_goes(
+pub(crate) fn part_goes(
     alloc: Global,
     running: &Running,
     present: &State,

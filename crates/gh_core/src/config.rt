@@ -1,16 +1,19 @@
 //! Configurations of the running machine.
 
-ghost use Rattle.std.specs.Prelude.{◌≡◌, ◌<◌, option_map, IfOk, OnOk};
+ghost use Rattle.std.specs.Prelude.{◌≡◌, ◌<◌, option_map, IfOk, OnErr, OnOk};
 ghost use Rattle.gh_base.specs.declared.limits.TheConstants.{CPUS};
-ghost use Rattle.gh_core.specs.Running.{IsKept, cpu_of, holder_of, stands_for, with_count};
+ghost use Rattle.gh_core.specs.Start.{MayGive, given};
+ghost use Rattle.gh_core.specs.Running.{IsBooted, IsKept, cpu_of, holder_of, stands_for, with_count};
 ghost use Rattle.gh_core.specs.Running.{with_counter, with_cpu, with_holder, with_mark};
 
+use crate::boot::{boot_indices, new_seats};
 use crate::cpu::Seat;
+use crate::given::given_seat;
 use crate::holder::Turn;
 use crate::log::{Logged, copy_of_log};
 use crate::table::{Marked, SlotWritten, Written};
-use gh_base::{CpuNo, NoMemory, Sequence};
-use gh_model::Boot;
+use gh_base::{CpuNo, Frame, NoMemory, Sequence};
+use gh_model::{Boot, Plain};
 use std::alloc::Global;
 use std::marker::Model;
 
@@ -153,4 +156,49 @@ impl Model for Config {
     ghost view = { λ config. config.running };
 
     ghost invariant = { λ config. IsKept config.running };
+}
+
+impl Config {
+    /// The configuration before any event.
+    pub fn boot(alloc: Global, boot: &Boot) -> Result<Config, NoMemory>
+        ensures { IfOk result (λ config. IsBooted boot.now (stands_for config)) }
+    {
+        let _lines = boot.lines();
+        let plain = Plain::boot(alloc, boot)?;
+        let first = boot_indices(alloc, plain.state().objects.as_slice())?;
+        let seats = new_seats(alloc)?;
+        let boot = copy_of_boot(alloc, boot)?;
+        let running = Running {
+            boot,
+            log: Sequence::new(alloc),
+            first,
+            given: Sequence::new(alloc),
+            caps: Sequence::new(alloc),
+            counts: Sequence::new(alloc),
+            dead: Sequence::new(alloc),
+            counters: Sequence::new(alloc),
+            turn: None,
+            seats,
+        };
+        Ok(Config { running })
+    }
+
+    /// The CPU's next call is this one; where its frame is refused, the call is finished at once.
+    pub fn give(
+        &mut self,
+        alloc: Global,
+        cpu: CpuNo,
+        number: u32,
+        frame: &Frame,
+    ) -> Result<(), NoMemory>
+        requires { MayGive (stands_for self.old) cpu.0 number }
+        ensures given { OnOk result
+            (stands_for self.new ≡ given (stands_for self.old) cpu.0 number frame.now) }
+        ensures no_memory { OnErr result (self.new ≡ self.old) }
+    {
+        let _lines = self.running.boot.lines();
+        let seat = given_seat(alloc, self.running.seat(cpu), cpu, number, frame)?;
+        self.running.put_seat(cpu, seat);
+        Ok(())
+    }
 }

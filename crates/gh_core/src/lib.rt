@@ -2,10 +2,12 @@
 #![tactic(auto)]
 
 mod acts;
+mod boot;
 mod bounds;
 mod call_events;
 mod calls;
 mod commit;
+mod commit_events;
 mod config;
 mod course;
 mod cpu;
@@ -13,6 +15,7 @@ mod current;
 mod ending;
 mod entries;
 mod event;
+mod given;
 mod grace;
 mod holder;
 mod holder_events;
@@ -20,9 +23,11 @@ mod indices;
 mod items;
 mod log;
 mod lookups;
+mod owing;
 mod reads;
 mod references;
 mod rising;
+mod slots_set;
 mod sound;
 mod start;
 mod table;

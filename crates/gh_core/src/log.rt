@@ -59,7 +59,7 @@ fn granted(word: &Word) -> Serial
 }
 
 /// The objects that a call is granted, one for each of its needs.
-fn grants(alloc: Global, call: &Call, words: &[Word]) -> Result<Vec<Serial>, NoMemory>
+pub(crate) fn grants(alloc: Global, call: &Call, words: &[Word]) -> Result<Vec<Serial>, NoMemory>
     ensures { IfOk result (λ grants. grants.items ≡ grants_of call.now words.now) }
 {
     let grants: Vec<Serial> = words
