@@ -4,6 +4,7 @@ mod FilledSlots
 mod FoundRows
 mod IndexLemmas
 mod Living
+mod MappingLemmas
 mod Options
 mod PlaceLemmas
 mod QueueChanges
@@ -23,6 +24,7 @@ mod StandsDropped
 mod StandsExit
 mod StandsFilled
 mod StandsLinked
+mod StandsMapped
 mod StandsMoved
 mod StandsObjects
 mod StandsOwed

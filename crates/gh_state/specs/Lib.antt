@@ -3,6 +3,7 @@ pub mod Bodies
 pub mod BodyChanges
 pub mod Index
 pub mod Making
+pub mod MappingChanges
 pub mod MemoryChanges
 pub mod NumberChanges
 pub mod Owing
