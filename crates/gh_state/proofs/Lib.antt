@@ -25,6 +25,7 @@ mod StandsExit
 mod StandsFilled
 mod StandsLinked
 mod StandsMapped
+mod StandsMapping
 mod StandsMoved
 mod StandsObjects
 mod StandsOwed

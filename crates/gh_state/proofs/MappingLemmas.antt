@@ -51,11 +51,11 @@ unmaps row old new (Err errno) refusal gone kept shows = record {
 
 -- filters
 
-filter_here : {R : Type 0} (p : R → Bool) (row : R) (rows : List R) → p row ≡ true
+pub filter_here : {R : Type 0} (p : R → Bool) (row : R) (rows : List R) → p row ≡ true
     → filter p (row ∷ rows) ≡ row ∷ filter p rows
 filter_here p row rows passes = rw passes refl
 
-filter_later : {R : Type 0} (p : R → Bool) (row : R) (rows : List R) → p row ≡ false
+pub filter_later : {R : Type 0} (p : R → Bool) (row : R) (rows : List R) → p row ≡ false
     → filter p (row ∷ rows) ≡ filter p rows
 filter_later p row rows fails = rw fails refl
 

@@ -37,7 +37,7 @@ abbrev pub ShowsIn : (ℕ → Option Span) → List Serial → Body → Type 0
 ShowsIn spans holders body = (space : Mapped) → space_in body ≡ Some space → Shows spans holders space
 
 -- a changed address space still shows who holds the pages
-remapped_shows : (change : Mapped → Mapped → Type 0) (spans : ℕ → Option Span) (holders : List Serial)
+pub remapped_shows : (change : Mapped → Mapped → Type 0) (spans : ℕ → Option Span) (holders : List Serial)
     → ((a b : Mapped) → change a b → Shows spans holders a → Shows spans holders b) → (old new : Body)
     → Remaps change old new → ShowsIn spans holders old → ShowsIn spans holders new
 remapped_shows change spans holders keeps (Space a) (Space b) so shown space is =
