@@ -1,5 +1,5 @@
 -- What lives is found in the parts.
-use Rattle.std.proofs.Common.{◌≡◌, ◌<◌, ◌≤◌, ◌∙◌, ◌==◌, ℕ, Bool, true, List, Option, Some, None, refl, sym, ap, subst, arith, inl, inr, find, is_some, length, IsTrue}
+use Rattle.std.proofs.Common.{◌≡◌, ◌<◌, ◌≤◌, ◌∙◌, ◌==◌, ℕ, true, List, Option, Some, None, refl, sym, ap, subst, arith, inl, inr, find, is_some, length, IsTrue}
 use Rattle.std.specs.Option.{option_map}
 use Rattle.std.proofs.lemmas.Bool.{cases_lt, eqb-true}
 use Rattle.std.proofs.lemmas.List.{get_or_past}
@@ -7,7 +7,6 @@ use Rattle.gh_base.specs.Kind.{kind_number, kind_numbered}
 use Rattle.gh_base.specs.declared.kind.Kind.{Kind}
 use Rattle.gh_base.specs.declared.kind.Kind.TheVariants as kind
 use Rattle.gh_base.specs.declared.limits.TheConstants.{OBJECT_INDICES}
-use Rattle.gh_invariant.specs.Lives.{lives_as}
 use Rattle.gh_model.specs.Boot.{is_of_kind}
 use Rattle.gh_model.specs.Rows.{is_object}
 use Rattle.gh_model.specs.declared.rows.ObjectRow.{ObjectRow}

@@ -1,5 +1,5 @@
 -- Mapping rows that are taken away, and the body that shows them.
-use Rattle.std.proofs.Common.{◌≡◌, ◌≢◌, ◌∙◌, ◌==◌, ◌&&◌, not, ℕ, Bool, true, false, List, [], ◌∷◌, ◌++◌, ◌⊎◌, inl, inr, Option, Some, None, refl, sym, ap, subst, filter, find, map, if◌then◌else◌}
+use Rattle.std.proofs.Common.{◌≡◌, ◌∙◌, ◌==◌, ◌&&◌, not, ℕ, Bool, true, false, List, [], ◌∷◌, ◌⊎◌, inl, inr, Option, Some, None, refl, sym, ap, subst, filter, map, if◌then◌else◌}
 use Rattle.std.specs.Prelude.{OnErr, OnOk, Result, Ok, Err}
 use Rattle.std.specs.List.{list_any}
 use Rattle.std.specs.Result.{result_err}
@@ -13,12 +13,11 @@ use Rattle.gh_addrspace.specs.Rows.{is_chosen, others}
 use Rattle.gh_addrspace.specs.Space.{Shows, Space as Mapped, unmap_refusal}
 use Rattle.gh_addrspace.specs.declared.mapping.Mapping.{Mapping}
 use Rattle.gh_invariant.proofs.Counting.{without_here, without_later}
-use Rattle.gh_model.specs.Boot.{is_row_of}
 use Rattle.gh_model.specs.Changes.{is_mapping, without}
 use Rattle.gh_model.specs.declared.memory.Span.{Span}
 use Rattle.gh_model.specs.declared.rows.MappingRow.{MappingRow}
 use Rattle.gh_model.specs.declared.rows.ObjectRow.{ObjectRow}
-use Rattle.gh_state.specs.Bodies.{bell_in, fits_body, is_body_of, mapping_row, mappings_in, queue_in, space_in, span_in}
+use Rattle.gh_state.specs.Bodies.{bell_in, fits_body, is_body_of, mapping_row, queue_in, span_in}
 use Rattle.gh_state.specs.MappingChanges.{Remaps, Unmaps, pages_of}
 use Rattle.gh_state.specs.declared.body.Body.{Body}
 use Rattle.gh_state.specs.declared.body.Body.TheVariants.{Bell, Extent, NewQueue, Nothing, Queue, Space}

@@ -1,12 +1,10 @@
 -- The parts stand for the rows once the body of an address space has other rows.
-use Rattle.std.proofs.Common.{◌≡◌, ◌≢◌, ◌<◌, ◌≤◌, ◌∙◌, ◌+◌, ◌∷◌, ◌==◌, ◌&&◌, ℕ, Bool, true, false, List, [], Option, Some, None, refl, sym, ap, subst, arith, inl, inr, filter, find, map}
+use Rattle.std.proofs.Common.{◌≡◌, ◌∙◌, ◌+◌, ◌∷◌, ℕ, Bool, true, List, [], Option, Some, refl, sym, ap, subst, inl, inr, filter, map}
 use Rattle.std.proofs.lemmas.Bool.{and_parts, cases_eq, cases_lt, eqb-true, ne_eqb}
 use Rattle.gh_base.specs.declared.ids.Serial.{Serial}
 use Rattle.gh_base.specs.declared.limits.TheConstants.{OBJECT_INDICES}
-use Rattle.gh_addrspace.specs.Rows.{is_chosen, others}
+use Rattle.gh_addrspace.specs.Rows.{is_chosen}
 use Rattle.gh_addrspace.specs.Space.{Shows, Space as Mapped}
-use Rattle.gh_addrspace.specs.declared.mapping.Mapping.{Mapping}
-use Rattle.gh_invariant.specs.Effects.{losses}
 use Rattle.gh_invariant.specs.Premises.{MayUnmap}
 use Rattle.gh_invariant.specs.Valid.{IsValidWithin}
 use Rattle.gh_model.specs.Boot.{is_row_of}
@@ -20,7 +18,7 @@ use Rattle.gh_state.specs.Bodies.{body_of, mapping_row, mappings_in, space_in}
 use Rattle.gh_state.specs.Index.{index_of}
 use Rattle.gh_state.specs.MappingChanges.{Rebodied, Remaps, Unmaps, pages_of}
 use Rattle.gh_state.specs.Shares.{body_at, with_body}
-use Rattle.gh_state.specs.Stands.{SpacesStand, Stands, StandsOwing, span_row_of}
+use Rattle.gh_state.specs.Stands.{Stands, StandsOwing, span_row_of}
 use Rattle.gh_state.specs.declared.body.Body.{Body}
 use Rattle.gh_state.specs.declared.body.Body.TheVariants.{Bell, Extent, NewQueue, Nothing, Queue, Space}
 use Rattle.gh_state.specs.declared.parts.Parts.{Parts}

@@ -1,6 +1,6 @@
 -- The parts stand for the rows once a row is mapped; and when it can be.
-use Rattle.std.proofs.Common.{◌≡◌, ◌≢◌, ◌<◌, ◌≤◌, ◌+◌, ◌-◌, ◌∙◌, ◌∷◌, ◌++◌, ◌==◌, ◌&&◌, ◌||◌, ℕ, Bool, true, false, List, [], ◌⊎◌, Option, Some, None, refl, sym, ap, subst, arith, inl, inr, filter, find, length, map, nat_le, nat_lt, not, if◌then◌else◌}
-use Rattle.std.specs.Prelude.{IsSomeAnd, ◌^◌, count_by}
+use Rattle.std.proofs.Common.{◌≡◌, ◌<◌, ◌≤◌, ◌+◌, ◌-◌, ◌∙◌, ◌∷◌, ◌++◌, ◌||◌, ℕ, Bool, true, false, List, [], Option, Some, None, refl, sym, ap, subst, arith, inl, inr, filter, find, length, map, nat_le, nat_lt}
+use Rattle.std.specs.Prelude.{IsSomeAnd, ◌^◌}
 use Rattle.std.specs.List.{list_any}
 use Rattle.std.specs.Option.{option_map}
 use Rattle.std.proofs.lemmas.Bool.{and_parts, cases_Bool, cases_eq, eq-eqb, le-ltb, leb-true, lt-leb, ne_eqb, or_from, or_parts}
@@ -9,10 +9,10 @@ use Rattle.std.proofs.lemmas.List.Sums.{length-filter}
 use Rattle.gh_base.specs.declared.ids.Serial.{Serial}
 use Rattle.gh_base.specs.declared.kind.Kind.TheVariants as kind
 use Rattle.gh_addrspace.specs.Rows.{overlaps as meets_mapping}
-use Rattle.gh_addrspace.specs.Space.{Shows, Space as Mapped, span_map_refusal}
+use Rattle.gh_addrspace.specs.Space.{Space as Mapped, span_map_refusal}
 use Rattle.gh_addrspace.specs.declared.mapping.Mapping.{Mapping}
 use Rattle.gh_extent.specs.Extents.{Extents, row_span, span_of}
-use Rattle.gh_invariant.specs.Lives.{lives_as, mapping_stands, meets, span_fits, spans_row}
+use Rattle.gh_invariant.specs.Lives.{lives_as, mapping_stands, span_fits, spans_row}
 use Rattle.gh_invariant.proofs.Counting.{found_all}
 use Rattle.gh_invariant.specs.Premises.{MayMap}
 use Rattle.gh_invariant.specs.Valid.{IsValidWithin}
@@ -24,17 +24,16 @@ use Rattle.gh_model.specs.declared.memory.MapRow.{MapRow}
 use Rattle.gh_model.specs.declared.memory.Span.{Span}
 use Rattle.gh_model.specs.declared.rows.ExtentRow.{ExtentRow}
 use Rattle.gh_model.specs.declared.rows.MappingRow.{MappingRow}
-use Rattle.gh_model.specs.declared.rows.ObjectRow.{ObjectRow}
 use Rattle.gh_model.specs.declared.state.State.{State}
 use Rattle.gh_objects.specs.Counts.{with_reference}
 use Rattle.gh_objects.specs.declared.header.Header.{Header}
-use Rattle.gh_state.specs.Bodies.{body_of, fits_body, is_body_of, mapping_row, mappings_in, space_in}
+use Rattle.gh_state.specs.Bodies.{body_of, is_body_of, mapping_row, mappings_in}
 use Rattle.gh_state.specs.Index.{index_of}
 use Rattle.gh_state.specs.Making.{HasRoom}
 use Rattle.gh_state.specs.MappingChanges.{FitsBody, FitsIn, Maps, Rebodied, Remaps, map_row}
 use Rattle.gh_state.specs.Owing.{HasCount, recounted}
 use Rattle.gh_state.specs.Shares.{with_body}
-use Rattle.gh_state.specs.Stands.{SpacesStand, Stands, StandsOwing, extent_rows, page_holders, span_row_of}
+use Rattle.gh_state.specs.Stands.{Stands, StandsOwing, extent_rows, page_holders, span_row_of}
 use Rattle.gh_state.specs.declared.body.Body.{Body}
 use Rattle.gh_state.specs.declared.body.Body.TheVariants.{Bell, Extent, NewQueue, Nothing, Queue, Space}
 use Rattle.gh_state.specs.declared.journal.Memory.{Memory}

@@ -1,16 +1,13 @@
 -- The parts stand for the rows once an extent, or the root extent, has its span.
-use Rattle.std.proofs.Common.{◌≡◌, ◌≢◌, ◌<◌, ◌≤◌, ◌+◌, ◌-◌, ◌∙◌, ◌∷◌, ◌++◌, ◌==◌, ◌&&◌, ◌||◌, ℕ, Bool, true, false, List, [], Option, Some, None, refl, sym, ap, subst, arith, inl, inr, find, length, replicate, if◌then◌else◌}
+use Rattle.std.proofs.Common.{◌≡◌, ◌<◌, ◌+◌, ◌-◌, ◌∙◌, ◌∷◌, ◌++◌, ◌==◌, ◌&&◌, ◌||◌, ℕ, Bool, true, false, List, [], Option, Some, None, refl, sym, ap, subst, arith, inl, inr, find, length, replicate, if◌then◌else◌}
 use Rattle.std.specs.Prelude.{◌^◌}
 use Rattle.std.specs.Option.{option_map}
 use Rattle.std.proofs.lemmas.Bool.{and_left, and_parts, both_ways, cases_eq, eq-eqb, eqb-true, ne_eqb, or_cases}
 use Rattle.gh_base.specs.declared.ids.Serial.{Serial}
-use Rattle.gh_base.specs.Kind.{kind_number}
 use Rattle.gh_base.specs.declared.kind.Kind.{Kind}
 use Rattle.gh_base.specs.declared.kind.Kind.TheVariants as kind
-use Rattle.gh_addrspace.specs.Space.{Shows, Space as AddressSpace}
-use Rattle.gh_extent.specs.Extents.{Extents, root_alone, root_row, row_span}
+use Rattle.gh_extent.specs.Extents.{root_alone, root_row, row_span}
 use Rattle.gh_invariant.proofs.Counting.{find_push_found, find_push_new, find_push_other}
-use Rattle.gh_invariant.specs.Effects.{gains}
 use Rattle.gh_invariant.specs.Lives.{is_part_of, is_root}
 use Rattle.gh_invariant.specs.Premises.{MayAddRoot, MaySpan}
 use Rattle.gh_invariant.specs.Valid.{IsValidWithin}
@@ -30,9 +27,9 @@ use Rattle.gh_state.specs.Making.{HasRoom}
 use Rattle.gh_state.specs.MemoryChanges.{spanned, with_extent, with_memory, with_span}
 use Rattle.gh_state.specs.Owing.{HasCount, recounted}
 use Rattle.gh_state.specs.Shares.{with_body}
-use Rattle.gh_state.specs.Stands.{MemoryStands, ReferencesStand, SpacesStand, SpansStand, Stands, StandsOwing, extent_rows, page_holders, span_row_of}
+use Rattle.gh_state.specs.Stands.{ReferencesStand, SpacesStand, SpansStand, Stands, StandsOwing, extent_rows, page_holders, span_row_of}
 use Rattle.gh_state.specs.declared.body.Body.{Body}
-use Rattle.gh_state.specs.declared.body.Body.TheVariants.{Bell, Extent, NewQueue, Nothing, Queue, Space}
+use Rattle.gh_state.specs.declared.body.Body.TheVariants.{Extent}
 use Rattle.gh_state.specs.declared.journal.Memory.{Memory}
 use Rattle.gh_state.specs.declared.journal.Memory.TheVariants.{Bare, Held}
 use Rattle.gh_state.specs.declared.parts.Parts.{Parts}
@@ -42,7 +39,7 @@ use Rattle.gh_state.proofs.Living.{body_of_kind}
 use Rattle.gh_state.proofs.ShowsLemmas.{shows_bare, shows_extends}
 use Rattle.gh_state.proofs.StandsBodies.{bells_kept, kinds_kept, objects_kept, queues_kept, spaces_kept}
 use Rattle.gh_state.proofs.StandsMoved.{references_moved}
-use Rattle.gh_state.proofs.StandsOwed.{may_owe, owed_next}
+use Rattle.gh_state.proofs.StandsOwed.{may_owe}
 
 -- a span leaves what other kinds show
 pub record KeepsOthers (serial : ℕ) (new old : Body) : Type 0 where

@@ -17,7 +17,7 @@ use Rattle.gh_state.specs.Bodies.{body_of}
 use Rattle.gh_state.specs.Index.{index_of}
 use Rattle.gh_state.specs.Shares.{with_body}
 use Rattle.gh_state.specs.declared.body.Body.{Body}
-use Rattle.gh_state.specs.declared.body.Body.TheVariants.{Bell, Extent, NewQueue, Nothing, Queue, Space}
+use Rattle.gh_state.specs.declared.body.Body.TheVariants.{Space}
 use Rattle.gh_state.specs.declared.parts.Parts.{Parts}
 
 -- the rows of the map call of these pages

@@ -1,5 +1,4 @@
 -- The row is gone.
-use Rattle.std.proofs.Common.{◌≡◌}
 use Rattle.std.proofs.lemmas.Result.{on_ok_weaker}
 use Rattle.gh_state.proofs.MappingLemmas.{unmaps}
 use Rattle.gh_state.proofs.mappings.unmap_in.Goals as goal

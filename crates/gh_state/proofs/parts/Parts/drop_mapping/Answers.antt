@@ -1,7 +1,6 @@
 -- The row is taken away, and then its references are counted no more.
 use Rattle.std.proofs.Common.{◌∷◌, []}
 use Rattle.gh_model.specs.Changes.{drop_mapping as drop_mapping_of}
-use Rattle.gh_state.specs.Stands.{StandsOwing}
 use Rattle.gh_state.proofs.StandsMapped.{unmap_owes}
 use Rattle.gh_state.proofs.StandsOwed.{owed_has, settled_next}
 use Rattle.gh_state.proofs.parts.Parts.drop_mapping.Goals as goal

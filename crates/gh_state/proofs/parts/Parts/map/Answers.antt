@@ -1,5 +1,5 @@
 -- The address space's body is changed, and without memory put back as it was.
-use Rattle.std.proofs.Common.{◌≡◌, ◌∙◌, List, ap, refl, sym, subst}
+use Rattle.std.proofs.Common.{◌∙◌, List, ap, refl, sym, subst}
 use Rattle.std.proofs.lemmas.Result.{on_err_weaker, on_ok_weaker}
 use Rattle.gh_state.specs.MappingChanges.{Maps, Remaps}
 use Rattle.gh_state.specs.Shares.{body_at, with_body}

@@ -1,5 +1,5 @@
 -- The address space's body is changed, if there is one.
-use Rattle.std.proofs.Common.{◌≡◌, ◌∙◌, List, ap, refl, sym, subst}
+use Rattle.std.proofs.Common.{◌∙◌, List, ap, refl, sym, subst}
 use Rattle.gh_state.specs.MappingChanges.{Remaps, Unmaps}
 use Rattle.gh_state.specs.Shares.{body_at}
 use Rattle.gh_state.specs.declared.body.Body.{Body}
