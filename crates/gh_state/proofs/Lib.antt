@@ -15,6 +15,7 @@ mod ShowsLemmas
 mod SlotLemmas
 mod SlotNumbers
 mod StandsAttached
+mod StandsBeginning
 mod StandsBells
 mod StandsBodies
 mod StandsCapabilities

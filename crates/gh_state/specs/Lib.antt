@@ -1,4 +1,5 @@
 pub mod Accounts
+pub mod Beginning
 pub mod Bodies
 pub mod BodyChanges
 pub mod Index
