@@ -1,17 +1,16 @@
 -- Each change of a body is that of one kind's rows, and leaves what the other kinds show.
-use Rattle.std.proofs.Common.{◌≡◌, ℕ, List, Option, Some, None, refl, option_map, sym, ap}
+use Rattle.std.proofs.Common.{◌≡◌, ℕ, Option, Some, None, refl, option_map}
 use Rattle.gh_base.specs.declared.kind.Kind.{Kind}
 use Rattle.gh_base.specs.declared.kind.Kind.TheVariants as kind
 use Rattle.gh_doorbell.specs.Bell.{BellWords}
-use Rattle.gh_model.specs.Changes.{replaced, serial_of, with_room, without_first, without_messages}
+use Rattle.gh_model.specs.Changes.{replaced, with_room, without_first, without_messages}
 use Rattle.gh_model.specs.declared.rows.BellRow.{BellRow}
 use Rattle.gh_model.specs.declared.rows.ObjectRow.{ObjectRow}
-use Rattle.gh_model.specs.declared.rows.QueueRow.{QueueRow}
 use Rattle.gh_msgqueue.specs.Queue.{MessageQueue, empty_queue}
 use Rattle.gh_state.specs.Bodies.{bell_in, fits_body, is_body_of, mappings_in, queue_in, space_in, span_in}
 use Rattle.gh_state.specs.BodyChanges.{belled, on_queue, roomed, without_any, without_one, words_in}
 use Rattle.gh_state.specs.declared.body.Body.{Body}
-use Rattle.gh_state.specs.declared.body.Body.TheVariants.{Nothing, Bell, NewQueue, Queue, Space, Extent}
+use Rattle.gh_state.specs.declared.body.Body.TheVariants.{Bell, NewQueue, Queue}
 
 -- what the kinds with memory show
 pub record KeepsMemory (serial : ℕ) (new old : Body) : Type 0 where

@@ -1,11 +1,10 @@
 -- What the word of a filled slot says.
-use Rattle.std.proofs.Common.{◌≡◌, ◌<◌, ◌≤◌, ◌+◌, ◌-◌, ◌∙◌, ◌==◌, ◌&&◌, ℕ, Bool, true, false, List, [], ◌∷◌, Option, Some, None, refl, sym, ap, subst, arith, find, is_some, IsTrue, if◌then◌else◌}
+use Rattle.std.proofs.Common.{◌≡◌, ◌-◌, ◌∙◌, ◌==◌, ℕ, Bool, true, false, List, [], Option, Some, None, refl, sym, ap, subst, find, is_some, IsTrue, if◌then◌else◌}
 use Rattle.std.specs.Prelude.{slice_index_or}
 use Rattle.std.specs.Option.{option_map_or}
 use Rattle.std.proofs.lemmas.Bool.{and_parts, eqb-true}
-use Rattle.gh_base.specs.CapWord.{filled_bits, filled_state, mark_number, state_of}
+use Rattle.gh_base.specs.CapWord.{filled_state, mark_number, state_of}
 use Rattle.gh_base.specs.Kind.{kind_number}
-use Rattle.gh_base.specs.declared.cap_word.CapState.{CapState}
 use Rattle.gh_base.specs.declared.cap_word.CapWord.{CapWord}
 use Rattle.gh_base.specs.declared.ids.Serial.{Serial}
 use Rattle.gh_base.specs.declared.kind.Kind.TheVariants as kind

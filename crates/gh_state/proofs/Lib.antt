@@ -4,6 +4,7 @@ mod FilledSlots
 mod FoundRows
 mod IndexLemmas
 mod Living
+mod MappingLemmas
 mod Options
 mod PlaceLemmas
 mod QueueChanges
@@ -14,6 +15,7 @@ mod ShowsLemmas
 mod SlotLemmas
 mod SlotNumbers
 mod StandsAttached
+mod StandsBeginning
 mod StandsBells
 mod StandsBodies
 mod StandsCapabilities
@@ -23,6 +25,8 @@ mod StandsDropped
 mod StandsExit
 mod StandsFilled
 mod StandsLinked
+mod StandsMapped
+mod StandsMapping
 mod StandsMoved
 mod StandsObjects
 mod StandsOwed

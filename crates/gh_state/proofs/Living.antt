@@ -1,16 +1,20 @@
 -- What lives is found in the parts.
-use Rattle.std.proofs.Common.{◌≡◌, ◌<◌, ◌≤◌, ◌∙◌, ℕ, Bool, true, List, Option, Some, None, refl, sym, ap, subst, arith, inl, inr, find, is_some, length, IsTrue}
+use Rattle.std.proofs.Common.{◌≡◌, ◌<◌, ◌≤◌, ◌∙◌, ◌==◌, ℕ, true, List, Option, Some, None, refl, sym, ap, subst, arith, inl, inr, find, is_some, length, IsTrue}
 use Rattle.std.specs.Option.{option_map}
-use Rattle.std.proofs.lemmas.Bool.{cases_lt}
+use Rattle.std.proofs.lemmas.Bool.{cases_lt, eqb-true}
 use Rattle.std.proofs.lemmas.List.{get_or_past}
+use Rattle.gh_base.specs.Kind.{kind_number, kind_numbered}
 use Rattle.gh_base.specs.declared.kind.Kind.{Kind}
+use Rattle.gh_base.specs.declared.kind.Kind.TheVariants as kind
 use Rattle.gh_base.specs.declared.limits.TheConstants.{OBJECT_INDICES}
-use Rattle.gh_invariant.specs.Lives.{lives_as}
 use Rattle.gh_model.specs.Boot.{is_of_kind}
 use Rattle.gh_model.specs.Rows.{is_object}
 use Rattle.gh_model.specs.declared.rows.ObjectRow.{ObjectRow}
 use Rattle.gh_objects.specs.Headers.{header_at}
 use Rattle.gh_objects.specs.declared.header.Header.{Header}
+use Rattle.gh_state.specs.Bodies.{fits_body, is_body_of}
+use Rattle.gh_state.specs.declared.body.Body.{Body}
+use Rattle.gh_state.proofs.Options.{some_same}
 use Rattle.gh_state.specs.Index.{index_of}
 use Rattle.gh_state.specs.Stands.{ObjectsStand, header_of}
 use Rattle.gh_state.specs.declared.shares.Place.{Place}
@@ -48,3 +52,22 @@ index_below headers shares retirements objects stand serial row is =
           (stand.each serial ∙ ap (option_map (header_of headers)) is)
           (omega (arith, stand.indexed.indices)))
     ]
+
+numbered : (k : Kind) → kind_numbered (kind_number k) ≡ Some k
+numbered kind.Partition = refl
+numbered kind.Cspace = refl
+numbered kind.Space = refl
+numbered kind.Extent = refl
+numbered kind.Bell = refl
+numbered kind.Queue = refl
+
+same_kind : (a b : Kind) → (kind_number a == kind_number b) ≡ true → a ≡ b
+same_kind a b same =
+    some_same a b (sym (numbered a) ∙ ap kind_numbered (eqb-true _ _ same) ∙ numbered b)
+
+-- the body of a live object is that of its kind
+pub body_of_kind : (k : Kind) (found : Option ObjectRow) (body : Body) → is_of_kind k found ≡ true
+    → fits_body body found ≡ true → is_body_of k body ≡ true
+body_of_kind k None body is fits = absurd (let never : ⊥ = cc in never)
+body_of_kind k (Some row) body is fits =
+    subst (λ (one : Kind). is_body_of one body ≡ true) (same_kind row.kind k is) fits

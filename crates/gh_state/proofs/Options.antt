@@ -1,5 +1,5 @@
 -- What is seen of a row that may be there.
-use Rattle.std.proofs.Common.{◌≡◌, ◌∙◌, List, Option, Some, None, refl, sym, ap}
+use Rattle.std.proofs.Common.{◌≡◌, ◌∙◌, Option, Some, None, refl, ap}
 use Rattle.std.specs.Option.{option_map, option_map_or}
 
 -- two functions that agree map alike

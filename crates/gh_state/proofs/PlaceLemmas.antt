@@ -1,13 +1,12 @@
 -- What is at each index once what is at one of them is another.
-use Rattle.std.proofs.Common.{◌≡◌, ◌≢◌, ◌<◌, ◌≤◌, ◌∙◌, ◌*◌, ◌+◌, ℕ, List, [], Option, None, refl, sym, ap, subst, arith, inl, inr, length, set, get_or}
+use Rattle.std.proofs.Common.{◌≡◌, ◌≢◌, ◌<◌, ◌≤◌, ◌∙◌, ℕ, List, [], Option, None, refl, sym, ap, subst, arith, inl, inr, length, set, get_or}
 use Rattle.std.specs.Prelude.{All}
 use Rattle.std.proofs.lemmas.Bool.{cases_lt, cases_eq}
 use Rattle.std.proofs.lemmas.List.{get_or-set_same, get_or-set_other, length-set, set_past}
 use Rattle.std.proofs.lemmas.List.Elements.{All-get_or, All-set}
 use Rattle.std.proofs.lemmas.Nat.{le-div}
 use Rattle.gh_base.specs.declared.limits.TheConstants.{OBJECT_INDICES, PARTITION_PLACES, PARTITIONS}
-use Rattle.gh_state.specs.Shares.{AreShares, body_at, no_place, place_at, place_in, with_cost_at}
-use Rattle.gh_state.specs.declared.body.Body.{Body}
+use Rattle.gh_state.specs.Shares.{AreShares, no_place, place_at, place_in, with_cost_at}
 use Rattle.gh_state.specs.declared.shares.Place.{Place}
 use Rattle.gh_objects.specs.declared.header.Header.{Header}
 use Rattle.gh_state.specs.Index.{AreIndexed, found_index, index_of}

@@ -1,11 +1,10 @@
 -- Each change of a queue's body goes together with one of its row.
-use Rattle.std.proofs.Common.{◌≡◌, ◌∙◌, ℕ, List, [], Option, Some, refl, sym}
+use Rattle.std.proofs.Common.{◌∙◌, ℕ, List, refl, sym}
 use Rattle.gh_invariant.specs.Premises.{MaySend}
 use Rattle.gh_model.specs.Changes.{with_message, with_room, without_first, without_messages}
-use Rattle.gh_model.specs.declared.rows.QueueRow.{QueueRow}
 use Rattle.gh_model.specs.declared.state.State.{State}
-use Rattle.gh_msgqueue.specs.Queue.{MessageQueue, empty_queue}
-use Rattle.gh_state.specs.Bodies.{body_of, queue_in}
+use Rattle.gh_msgqueue.specs.Queue.{empty_queue}
+use Rattle.gh_state.specs.Bodies.{body_of}
 use Rattle.gh_state.specs.BodyChanges.{on_queue, roomed, sent_to, without_any, without_one}
 use Rattle.gh_state.specs.Stands.{Stands}
 use Rattle.gh_state.specs.declared.body.Body.{Body}

@@ -1,7 +1,6 @@
 -- A queue's first message that goes.
-use Rattle.std.proofs.Common.{◌≡◌, ◌≤◌, ◌∷◌, ◌∙◌, ℕ, Bool, List, [], Option, Some, None, refl, sym, ap, subst, arith, length}
-use Rattle.std.specs.Prelude.{All, IfOk, OnErr, Result, Ok, Err, drop, slice_get}
-use Rattle.std.specs.Result.{result_err}
+use Rattle.std.proofs.Common.{◌≡◌, ◌≤◌, ◌∷◌, ◌∙◌, ℕ, List, [], Some, None, refl, sym, ap, subst, arith, length}
+use Rattle.std.specs.Prelude.{All, drop}
 use Rattle.std.proofs.lemmas.Bool.{le-ltb}
 use Rattle.std.proofs.lemmas.List.Elements.{All-head}
 use Rattle.gh_base.specs.declared.errno.Errno.{Errno}

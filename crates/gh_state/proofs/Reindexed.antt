@@ -1,11 +1,9 @@
 -- The parts stand where headers are others, and every serial keeps its index.
-use Rattle.std.proofs.Common.{◌≡◌, ◌∙◌, ℕ, Bool, true, List, Option, Some, None, refl, sym, ap, subst}
+use Rattle.std.proofs.Common.{◌≡◌, ◌∙◌, ℕ, List, Option, Some, None, sym, ap}
 use Rattle.gh_base.specs.declared.cap_word.CapWord.{CapWord}
 use Rattle.gh_base.specs.declared.ids.Serial.{Serial}
 use Rattle.gh_base.specs.declared.kind.Kind.TheVariants as kind
 use Rattle.gh_invariant.specs.Lives.{lives_as}
-use Rattle.gh_model.specs.Word.{setting_number}
-use Rattle.gh_model.specs.Rows.{fills, tells_setting}
 use Rattle.gh_model.specs.declared.rows.BellRow.{BellRow}
 use Rattle.gh_model.specs.declared.rows.CapabilityRow.{CapabilityRow}
 use Rattle.gh_model.specs.declared.rows.ExtentRow.{ExtentRow}

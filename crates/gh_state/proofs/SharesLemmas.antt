@@ -2,7 +2,7 @@
 use Rattle.std.proofs.Common.{◌≡◌, ◌≢◌, ◌<◌, ◌≤◌, ◌∙◌, ◌/◌, ◌%◌, ◌*◌, ◌+◌, ℕ, List, [], refl, sym, ap, subst, arith, inl, inr, length, set, get_or}
 use Rattle.std.specs.Prelude.{All}
 use Rattle.std.proofs.lemmas.Bool.{cases_lt, cases_eq}
-use Rattle.std.proofs.lemmas.List.{get_or-set_same, get_or-set_other, length-set, set_past, set-set}
+use Rattle.std.proofs.lemmas.List.{get_or-set_same, get_or-set_other, length-set, set_past, set-get_or, set-set}
 use Rattle.std.proofs.lemmas.List.Elements.{All-get_or, All-set}
 use Rattle.std.proofs.lemmas.Nat.{div-add-mod', div_below, le-div, mod_below}
 use Rattle.gh_base.specs.declared.limits.TheConstants.{OBJECT_INDICES, PARTITION_PLACES, PARTITIONS}
@@ -154,3 +154,11 @@ body_twice shares index first body =
           ∙ set_past shares (share_of index) (written shares index first) past
           ∙ sym (set_past shares (share_of index) (written shares index body) past)
     ]
+
+-- a body that is put where it stands
+pub body_same : (shares : List (List Place)) (index : ℕ)
+    → with_body shares index (body_at shares index) ≡ shares
+body_same shares index =
+    ap (set shares (share_of index))
+    (set-get_or (get_or shares (share_of index) []) (spot_of index) no_place)
+    ∙ set-get_or shares (share_of index) []

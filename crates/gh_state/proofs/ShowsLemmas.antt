@@ -2,9 +2,8 @@
 use Rattle.std.proofs.Common.{◌≡◌, ◌∙◌, ◌+◌, ℕ, Bool, true, false, List, [], ◌∷◌, Option, Some, None, refl, sym, ap, subst, find, map, if◌then◌else◌}
 use Rattle.std.specs.Prelude.{All, IsSomeAnd}
 use Rattle.std.proofs.lemmas.List.Elements.{All-head, All-nil, All-tail, All-weaker}
-use Rattle.gh_base.specs.declared.ids.PageNo.{PageNo}
 use Rattle.gh_base.specs.declared.ids.Serial.{Serial}
-use Rattle.gh_addrspace.specs.Space.{IsNamed, Shows, Space, rows_of}
+use Rattle.gh_addrspace.specs.Space.{IsNamed, Shows, Space}
 use Rattle.gh_addrspace.specs.declared.mapping.Mapping.{Mapping}
 use Rattle.gh_model.specs.Memory.{access_of, covering_access, row_covers, span_access}
 use Rattle.gh_model.specs.declared.memory.MapRow.{MapRow}

@@ -1,11 +1,7 @@
 -- The slots of a capability space in the list of all.
-use Rattle.std.proofs.Common.{◌≡◌, ◌∙◌, ℕ, List, [], ◌-◌, Option, Some, None, refl, sym, ap, subst, length, find, get_or, position, slice_get, nat_lt}
-use Rattle.std.specs.List.{position_or_len}
+use Rattle.std.proofs.Common.{◌≡◌, ◌∙◌, ℕ, List, [], ◌-◌, Option, Some, None, sym, ap, find, get_or, position}
 use Rattle.std.specs.Option.{option_map_or}
-use Rattle.std.proofs.lemmas.List.Folds.{find_at}
-use Rattle.std.proofs.lemmas.List.Quantifiers.{position-Some}
 use Rattle.std.proofs.lemmas.List.{set-set}
-use Rattle.std.proofs.lemmas.Option.{cond_some, slice_get-get_or}
 use Rattle.gh_state.proofs.FoundRows.{placed_found, unplaced_none}
 use Rattle.gh_base.specs.declared.cap_word.CapWord.{CapWord}
 use Rattle.gh_base.specs.CapWord.{revoked_bits}

@@ -1,5 +1,5 @@
 -- The word under a capability number, and that of another slot.
-use Rattle.std.proofs.Common.{◌≡◌, ◌≢◌, ◌<◌, ◌≤◌, ◌+◌, ◌-◌, ◌∙◌, ◌==◌, ◌&&◌, ℕ, Bool, true, false, List, refl, sym, ap, arith, length, get_or, set, nat_le, IsTrue, if◌then◌else◌}
+use Rattle.std.proofs.Common.{◌≡◌, ◌≢◌, ◌-◌, ◌∙◌, ℕ, true, List, refl, sym, arith, length, get_or, set, nat_le, IsTrue}
 use Rattle.std.proofs.lemmas.Bool.{and_parts, leb-true, ne_eqb}
 use Rattle.std.proofs.lemmas.List.{get_or-set_other, get_or-set_same}
 use Rattle.gh_base.specs.declared.cap_word.CapWord.{CapWord}

@@ -1,8 +1,6 @@
 -- The parts stand for the rows once a CPU or a link is added.
-use Rattle.std.proofs.Common.{◌≡◌, ◌+◌, ◌≤◌, ◌<◌, ◌-◌, ◌∙◌, ◌∷◌, ◌++◌, ℕ, Bool, true, false, List, [], Option, Some, None, refl, sym, ap, subst, arith, find, length, if◌then◌else◌}
+use Rattle.std.proofs.Common.{◌≡◌, ◌+◌, ◌<◌, ◌-◌, ◌∙◌, ◌∷◌, ◌++◌, ℕ, Bool, List, [], refl, sym, ap, subst, arith, if◌then◌else◌}
 use Rattle.std.specs.Prelude.{◌^◌}
-use Rattle.gh_base.specs.declared.ids.Serial.{Serial}
-use Rattle.gh_invariant.specs.Effects.{attachments, losses}
 use Rattle.gh_invariant.specs.Premises.{MayAttach}
 use Rattle.gh_invariant.specs.Valid.{IsValidWithin}
 use Rattle.gh_model.specs.Changes.{add_cpu}

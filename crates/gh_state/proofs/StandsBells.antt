@@ -1,5 +1,5 @@
 -- The parts stand for the rows once a doorbell's words are set.
-use Rattle.std.proofs.Common.{◌≡◌, ◌≢◌, ◌∙◌, ◌==◌, ℕ, Bool, true, false, List, refl, sym, ap}
+use Rattle.std.proofs.Common.{◌≡◌, ◌≢◌, ◌∙◌, ◌==◌, ℕ, true, false, List, refl, sym}
 use Rattle.std.proofs.lemmas.Bool.{eq-eqb, eqb-true, ne_eqb}
 use Rattle.gh_base.specs.declared.ids.Serial.{Serial}
 use Rattle.gh_model.specs.Changes.{replaced, set_bell}
@@ -15,7 +15,7 @@ use Rattle.gh_state.specs.declared.body.Body.{Body}
 use Rattle.gh_state.specs.declared.parts.Parts.{Parts}
 use Rattle.gh_state.proofs.BodyChangeLemmas.{belled_kind, belled_memory, belled_queues, belled_shown}
 use Rattle.gh_state.proofs.BodyLemmas.{rows_changed}
-use Rattle.gh_state.proofs.StandsBodies.{before, bells_kept, kinds_kept, objects_kept, queues_kept, spaces_kept, spans_kept}
+use Rattle.gh_state.proofs.StandsBodies.{kinds_kept, objects_kept, queues_kept, spaces_kept, spans_kept}
 
 -- what is this serial's is no other's
 pub apart_serials : (serial other n : ℕ) → other ≢ serial → (n == serial) ≡ true → (n == other) ≡ false

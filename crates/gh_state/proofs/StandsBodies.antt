@@ -1,8 +1,7 @@
 -- The parts stand for the rows once the body of one object is another: what is kept beside the rows
 -- of the body's kind.
-use Rattle.std.proofs.Common.{◌≡◌, ◌∙◌, ℕ, List, Option, Some, None, refl, sym, find}
+use Rattle.std.proofs.Common.{◌≡◌, ◌∙◌, ℕ, List, Option, sym, find}
 use Rattle.gh_base.specs.declared.ids.Serial.{Serial}
-use Rattle.gh_addrspace.specs.Space.{Space as AddressSpace}
 use Rattle.gh_model.specs.Rows.{is_object}
 use Rattle.gh_model.specs.declared.rows.ObjectRow.{ObjectRow}
 use Rattle.gh_model.specs.declared.state.State.{State}

@@ -1,17 +1,14 @@
 -- The parts stand for the rows once a slot is filled, emptied or revoked.
-use Rattle.std.proofs.Common.{◌≡◌, ◌≢◌, ◌<◌, ◌≤◌, ◌+◌, ◌-◌, ◌∙◌, ◌==◌, ◌&&◌, ◌∷◌, not, ℕ, Bool, true, false, List, [], Option, Some, None, refl, sym, ap, subst, arith, find, is_some, get_or, IsTrue, if◌then◌else◌}
-use Rattle.std.specs.Prelude.{◌^◌, nat_le}
+use Rattle.std.proofs.Common.{◌≡◌, ◌<◌, ◌≤◌, ◌+◌, ◌-◌, ◌∙◌, ◌∷◌, not, ℕ, Bool, true, List, [], Option, Some, None, refl, sym, ap, subst, arith, find, get_or, if◌then◌else◌}
 use Rattle.std.proofs.lemmas.Bool.{and_from, eq-eqb, leb-true}
 use Rattle.gh_base.specs.CapWord.{state_of}
 use Rattle.gh_base.specs.declared.cap_word.CapWord.{CapWord}
-use Rattle.gh_base.specs.declared.cap_word.CapState.TheVariants.{Empty}
 use Rattle.gh_base.specs.declared.ids.Serial.{Serial}
-use Rattle.gh_base.specs.declared.kind.Kind.TheVariants as kind
 use Rattle.gh_cspace.specs.Cspace.{IsFreeSlot, with_word, word_at}
 use Rattle.gh_invariant.proofs.Counting.{found_all}
 use Rattle.gh_invariant.proofs.SlotsFit.{SettingParts, setting_parts}
 use Rattle.gh_invariant.proofs.WordsLeft.{SlotSet, SlotStays, slot_set, slot_stays_all}
-use Rattle.gh_invariant.specs.Effects.{leaves, object_of}
+use Rattle.gh_invariant.specs.Effects.{leaves}
 use Rattle.gh_invariant.specs.Lives.{setting_fits}
 use Rattle.gh_invariant.specs.Premises.{MayPut}
 use Rattle.gh_invariant.specs.Valid.{IsValidWithin}

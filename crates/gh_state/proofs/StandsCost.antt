@@ -1,5 +1,5 @@
 -- The parts stand for the rows once an object costs more.
-use Rattle.std.proofs.Common.{◌≡◌, ◌≢◌, ◌<◌, ◌≤◌, ◌+◌, ◌-◌, ◌∙◌, ◌==◌, ℕ, Bool, true, false, List, [], Option, Some, None, refl, sym, ap, subst, arith, inl, inr, find, is_some, length, nat_lt}
+use Rattle.std.proofs.Common.{◌≡◌, ◌≢◌, ◌<◌, ◌≤◌, ◌+◌, ◌-◌, ◌∙◌, ℕ, true, false, List, [], Option, Some, None, refl, sym, ap, subst, arith, inl, inr, find, is_some, nat_lt}
 use Rattle.std.specs.Prelude.{slice_index_or}
 use Rattle.std.specs.Option.{option_map, option_map_or}
 use Rattle.std.proofs.lemmas.Bool.{cases_eq, eqb-true, le-ltb, ne_eqb}
@@ -26,12 +26,11 @@ use Rattle.gh_model.specs.declared.rows.QueueRow.{QueueRow}
 use Rattle.gh_model.specs.declared.state.State.{State}
 use Rattle.gh_objects.specs.Counts.{count_at}
 use Rattle.gh_objects.specs.Headers.{header_at}
-use Rattle.gh_objects.specs.declared.count.Count.{Count}
 use Rattle.gh_objects.specs.declared.header.Header.{Header}
-use Rattle.gh_state.specs.Accounts.{costing_more, more_used, using}
+use Rattle.gh_state.specs.Accounts.{costing_more, using}
 use Rattle.gh_state.specs.Bodies.{bell_in, body_of, fits_body, mappings_in, queue_in, space_in, span_in}
 use Rattle.gh_state.specs.Index.{home_in, index_of, partition_in, serial_at}
-use Rattle.gh_state.specs.Shares.{body_at, place_at, with_cost_at}
+use Rattle.gh_state.specs.Shares.{place_at, with_cost_at}
 use Rattle.gh_state.specs.Stands.{KindsStand, Stands, UnitsStand, account_of, count_of, header_of, is_account}
 use Rattle.gh_state.specs.declared.body.Body.{Body}
 use Rattle.gh_state.specs.declared.journal.Account.{Account}

@@ -1,10 +1,9 @@
 -- The counts stand for the references once a reference more or less is counted.
-use Rattle.std.proofs.Common.{◌≡◌, ◌≢◌, ◌<◌, ◌≤◌, ◌+◌, ◌-◌, ◌∙◌, ◌∷◌, ◌==◌, ℕ, Bool, true, false, List, Option, Some, None, refl, sym, ap, subst, arith, inl, inr, find, is_some, length, slice_set}
+use Rattle.std.proofs.Common.{◌≡◌, ◌≢◌, ◌≤◌, ◌+◌, ◌∙◌, ◌∷◌, ◌==◌, ℕ, List, Option, Some, None, refl, sym, ap, subst, arith, inl, inr, find, is_some, length, slice_set}
 use Rattle.std.specs.Prelude.{IfSome}
 use Rattle.std.specs.Option.{option_map}
 use Rattle.std.proofs.lemmas.Bool.{cases_eq, cases_lt, eq-eqb, eqb-true, ne_eqb}
 use Rattle.std.proofs.lemmas.List.{get_or-set_other, get_or_past, set-get_or}
-use Rattle.gh_base.specs.declared.ids.ObjIndex.{ObjIndex}
 use Rattle.gh_base.specs.declared.ids.Serial.{Serial}
 use Rattle.gh_invariant.proofs.Counting.{count_cons, found_passes, one_false, one_true}
 use Rattle.gh_invariant.specs.Effects.{is_that, times}

@@ -1,5 +1,5 @@
 -- The parts stand for the rows once a filled slot is emptied, or its capability revoked.
-use Rattle.std.proofs.Common.{◌≡◌, ◌+◌, ◌-◌, ◌∙◌, ◌∷◌, not, ℕ, Bool, true, false, List, [], Option, Some, None, refl, sym, ap, subst, find, get_or, length, is_some, IsTrue, if◌then◌else◌}
+use Rattle.std.proofs.Common.{◌≡◌, ◌+◌, ◌-◌, ◌∙◌, ◌∷◌, not, ℕ, Bool, true, false, List, [], Option, Some, None, refl, sym, ap, subst, find, get_or, length, if◌then◌else◌}
 use Rattle.std.specs.Prelude.{IfSome, ◌≤◌}
 use Rattle.std.specs.Option.{option_map}
 use Rattle.std.proofs.lemmas.Bool.{and_from, eq-eqb}
@@ -10,20 +10,17 @@ use Rattle.gh_base.specs.declared.limits.TheConstants.{CSPACE_SLOTS}
 use Rattle.gh_cspace.specs.Cspace.{empty_word, revoked_word, with_word, word_at}
 use Rattle.gh_invariant.proofs.WordsLeft.{SlotSet, slot_set}
 use Rattle.gh_invariant.specs.Effects.{losses, object_named, object_of, slot_names}
-use Rattle.gh_invariant.specs.Premises.{IsFilled}
-use Rattle.gh_invariant.specs.Valid.{IsValidWithin}
 use Rattle.gh_model.specs.Changes.{as_revoked, changed, drop_capability, revoke_capability}
-use Rattle.gh_model.specs.Rows.{fills, tells_setting}
+use Rattle.gh_model.specs.Rows.{fills}
 use Rattle.gh_model.specs.Word.{setting}
 use Rattle.gh_model.specs.declared.change.Change.TheVariants.{DropCapability, RevokeCapability}
 use Rattle.gh_model.specs.declared.rows.CapabilityRow.{CapabilityRow}
 use Rattle.gh_model.specs.declared.state.State.{State}
 use Rattle.gh_objects.specs.Counts.{without_reference}
 use Rattle.gh_objects.specs.declared.header.Header.{Header}
-use Rattle.gh_state.specs.Making.{HasRoom}
 use Rattle.gh_state.specs.Owing.{HasCount, recounted, settled}
 use Rattle.gh_state.specs.SlotChanges.{with_slots}
-use Rattle.gh_state.specs.Slots.{emptied, name_in, names_of, no_serial, revoked, word_in, words_of}
+use Rattle.gh_state.specs.Slots.{emptied, no_serial, revoked}
 use Rattle.gh_state.specs.Stands.{ShowsSlot, Stands, StandsOwing}
 use Rattle.gh_state.specs.declared.parts.Parts.{Parts}
 use Rattle.gh_state.specs.declared.slots.Slots.{Slots}

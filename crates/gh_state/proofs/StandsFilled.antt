@@ -1,5 +1,5 @@
 -- The parts stand for the rows once a slot is filled before the first entry.
-use Rattle.std.proofs.Common.{◌≡◌, ◌<◌, ◌+◌, ◌-◌, ◌∙◌, ◌∷◌, ◌%◌, not, ℕ, Bool, true, false, List, [], Option, Some, None, refl, sym, ap, subst, arith, find, get_or, if◌then◌else◌}
+use Rattle.std.proofs.Common.{◌≡◌, ◌+◌, ◌-◌, ◌∙◌, ◌∷◌, not, Bool, List, [], Option, Some, refl, sym, ap, subst, find, get_or, if◌then◌else◌}
 use Rattle.std.specs.Option.{option_map_or}
 use Rattle.std.proofs.lemmas.Bool.{and_from, eq-eqb}
 use Rattle.std.proofs.Math.Nat.{mod-eq_of_lt}

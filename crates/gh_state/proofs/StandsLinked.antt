@@ -1,12 +1,10 @@
 -- The parts stand for the rows once a VM is linked.
-use Rattle.std.proofs.Common.{◌≡◌, ◌+◌, ◌≤◌, ◌<◌, ◌-◌, ◌∙◌, ◌∷◌, ◌++◌, ℕ, List, [], Option, Some, None, refl, sym, ap, subst, arith, find, length}
-use Rattle.std.specs.Prelude.{◌^◌}
+use Rattle.std.proofs.Common.{◌≡◌, ◌+◌, ◌∙◌, ◌∷◌, ◌++◌, ℕ, List, [], Option, refl, sym, ap, subst}
 use Rattle.gh_base.specs.declared.ids.Serial.{Serial}
-use Rattle.gh_invariant.specs.Effects.{losses, space_named}
+use Rattle.gh_invariant.specs.Effects.{space_named}
 use Rattle.gh_invariant.specs.Premises.{MayLink}
 use Rattle.gh_invariant.specs.Valid.{IsValidWithin}
 use Rattle.gh_model.specs.Changes.{add_link}
-use Rattle.gh_model.specs.Rows.{cpu_row}
 use Rattle.gh_model.specs.declared.change.Change.TheVariants.{AddLink}
 use Rattle.gh_model.specs.declared.rows.CpuRow.{CpuRow}
 use Rattle.gh_model.specs.declared.rows.LinkRow.{LinkRow}
@@ -18,7 +16,7 @@ use Rattle.gh_state.specs.Owing.{HasCount, recounted}
 use Rattle.gh_state.specs.Stands.{ReferencesStand, Stands, StandsOwing}
 use Rattle.gh_state.specs.declared.parts.Parts.{Parts}
 use Rattle.gh_state.proofs.StandsMoved.{references_moved}
-use Rattle.gh_state.proofs.StandsOwed.{may_owe, owed_next}
+use Rattle.gh_state.proofs.StandsOwed.{owed_next}
 
 -- a count beside other links
 pub has_linked : (parts now : Parts) (links : List LinkRow) (object : ℕ) (P : ℕ → Type 0)

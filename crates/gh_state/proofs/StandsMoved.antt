@@ -1,16 +1,14 @@
 -- The counts stand for the references once a change has moved them: what was owed before it was what
 -- it gives, and what is owed behind it is what it takes.
-use Rattle.std.proofs.Common.{◌≡◌, ◌<◌, ◌≤◌, ◌+◌, ◌∙◌, ℕ, Bool, true, false, List, Option, Some, None, refl, sym, ap, subst, arith, inl, inr, find, is_some}
+use Rattle.std.proofs.Common.{◌≡◌, ◌<◌, ◌∙◌, ℕ, List, Option, Some, None, refl, sym, ap, subst, arith, inl, inr, find, is_some}
 use Rattle.std.specs.Option.{option_map}
 use Rattle.std.proofs.lemmas.Bool.{cases_lt, eqb-true}
-use Rattle.gh_base.specs.declared.ids.Serial.{Serial}
 use Rattle.gh_invariant.proofs.Counting.{found_passes, unfound}
 use Rattle.gh_invariant.proofs.ReferencesLaw.{moves}
-use Rattle.gh_invariant.specs.Effects.{gains, losses, times}
+use Rattle.gh_invariant.specs.Effects.{gains, losses}
 use Rattle.gh_invariant.specs.Premises.{MayChange}
 use Rattle.gh_invariant.specs.Valid.{IsValidTo}
 use Rattle.gh_model.specs.Changes.{changed}
-use Rattle.gh_model.specs.References.{references}
 use Rattle.gh_model.specs.Rows.{is_object}
 use Rattle.gh_model.specs.declared.change.Change.{Change}
 use Rattle.gh_model.specs.declared.rows.ObjectRow.{ObjectRow}

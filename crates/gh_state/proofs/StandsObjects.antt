@@ -1,7 +1,6 @@
 -- The parts stand for the rows once an object comes to another stage.
-use Rattle.std.proofs.Common.{◌≡◌, ◌≢◌, ◌∙◌, ◌+◌, ◌==◌, ℕ, Bool, true, false, List, [], Option, Some, None, refl, sym, ap, subst, arith, inl, inr, find, is_some, length, set, get_or}
+use Rattle.std.proofs.Common.{◌≡◌, ◌≢◌, ◌∙◌, ◌+◌, ℕ, List, Option, Some, None, refl, sym, ap, subst, arith, inl, inr, find, is_some, length, set}
 use Rattle.std.specs.Prelude.{slice_index_or}
-use Rattle.std.specs.List.{position_or_len}
 use Rattle.std.specs.Option.{option_map}
 use Rattle.std.proofs.lemmas.Bool.{cases_eq, cases_lt, eq-eqb}
 use Rattle.std.proofs.lemmas.List.{get_or-set_other, length-set, set_past}
@@ -12,7 +11,6 @@ use Rattle.gh_base.specs.declared.kind.Kind.TheVariants as kind
 use Rattle.gh_invariant.proofs.ChangedRow.{count_change_kept, find_change_seen, find_past_change}
 use Rattle.gh_invariant.proofs.UnitsMoved.{used_kept}
 use Rattle.gh_invariant.specs.Effects.{times}
-use Rattle.gh_invariant.specs.Lives.{lives_as}
 use Rattle.gh_model.proofs.ChangedRows.{find_changed}
 use Rattle.gh_model.specs.Boot.{is_of_kind}
 use Rattle.gh_model.specs.Changes.{set_stage, with_stage}
@@ -20,20 +18,16 @@ use Rattle.gh_model.specs.References.{is_inhabitant_of, references}
 use Rattle.gh_model.specs.Units.{given_by}
 use Rattle.gh_model.specs.Rows.{change_row, is_object, is_partition}
 use Rattle.gh_model.specs.declared.rows.ObjectRow.{ObjectRow}
-use Rattle.gh_model.specs.declared.rows.PartitionRow.{PartitionRow}
 use Rattle.gh_model.specs.declared.state.State.{State}
 use Rattle.gh_objects.proofs.ListLemmas.{set_map-here}
 use Rattle.gh_objects.specs.Counts.{count_at}
 use Rattle.gh_objects.specs.Headers.{HeaderTable, has_serial, header_at, header_staged, in_stage}
-use Rattle.gh_objects.specs.declared.count.Count.{Count}
 use Rattle.gh_objects.specs.declared.header.Header.{Header}
 use Rattle.gh_state.specs.Bodies.{fits_body}
 use Rattle.gh_state.specs.Index.{AreIndexed, found_index, index_of, indexed}
 use Rattle.gh_state.specs.Shares.{body_at, place_at}
-use Rattle.gh_state.specs.Stands.{ObjectsStand, ReferencesStand, StandsOwing, UnitsStand, account_of, count_of, header_of}
-use Rattle.gh_state.specs.declared.journal.Account.{Account}
+use Rattle.gh_state.specs.Stands.{StandsOwing, UnitsStand, account_of, count_of, header_of}
 use Rattle.gh_state.specs.declared.parts.Parts.{Parts}
-use Rattle.gh_state.specs.declared.shares.Place.{Place}
 use Rattle.gh_state.proofs.IndexLemmas.{alone, one_serial, unfound_past}
 use Rattle.gh_state.proofs.Options.{Like, like_found, map_none, map_same}
 use Rattle.gh_state.proofs.Reindexed.{bells_at, queues_at, slots_at, spaces_at, spans_at}

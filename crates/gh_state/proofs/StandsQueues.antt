@@ -1,9 +1,8 @@
 -- The parts stand for the rows once a queue is changed.
-use Rattle.std.proofs.Common.{◌≡◌, ◌<◌, ◌≤◌, ◌++◌, ◌∷◌, [], length, ℕ, Bool, true, false, List, Option, Some, None, refl, sym, ap, subst, arith, ◌==◌, ◌∙◌, find}
+use Rattle.std.proofs.Common.{◌≡◌, ◌<◌, ◌≤◌, length, ℕ, List, Option, Some, refl, sym, ap, arith, ◌==◌, ◌∙◌}
 use Rattle.std.specs.Option.{option_map, option_map_or}
 use Rattle.std.proofs.lemmas.Bool.{le-ltb, lt-ltb}
 use Rattle.gh_base.specs.declared.ids.Serial.{Serial}
-use Rattle.gh_invariant.specs.Premises.{MaySend}
 use Rattle.gh_model.specs.Changes.{with_message}
 use Rattle.gh_model.specs.Rows.{change_row, is_queue}
 use Rattle.gh_model.specs.declared.rows.ObjectRow.{ObjectRow}

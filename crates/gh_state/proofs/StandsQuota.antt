@@ -1,14 +1,12 @@
 -- The parts stand for the rows once a partition got its quota.
-use Rattle.std.proofs.Common.{◌≡◌, ◌≢◌, ◌<◌, ◌≤◌, ◌+◌, ◌-◌, ◌∙◌, ◌==◌, ◌&&◌, ℕ, Bool, true, false, List, [], Option, Some, None, refl, sym, ap, subst, arith, inl, inr, find, IsTrue, nat_lt, nat_le, if◌then◌else◌}
-use Rattle.std.specs.Prelude.{count_by}
-use Rattle.std.specs.List.{list_all}
-use Rattle.std.specs.Option.{option_map, option_map_or}
+use Rattle.std.proofs.Common.{◌≡◌, ◌≢◌, ◌<◌, ◌≤◌, ◌+◌, ◌-◌, ◌∙◌, ℕ, true, false, List, Option, Some, None, refl, sym, ap, subst, arith, inl, inr, find, nat_lt, nat_le}
+use Rattle.std.specs.Option.{option_map}
 use Rattle.std.proofs.lemmas.Bool.{and_parts, cases_eq, eq-eqb, eqb-true, le-ltb, ltb-true, ne_eqb}
 use Rattle.gh_base.specs.declared.ids.Serial.{Serial}
 use Rattle.gh_base.specs.declared.limits.TheConstants.{PARTITION_UNITS}
 use Rattle.gh_invariant.proofs.ChangedRow.{find_past_change}
 use Rattle.gh_invariant.proofs.Counting.{found_all, found_passes}
-use Rattle.gh_invariant.proofs.Summing.{number_found, number_if}
+use Rattle.gh_invariant.proofs.Summing.{number_found}
 use Rattle.gh_invariant.proofs.UnitsMoved.{cost_in, given_change, quota_in, used_without}
 use Rattle.gh_invariant.specs.Lives.{cost_fits, giver, lives_under, quota_fits}
 use Rattle.gh_invariant.specs.Premises.{MayGive}
@@ -21,14 +19,11 @@ use Rattle.gh_model.specs.declared.change.Change.TheVariants.{GiveQuota}
 use Rattle.gh_model.specs.declared.rows.ObjectRow.{ObjectRow}
 use Rattle.gh_model.specs.declared.rows.PartitionRow.{PartitionRow}
 use Rattle.gh_model.specs.declared.state.State.{State}
-use Rattle.gh_partition.specs.Units.{Units}
-use Rattle.gh_state.specs.Accounts.{giver_in, giving, more_given, quoted, with_accounts}
+use Rattle.gh_state.specs.Accounts.{giver_in, giving, quoted, with_accounts}
 use Rattle.gh_state.specs.Stands.{Stands, UnitsStand, account_of, is_account}
 use Rattle.gh_state.specs.declared.journal.Account.{Account}
 use Rattle.gh_state.specs.declared.parts.Parts.{Parts}
-use Rattle.gh_state.proofs.FoundRows.{find_changed_passing}
 use Rattle.gh_state.proofs.Living.{There}
-use Rattle.gh_state.proofs.Options.{map_same}
 use Rattle.gh_state.proofs.StandsBells.{apart_serials}
 use Rattle.gh_state.proofs.StandsMoved.{references_moved, serial_some}
 

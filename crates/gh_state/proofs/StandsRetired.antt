@@ -1,7 +1,7 @@
 -- The parts stand for the rows once an object is retired.
-use Rattle.std.proofs.Common.{◌≡◌, ◌≢◌, ◌<◌, ◌≤◌, ◌∙◌, ◌+◌, ◌==◌, ℕ, Bool, true, false, List, [], Option, Some, None, refl, sym, ap, subst, arith, inl, inr, find, is_some, length, set, get_or}
+use Rattle.std.proofs.Common.{◌≡◌, ◌≢◌, ◌<◌, ◌≤◌, ◌∙◌, ◌+◌, ℕ, List, [], Option, Some, None, refl, sym, ap, subst, arith, inl, inr, find, is_some, length, set}
 use Rattle.std.specs.Prelude.{slice_index_or}
-use Rattle.std.specs.Option.{option_map, option_map_or}
+use Rattle.std.specs.Option.{option_map}
 use Rattle.std.proofs.lemmas.Bool.{cases_eq, cases_lt}
 use Rattle.std.proofs.lemmas.List.{get_or-set_other, get_or-set_same, length-set, set_past}
 use Rattle.gh_base.specs.declared.ids.Serial.{Serial}
@@ -17,7 +17,6 @@ use Rattle.gh_model.specs.References.{is_inhabitant_of, references}
 use Rattle.gh_model.specs.Rows.{change_row, is_object, is_partition}
 use Rattle.gh_model.specs.Units.{given_by}
 use Rattle.gh_model.specs.declared.rows.ObjectRow.{ObjectRow}
-use Rattle.gh_model.specs.declared.rows.PartitionRow.{PartitionRow}
 use Rattle.gh_model.specs.declared.state.State.{State}
 use Rattle.gh_objects.proofs.ListLemmas.{set_map-here}
 use Rattle.gh_objects.specs.Counts.{as_retired, count_at, count_changed}
@@ -28,7 +27,7 @@ use Rattle.gh_state.specs.Bodies.{body_of, fits_body}
 use Rattle.gh_state.specs.Index.{index_of}
 use Rattle.gh_state.specs.NumberChanges.{with_retired}
 use Rattle.gh_state.specs.Shares.{place_at}
-use Rattle.gh_state.specs.Stands.{ReferencesStand, Stands, UnitsStand, account_of, count_of, header_of}
+use Rattle.gh_state.specs.Stands.{Stands, UnitsStand, account_of, count_of, header_of}
 use Rattle.gh_state.specs.declared.parts.Parts.{Parts}
 use Rattle.gh_state.proofs.IndexLemmas.{one_serial}
 use Rattle.gh_state.proofs.Living.{index_below}

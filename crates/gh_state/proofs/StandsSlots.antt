@@ -1,13 +1,12 @@
 -- The slots stand for the rows once one of them is changed.
-use Rattle.std.proofs.Common.{◌≡◌, ◌≢◌, ◌≤◌, ◌+◌, ◌-◌, ◌∙◌, ◌==◌, ◌&&◌, ℕ, Bool, true, false, List, [], Option, Some, None, refl, sym, ap, subst, arith, inl, inr, length, find, get_or, set, is_some, IsTrue}
+use Rattle.std.proofs.Common.{◌≡◌, ◌≢◌, ◌-◌, ◌∙◌, ◌==◌, ◌&&◌, ℕ, false, List, [], Option, Some, refl, sym, ap, subst, inl, inr, find, get_or, is_some, IsTrue}
 use Rattle.std.specs.Option.{option_map, option_map_or}
-use Rattle.std.proofs.lemmas.Bool.{and_left, and_right, cases_eq, eqb-true, ne_eqb}
+use Rattle.std.proofs.lemmas.Bool.{and_left, and_right, cases_eq, ne_eqb}
 use Rattle.std.proofs.lemmas.List.{length-set}
 use Rattle.gh_base.specs.declared.cap_word.CapWord.{CapWord}
 use Rattle.gh_base.specs.declared.ids.Serial.{Serial}
 use Rattle.gh_base.specs.declared.kind.Kind.TheVariants as kind
-use Rattle.gh_base.specs.declared.limits.TheConstants.{CSPACE_SLOTS}
-use Rattle.gh_cspace.specs.Cspace.{IsSlot, with_word, word_at}
+use Rattle.gh_cspace.specs.Cspace.{IsSlot, word_at}
 use Rattle.gh_invariant.proofs.ChangedRow.{find_change_seen, find_past_change}
 use Rattle.gh_invariant.specs.Lives.{lives_as}
 use Rattle.gh_invariant.proofs.WordsLeft.{SlotStays}
@@ -19,8 +18,7 @@ use Rattle.gh_state.specs.Slots.{filled, is_home, name_in, names_of, no_serial, 
 use Rattle.gh_state.specs.Stands.{HavePlaces, ShowsSlot, SlotsStand}
 use Rattle.gh_state.specs.declared.slots.Slots.{Slots}
 use Rattle.gh_state.proofs.FoundRows.{find_changed_passing}
-use Rattle.gh_state.proofs.Options.{Like}
-use Rattle.gh_state.proofs.SlotNumbers.{name_here, name_there, slot_within, word_here, word_there}
+use Rattle.gh_state.proofs.SlotNumbers.{name_there, slot_within, word_there}
 use Rattle.gh_state.proofs.StandsBells.{apart_serials}
 
 -- a change of one slot: what is so of the slots of its capability space

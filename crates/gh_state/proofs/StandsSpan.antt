@@ -1,16 +1,13 @@
 -- The parts stand for the rows once an extent, or the root extent, has its span.
-use Rattle.std.proofs.Common.{◌≡◌, ◌≢◌, ◌<◌, ◌≤◌, ◌+◌, ◌-◌, ◌∙◌, ◌∷◌, ◌++◌, ◌==◌, ◌&&◌, ◌||◌, ℕ, Bool, true, false, List, [], Option, Some, None, refl, sym, ap, subst, arith, inl, inr, find, length, replicate, if◌then◌else◌}
+use Rattle.std.proofs.Common.{◌≡◌, ◌<◌, ◌+◌, ◌-◌, ◌∙◌, ◌∷◌, ◌++◌, ◌==◌, ◌&&◌, ◌||◌, ℕ, Bool, true, false, List, [], Option, Some, None, refl, sym, ap, subst, arith, inl, inr, find, length, replicate, if◌then◌else◌}
 use Rattle.std.specs.Prelude.{◌^◌}
 use Rattle.std.specs.Option.{option_map}
 use Rattle.std.proofs.lemmas.Bool.{and_left, and_parts, both_ways, cases_eq, eq-eqb, eqb-true, ne_eqb, or_cases}
 use Rattle.gh_base.specs.declared.ids.Serial.{Serial}
-use Rattle.gh_base.specs.Kind.{kind_number}
 use Rattle.gh_base.specs.declared.kind.Kind.{Kind}
 use Rattle.gh_base.specs.declared.kind.Kind.TheVariants as kind
-use Rattle.gh_addrspace.specs.Space.{Shows, Space as AddressSpace}
-use Rattle.gh_extent.specs.Extents.{Extents, root_alone, root_row, row_span}
+use Rattle.gh_extent.specs.Extents.{root_alone, root_row, row_span}
 use Rattle.gh_invariant.proofs.Counting.{find_push_found, find_push_new, find_push_other}
-use Rattle.gh_invariant.specs.Effects.{gains}
 use Rattle.gh_invariant.specs.Lives.{is_part_of, is_root}
 use Rattle.gh_invariant.specs.Premises.{MayAddRoot, MaySpan}
 use Rattle.gh_invariant.specs.Valid.{IsValidWithin}
@@ -30,18 +27,19 @@ use Rattle.gh_state.specs.Making.{HasRoom}
 use Rattle.gh_state.specs.MemoryChanges.{spanned, with_extent, with_memory, with_span}
 use Rattle.gh_state.specs.Owing.{HasCount, recounted}
 use Rattle.gh_state.specs.Shares.{with_body}
-use Rattle.gh_state.specs.Stands.{MemoryStands, ReferencesStand, SpacesStand, SpansStand, Stands, StandsOwing, extent_rows, page_holders, span_row_of}
+use Rattle.gh_state.specs.Stands.{ReferencesStand, SpacesStand, SpansStand, Stands, StandsOwing, extent_rows, page_holders, span_row_of}
 use Rattle.gh_state.specs.declared.body.Body.{Body}
-use Rattle.gh_state.specs.declared.body.Body.TheVariants.{Bell, Extent, NewQueue, Nothing, Queue, Space}
+use Rattle.gh_state.specs.declared.body.Body.TheVariants.{Extent}
 use Rattle.gh_state.specs.declared.journal.Memory.{Memory}
 use Rattle.gh_state.specs.declared.journal.Memory.TheVariants.{Bare, Held}
 use Rattle.gh_state.specs.declared.parts.Parts.{Parts}
 use Rattle.gh_state.specs.declared.shares.Place.{Place}
 use Rattle.gh_state.proofs.BodyLemmas.{body_changed, body_elsewhere}
+use Rattle.gh_state.proofs.Living.{body_of_kind}
 use Rattle.gh_state.proofs.ShowsLemmas.{shows_bare, shows_extends}
 use Rattle.gh_state.proofs.StandsBodies.{bells_kept, kinds_kept, objects_kept, queues_kept, spaces_kept}
 use Rattle.gh_state.proofs.StandsMoved.{references_moved}
-use Rattle.gh_state.proofs.StandsOwed.{may_owe, owed_next}
+use Rattle.gh_state.proofs.StandsOwed.{may_owe}
 
 -- a span leaves what other kinds show
 pub record KeepsOthers (serial : ℕ) (new old : Body) : Type 0 where
@@ -77,20 +75,6 @@ extent_spanned : (span : Span) (serial : ℕ) (body : Body) → is_body_of kind.
 extent_spanned span serial (Extent old) is = refl
 extent_spanned span serial _ is = absurd (let never : ⊥ = cc in never)
 
-kind_of_extent : (found : Option ObjectRow) (body : Body) → is_of_kind kind.Extent found ≡ true
-    → fits_body body found ≡ true → is_body_of kind.Extent body ≡ true
-kind_of_extent None body is fits = absurd (let never : ⊥ = cc in never)
-kind_of_extent (Some row) body is fits =
-    subst (λ (k : Kind). is_body_of k body ≡ true) (kind_is row.kind is) fits
-  where
-    kind_is : (k : Kind) → (kind_number k == kind_number kind.Extent) ≡ true → k ≡ kind.Extent
-    kind_is kind.Partition same = absurd (let never : ⊥ = cc in never)
-    kind_is kind.Cspace same = absurd (let never : ⊥ = cc in never)
-    kind_is kind.Space same = absurd (let never : ⊥ = cc in never)
-    kind_is kind.Extent same = refl
-    kind_is kind.Bell same = absurd (let never : ⊥ = cc in never)
-    kind_is kind.Queue same = absurd (let never : ⊥ = cc in never)
-
 module _ (owed : List Serial) (parts : Parts) (s : State) (stand : StandsOwing owed parts s)
     (row : ExtentRow) (extent : is_of_kind kind.Extent (find (is_object row.serial.0) s.objects) ≡ true)
     (unused : find (is_extent row.serial.0) s.extents ≡ None) where
@@ -115,7 +99,7 @@ module _ (owed : List Serial) (parts : Parts) (s : State) (stand : StandsOwing o
   span_here : span_row_of extents row.serial.0 ≡ span_in row.serial.0 (body_of headers shares row.serial.0)
   span_here =
       ap (option_map row_span) (find_push_new (is_extent row.serial.0) s.extents row unused (eq-eqb row.serial.0 row.serial.0 refl))
-      ∙ sym (extent_spanned (row_span row) row.serial.0 old (kind_of_extent _ old extent (stand.kinds row.serial.0)))
+      ∙ sym (extent_spanned (row_span row) row.serial.0 old (body_of_kind kind.Extent (find (is_object row.serial.0) s.objects) old extent (stand.kinds row.serial.0)))
       ∙ ap (span_in row.serial.0)
       (sym (body_changed headers parts.shares stand.objects.indexed stand.objects.whole row.serial.0 new (spanned (row_span row)) refl refl))
 

@@ -1,5 +1,5 @@
 -- How a body is changed: each change is that of one kind, and leaves the bodies of all others.
-use Rattle.std.specs.Prelude.{ℕ, List, [], length, drop, is_none, if◌then◌else◌}
+use Rattle.std.specs.Prelude.{ℕ, List, length, drop, is_none, if◌then◌else◌}
 use Rattle.gh_doorbell.specs.Bell.{BellWords}
 use Rattle.gh_model.specs.declared.rows.BellRow.{BellRow}
 use Rattle.gh_msgqueue.specs.Queue.{MessageQueue, empty_queue, send_refusal, with_last}

@@ -1,8 +1,10 @@
 pub mod Accounts
+pub mod Beginning
 pub mod Bodies
 pub mod BodyChanges
 pub mod Index
 pub mod Making
+pub mod MappingChanges
 pub mod MemoryChanges
 pub mod NumberChanges
 pub mod Owing

@@ -1,5 +1,5 @@
 -- The parts with other pages and extents.
-use Rattle.std.specs.Prelude.{◌≡◌, ⊤, false, Option, Some, IsSomeAnd}
+use Rattle.std.specs.Prelude.{◌≡◌, ⊤, false, Some, IsSomeAnd}
 use Rattle.gh_extent.specs.Extents.{Extents, IsNewChild, IsSpanIn, row_of, row_span, with_row}
 use Rattle.gh_model.specs.declared.memory.Span.{Span}
 use Rattle.gh_model.specs.declared.rows.ExtentRow.{ExtentRow}

@@ -1,5 +1,5 @@
 -- The parts with other CPUs or links, and with an object retired.
-use Rattle.std.specs.Prelude.{ℕ, List, Option, Some, slice_set}
+use Rattle.std.specs.Prelude.{ℕ, List, Some, slice_set}
 use Rattle.gh_model.specs.declared.rows.CpuRow.{CpuRow}
 use Rattle.gh_model.specs.declared.rows.LinkRow.{LinkRow}
 use Rattle.gh_objects.specs.Counts.{as_retired, count_changed}

@@ -1,6 +1,6 @@
 -- The shares of the partition places as callers see them: for each partition place the objects'
 -- costs and bodies, by their places there.
-use Rattle.std.specs.Prelude.{◌≡◌, ◌/◌, ◌%◌, ℕ, List, [], length, All, slice_index_or, slice_set}
+use Rattle.std.specs.Prelude.{◌≡◌, ◌/◌, ◌%◌, ℕ, List, [], length, replicate, All, slice_index_or, slice_set}
 use Rattle.gh_base.specs.declared.limits.TheConstants.{PARTITIONS, PARTITION_PLACES}
 use Rattle.gh_state.specs.declared.body.Body.{Body}
 use Rattle.gh_state.specs.declared.body.Body.TheVariants.{Nothing}
@@ -9,6 +9,10 @@ use Rattle.gh_state.specs.declared.shares.Place.{Place}
 -- where no object is
 abbrev pub no_place : Place
 no_place = record { cost = 0; body = Nothing }
+
+-- no object is anywhere
+abbrev pub no_shares : List (List Place)
+no_shares = replicate PARTITIONS (replicate PARTITION_PLACES no_place)
 
 -- each partition place has its share, with a place for each of its objects
 pub record AreShares (shares : List (List Place)) : Type 0 where

@@ -1,6 +1,6 @@
 -- What the parts stand for: the rows of the state, one record for each kind of row. Rows are looked
 -- up by their serials, each at its object's index.
-use Rattle.std.specs.Prelude.{◌≡◌, ◌==◌, ◌+◌, ◌-◌, ◌<◌, ℕ, Bool, true, IsTrue, List, [], ◌∷◌, length, replicate, Option, Some, None, is_some, find, filter, slice_index_or}
+use Rattle.std.specs.Prelude.{◌≡◌, ◌==◌, ◌+◌, ◌<◌, ℕ, Bool, true, IsTrue, List, [], length, replicate, Option, Some, None, is_some, find, filter, slice_index_or}
 use Rattle.std.specs.Option.{option_map}
 use Rattle.gh_base.specs.CapWord.{filled_bits}
 use Rattle.gh_base.specs.declared.cap_word.CapWord.{CapWord}

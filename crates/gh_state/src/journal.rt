@@ -1,11 +1,15 @@
 //! What the partition places have in common: references, slots, units, extents, CPUs and numbers.
 
+ghost use Rattle.std.specs.Prelude.{◌≡◌, IfOk, None, replicate};
+ghost use Rattle.gh_state.specs.Beginning.{no_journal};
+
 use crate::slots::Slots;
-use gh_base::{Counters, Sequence, Serial};
+use gh_base::{Counters, NoMemory, OBJECT_INDICES, Sequence, Serial};
 use gh_extent::Extents;
 use gh_model::{CpuRow, LinkRow, TakenSlot};
 use gh_objects::Counts;
 use gh_partition::Partition;
+use std::alloc::Global;
 
 /// The units of a live partition.
 #[derive(Debug, Drop)]
@@ -46,4 +50,34 @@ pub struct Journal {
     pub next_handle: u32,
     /// Sends to a linked request queue and exits of VMs so far.
     pub rings: u32,
+}
+
+/// So many retirements that haven't come.
+fn no_retirements(alloc: Global, count: usize) -> Result<Sequence<Option<Counters>>, NoMemory>
+    ensures { IfOk result (λ list. list ≡ replicate count None) }
+{
+    let list = vec![in alloc; None; count]?;
+    Ok(Sequence::from_vec(list))
+}
+
+impl Journal {
+    /// The journal before any boot line.
+    pub fn new(alloc: Global) -> Result<Journal, NoMemory>
+        ensures { IfOk result (λ journal. journal ≡ no_journal) }
+    {
+        Ok(Journal {
+            counts: Counts::new(alloc)?,
+            retirements: no_retirements(alloc, OBJECT_INDICES)?,
+            slots: Sequence::new(alloc),
+            accounts: Sequence::new(alloc),
+            memory: Memory::Bare(0),
+            cpus: Sequence::new(alloc),
+            links: Sequence::new(alloc),
+            taken: Sequence::new(alloc),
+            entries: 0,
+            next_serial: 1,
+            next_handle: 1,
+            rings: 0,
+        })
+    }
 }

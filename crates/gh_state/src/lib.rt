@@ -9,6 +9,7 @@ mod counts;
 mod cpus;
 mod journal;
 mod links;
+mod mappings;
 mod memory;
 mod objects;
 mod parts;

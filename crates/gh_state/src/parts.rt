@@ -1,13 +1,16 @@
 //! The parts of the hypervisor.
 
-ghost use Rattle.std.specs.Prelude.{◌≡◌, ◌<◌, IfSome};
+ghost use Rattle.std.specs.Prelude.{◌≡◌, ◌<◌, IfOk, IfSome};
+ghost use Rattle.gh_model.specs.Boot.{empty_state};
+ghost use Rattle.gh_state.specs.Stands.{Stands};
 ghost use Rattle.gh_objects.specs.Headers.{header_at};
 ghost use Rattle.gh_state.specs.Index.{AreIndexed, found_index, home_in, partition_in, serial_at};
 
 use crate::journal::Journal;
 use crate::shares::Shares;
-use gh_base::{OBJECT_INDICES, ObjIndex, Serial};
+use gh_base::{NoMemory, OBJECT_INDICES, ObjIndex, Serial};
 use gh_objects::Headers;
+use std::alloc::Global;
 
 /// The headers of the live objects, what belongs to the objects of each partition place, and the
 /// journal.
@@ -19,6 +22,17 @@ pub struct Parts {
 }
 
 impl Parts {
+    /// The parts before any boot line.
+    pub fn new(alloc: Global) -> Result<Parts, NoMemory>
+        ensures { IfOk result (λ parts. Stands parts empty_state) }
+    {
+        Ok(Parts {
+            table: Headers::new(alloc)?,
+            shares: Shares::new(alloc)?,
+            journal: Journal::new(alloc)?,
+        })
+    }
+
     /// The index of the live object with this serial, by a binary search; none where no live object
     /// has it.
     pub fn index(&self, serial: Serial) -> Option<ObjIndex>

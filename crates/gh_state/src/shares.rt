@@ -1,11 +1,12 @@
 //! The shares of the partition places: what the objects of each have beside their headers.
 
-ghost use Rattle.std.specs.Prelude.{◌≡◌, ◌<◌, length};
-ghost use Rattle.gh_state.specs.Shares.{AreShares, body_at, place_in};
+ghost use Rattle.std.specs.Prelude.{◌≡◌, ◌<◌, IfOk, length, replicate};
+ghost use Rattle.gh_state.specs.Shares.{AreShares, no_place, no_shares, body_at, place_in};
 ghost use Rattle.gh_state.specs.Shares.{with_body, with_body_in, with_cost_at, with_cost_in};
 
 use crate::body::Body;
-use gh_base::{OBJECT_INDICES, ObjIndex, PARTITION_PLACES};
+use gh_base::{NoMemory, OBJECT_INDICES, ObjIndex, PARTITION_PLACES, PARTITIONS};
+use std::alloc::Global;
 use std::marker::Model;
 use std::mem;
 
@@ -51,6 +52,20 @@ impl Model for Shares {
 }
 
 impl Share {
+    /// So many places without an object, with all the room taken.
+    fn new(alloc: Global, count: usize) -> Result<Share, NoMemory>
+        ensures { IfOk result (λ share. share ≡ replicate count no_place) }
+    {
+        let mut places = Vec::with_capacity(alloc, count)?;
+        for _ in 0..count {
+            places.push(Place {
+                cost: 0,
+                body: Body::Nothing,
+            })?;
+        }
+        Ok(Share { places })
+    }
+
     /// Puts another body to a place, and answers the one that was there.
     fn exchange(&mut self, at: usize, body: Body) -> Body
         requires { at < length self.old }
@@ -69,7 +84,26 @@ impl Share {
     }
 }
 
+/// So many shares, each with so many places without an object.
+fn new_shares(alloc: Global, count: usize, places: usize) -> Result<Vec<Share>, NoMemory>
+    ensures { IfOk result (λ v. v.items ≡ replicate count (replicate places no_place)) }
+{
+    let mut shares = Vec::with_capacity(alloc, count)?;
+    for _ in 0..count {
+        shares.push(Share::new(alloc, places)?)?;
+    }
+    Ok(shares)
+}
+
 impl Shares {
+    /// The shares of partition places without an object. It takes the room of all of them.
+    pub fn new(alloc: Global) -> Result<Shares, NoMemory>
+        ensures { IfOk result (λ shares. shares ≡ no_shares) }
+    {
+        let shares = new_shares(alloc, PARTITIONS, PARTITION_PLACES)?;
+        Ok(Shares { shares })
+    }
+
     /// Puts another body to an index, and answers the one that was there.
     fn exchange(&mut self, index: ObjIndex, body: Body) -> Body
         requires { index.0 < OBJECT_INDICES }

@@ -4,7 +4,7 @@ use Rattle.gh_state.specs.declared.slots.Slots.{Slots}
 use Rattle.gh_base.specs.declared.cap_word.CapWord.{CapWord}
 use Rattle.gh_cspace.specs.Cspace.{IsFreeSlot}
 use Rattle.gh_model.proofs.RowLemmas.{row_changed}
-use Rattle.gh_state.specs.Slots.{filled, is_home, words_of}
+use Rattle.gh_state.specs.Slots.{filled, is_home}
 use Rattle.gh_state.proofs.SlotLemmas.{words_at_home}
 use Rattle.gh_state.proofs.slots.put_word.Goals as goal
 

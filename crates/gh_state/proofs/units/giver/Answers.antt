@@ -1,5 +1,5 @@
 -- The account at the place that is found is the partition's.
-use Rattle.std.proofs.Common.{◌≡◌, ◌∙◌, Some, None, position, ap, sym}
+use Rattle.std.proofs.Common.{◌≡◌, Some, None, position, ap, sym}
 use Rattle.gh_state.specs.Accounts.{giver_in}
 use Rattle.gh_state.specs.Stands.{is_account}
 use Rattle.gh_state.proofs.FoundRows.{placed_found, unplaced_none}

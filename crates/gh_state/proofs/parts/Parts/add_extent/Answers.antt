@@ -1,12 +1,10 @@
 -- The row and the span are put, and then the reference is counted.
-use Rattle.std.proofs.Common.{◌≡◌, ◌∷◌, [], refl, subst}
-use Rattle.gh_extent.specs.Extents.{root_alone}
+use Rattle.std.proofs.Common.{[], refl, subst}
 use Rattle.gh_model.specs.Changes.{add_extent as add_extent_of}
 use Rattle.gh_objects.specs.Counts.{with_reference}
 use Rattle.gh_state.specs.MemoryChanges.{with_extent}
 use Rattle.gh_state.specs.Owing.{recounted}
 use Rattle.gh_state.specs.Stands.{Stands}
-use Rattle.gh_state.specs.declared.journal.Memory.TheVariants.{Held}
 use Rattle.gh_state.specs.declared.parts.Parts.{Parts}
 use Rattle.gh_state.proofs.StandsOwed.{owed_next}
 use Rattle.gh_state.proofs.StandsSpan.{extent_stands, span_counted, span_owes}

@@ -1,7 +1,6 @@
 -- The row is put, and then its references are counted.
-use Rattle.std.proofs.Common.{◌≡◌, ◌<◌, ◌-◌, ◌∙◌, ◌∷◌, ◌++◌, [], ℕ, List, Some, ap, arith, find, subst, sym}
+use Rattle.std.proofs.Common.{◌≡◌, ◌<◌, ◌-◌, ◌∙◌, ◌∷◌, ◌++◌, [], ℕ, List, ap, arith, find, subst, sym}
 use Rattle.std.specs.Prelude.{◌^◌}
-use Rattle.gh_base.specs.declared.ids.Serial.{Serial}
 use Rattle.gh_model.specs.Changes.{add_link as add_link_of}
 use Rattle.gh_model.specs.Rows.{is_cpu}
 use Rattle.gh_model.specs.declared.rows.CpuRow.{CpuRow}

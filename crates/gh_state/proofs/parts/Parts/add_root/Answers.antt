@@ -1,9 +1,8 @@
 -- The row and the span are put, and then the reference is counted.
-use Rattle.std.proofs.Common.{◌≡◌, ◌∷◌, [], refl, subst}
+use Rattle.std.proofs.Common.{[], refl, subst}
 use Rattle.gh_extent.specs.Extents.{root_alone}
 use Rattle.gh_model.specs.Changes.{add_root as add_root_of}
 use Rattle.gh_objects.specs.Counts.{with_reference}
-use Rattle.gh_state.specs.MemoryChanges.{with_extent}
 use Rattle.gh_state.specs.Owing.{recounted}
 use Rattle.gh_state.specs.Stands.{Stands}
 use Rattle.gh_state.specs.declared.journal.Memory.TheVariants.{Held}

@@ -1,5 +1,5 @@
 -- The queue gets its room, and then it costs more.
-use Rattle.std.proofs.Common.{◌≡◌, subst, sym}
+use Rattle.std.proofs.Common.{subst, sym}
 use Rattle.gh_model.specs.Changes.{configure_queue as configure_queue_of, set_room as set_room_of}
 use Rattle.gh_state.specs.Stands.{Stands}
 use Rattle.gh_state.specs.declared.parts.Parts.{Parts}

@@ -1,5 +1,5 @@
 -- The extent's body is changed.
-use Rattle.std.proofs.Common.{◌≡◌, ◌∙◌, List, ap, sym}
+use Rattle.std.proofs.Common.{◌∙◌, List, ap, sym}
 use Rattle.gh_extent.specs.Extents.{row_span}
 use Rattle.gh_model.specs.declared.memory.Span.{Span}
 use Rattle.gh_state.specs.MemoryChanges.{spanned}

@@ -1,12 +1,12 @@
 -- The slot is changed, and then its references are counted no more.
-use Rattle.std.proofs.Common.{◌≡◌, ◌∙◌, List, ap, find}
+use Rattle.std.proofs.Common.{◌∙◌, List, ap, find}
 use Rattle.gh_model.specs.Changes.{drop_capability as drop_of}
 use Rattle.gh_invariant.specs.Effects.{object_of}
 use Rattle.gh_state.specs.Slots.{granted_by, is_home}
 use Rattle.gh_state.specs.declared.slots.Slots.{Slots}
 use Rattle.gh_state.proofs.FilledSlots.{IsFilling, filled_slot, granted_is, row_there, slot_is}
 use Rattle.gh_state.proofs.SlotNumbers.{slot_within}
-use Rattle.gh_state.proofs.StandsDropped.{dropped, dropped_home, killed, named_has, named_settled}
+use Rattle.gh_state.proofs.StandsDropped.{dropped, dropped_home, named_has, named_settled}
 use Rattle.gh_state.proofs.StandsOwed.{owed_has}
 use Rattle.gh_state.proofs.parts.Parts.drop_capability.Goals as goal
 

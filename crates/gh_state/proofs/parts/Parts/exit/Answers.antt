@@ -1,11 +1,9 @@
 -- The CPU's row is marked, and then its references are counted no more.
-use Rattle.std.proofs.Common.{◌≡◌, ◌∙◌, ◌∷◌, [], List, Option, Some, None, ap, find, refl}
+use Rattle.std.proofs.Common.{◌∙◌, ◌∷◌, [], Some, None, ap, find, refl}
 use Rattle.std.proofs.lemmas.Bool.{not-false, not-true}
-use Rattle.gh_invariant.specs.Effects.{attachments}
 use Rattle.gh_model.specs.Changes.{exit_cpu}
 use Rattle.gh_model.specs.Rows.{is_cpu}
-use Rattle.gh_model.specs.declared.rows.CpuRow.{CpuRow}
-use Rattle.gh_state.specs.Stands.{Stands, StandsOwing}
+use Rattle.gh_state.specs.Stands.{StandsOwing}
 use Rattle.gh_state.proofs.StandsExit.{exit_owes, runs, runs_not}
 use Rattle.gh_state.proofs.StandsOwed.{owed_has, settled_next}
 use Rattle.gh_state.proofs.parts.Parts.exit.Goals as goal

@@ -1,5 +1,5 @@
 -- The slot's references are counted, and then it is filled.
-use Rattle.std.proofs.Common.{◌≡◌, ◌∷◌, ◌∙◌, [], List, find, ℕ, ap, arith, subst, sym}
+use Rattle.std.proofs.Common.{◌∷◌, ◌∙◌, [], List, find, ℕ, ap, arith, subst, sym}
 use Rattle.gh_model.specs.Changes.{fill_slot as fill_slot_of}
 use Rattle.gh_state.specs.Stands.{Stands, StandsOwing}
 use Rattle.gh_state.specs.declared.parts.Parts.{Parts}

@@ -3,7 +3,7 @@ use Rattle.std.proofs.Common.{◌≡◌, ◌∙◌, List, ap, find, subst, sym}
 use Rattle.gh_base.specs.declared.ids.Serial.{Serial}
 use Rattle.gh_model.specs.Changes.{give_quota as give_quota_of}
 use Rattle.gh_model.specs.Rows.{change_row}
-use Rattle.gh_state.specs.Accounts.{giver_in, giving, quoted, with_accounts}
+use Rattle.gh_state.specs.Accounts.{giver_in, giving, with_accounts}
 use Rattle.gh_state.specs.Stands.{Stands, is_account}
 use Rattle.gh_state.specs.declared.journal.Account.{Account}
 use Rattle.gh_state.proofs.StandsQuota.{parent_told, quota_stands}

@@ -1,5 +1,5 @@
 -- The object's count is changed.
-use Rattle.std.proofs.Common.{ℕ, ◌<◌, ◌≤◌, ◌-◌, sym}
+use Rattle.std.proofs.Common.{ℕ, ◌<◌, ◌-◌, sym}
 use Rattle.std.specs.Prelude.{◌^◌}
 use Rattle.gh_objects.specs.Counts.{with_reference}
 use Rattle.gh_state.proofs.StandsOwed.{count_found, found_recounted, unfound_recounted}

@@ -1,5 +1,5 @@
 -- The slot's references are counted, and then it is filled.
-use Rattle.std.proofs.Common.{◌≡◌, ◌+◌, ◌∷◌, [], ℕ, ap, arith, subst, sym}
+use Rattle.std.proofs.Common.{◌+◌, ◌∷◌, [], ℕ, ap, arith, subst, sym}
 use Rattle.gh_model.specs.Changes.{put_capability as put_capability_of}
 use Rattle.gh_state.specs.Stands.{Stands, StandsOwing}
 use Rattle.gh_state.specs.declared.parts.Parts.{Parts}

@@ -1,11 +1,9 @@
 -- The queue's body is changed with its row.
-use Rattle.std.proofs.Common.{List, [], ◌∙◌, ap, refl, subst}
+use Rattle.std.proofs.Common.{List, [], subst}
 use Rattle.gh_model.specs.Changes.{put_message as put_message_of, with_message}
 use Rattle.gh_state.specs.BodyChanges.{on_queue, sent_to}
 use Rattle.gh_state.proofs.QueueChanges.{one_sent}
-use Rattle.gh_state.specs.Bodies.{body_of}
 use Rattle.gh_state.specs.Stands.{Stands}
-use Rattle.gh_state.specs.declared.parts.Parts.{Parts}
 use Rattle.gh_state.specs.declared.shares.Place.{Place}
 use Rattle.gh_state.proofs.BodyLemmas.{changed_shares, unfound_shares}
 use Rattle.gh_state.proofs.StandsQueues.{queue_stands}

@@ -1,5 +1,5 @@
 -- The object at the index that is found is retired.
-use Rattle.std.proofs.Common.{◌≡◌, ◌∙◌, ℕ, ap, subst, sym}
+use Rattle.std.proofs.Common.{◌∙◌, ℕ, ap, subst, sym}
 use Rattle.gh_model.specs.Changes.{retire_object}
 use Rattle.gh_state.specs.NumberChanges.{with_retired}
 use Rattle.gh_state.specs.Stands.{Stands}

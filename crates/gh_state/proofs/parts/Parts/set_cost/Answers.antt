@@ -1,5 +1,5 @@
 -- Where the object isn't found nothing changes.
-use Rattle.std.proofs.Common.{◌≡◌, List, ap, sym}
+use Rattle.std.proofs.Common.{List, ap, sym}
 use Rattle.gh_state.specs.declared.shares.Place.{Place}
 use Rattle.gh_state.proofs.PlaceLemmas.{unfound_cost}
 use Rattle.gh_state.proofs.parts.Parts.set_cost.Goals as goal

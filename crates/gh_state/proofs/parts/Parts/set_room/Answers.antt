@@ -1,12 +1,11 @@
 -- The queue's body is changed with its row.
-use Rattle.std.proofs.Common.{List, [], ◌∙◌, ap, refl, subst}
+use Rattle.std.proofs.Common.{List, [], ◌∙◌, ap, subst}
 use Rattle.gh_model.specs.Changes.{set_room as set_room_of, with_room}
 use Rattle.gh_msgqueue.specs.Queue.{MessageQueue, empty_queue}
 use Rattle.gh_state.specs.BodyChanges.{roomed}
 use Rattle.gh_state.proofs.QueueChanges.{room_given}
 use Rattle.gh_state.specs.Bodies.{body_of}
 use Rattle.gh_state.specs.Stands.{Stands}
-use Rattle.gh_state.specs.declared.parts.Parts.{Parts}
 use Rattle.gh_state.specs.declared.shares.Place.{Place}
 use Rattle.gh_state.proofs.BodyLemmas.{changed_shares, unfound_shares}
 use Rattle.gh_state.proofs.StandsQueues.{queue_stands}

@@ -1,5 +1,5 @@
 -- The object's header is changed with its row.
-use Rattle.std.proofs.Common.{List, Some, None, Option, [], subst, sym, ap, ◌∙◌, ◌≡◌, ℕ}
+use Rattle.std.proofs.Common.{[], subst, sym, ap, ◌∙◌}
 use Rattle.gh_model.specs.Changes.{set_stage as set_stage_of}
 use Rattle.gh_objects.specs.Headers.{HeaderTable, header_staged}
 use Rattle.gh_state.specs.Stands.{Stands}

@@ -1,6 +1,5 @@
 -- The object's count is changed.
-use Rattle.std.proofs.Common.{ℕ, ◌<◌, ◌≤◌, ◌-◌, sym}
-use Rattle.std.specs.Prelude.{◌^◌}
+use Rattle.std.proofs.Common.{ℕ, ◌≤◌, sym}
 use Rattle.gh_objects.specs.Counts.{without_reference}
 use Rattle.gh_state.proofs.StandsOwed.{count_found, found_recounted, unfound_recounted}
 use Rattle.gh_state.proofs.parts.Parts.settle.Goals as goal

@@ -1,11 +1,4 @@
 -- The word is written over the empty one.
-use Rattle.std.proofs.Common.{◌≡◌, ◌∙◌, ◌-◌, List, ap, set}
-use Rattle.std.proofs.lemmas.List.{set-set}
-use Rattle.gh_base.specs.CapWord.{revoked_bits}
-use Rattle.gh_base.specs.declared.cap_word.CapWord.{CapWord}
-use Rattle.gh_cspace.specs.Cspace.{empty_word, with_word}
-use Rattle.gh_state.specs.Slots.{reworded}
-use Rattle.gh_state.specs.declared.slots.Slots.{Slots}
 use Rattle.gh_state.proofs.SlotLemmas.{revoked_over}
 use Rattle.gh_state.proofs.slots.Slots.revoke.Goals as goal
 
