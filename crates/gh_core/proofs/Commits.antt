@@ -40,7 +40,7 @@ use Rattle.gh_core.proofs.EntryBalance.{Births, balanced, count_at, lives_or_new
 use Rattle.gh_core.proofs.EntryMoves.{RowOf, indices_of, row_of}
 use Rattle.gh_core.proofs.EntryReferences.{MakesNone, event_given, event_moved}
 use Rattle.gh_core.proofs.FewGains.{event_gains_few, live_few}
-use Rattle.gh_core.proofs.Owing.{AllOwable, AllWithin, HasRoomFor, IsOwable, IsOwing, at_owed, owes_lead, settles_lead, with_amounts}
+use Rattle.gh_core.proofs.OwingSteps.{AllOwable, AllWithin, HasRoomFor, IsOwable, IsOwing, at_owed, owes_lead, settles_lead, with_amounts}
 use Rattle.gh_core.proofs.SoundEvents.{event_keeps_sound}
 use Rattle.gh_core.proofs.TraceLaws.{Leads, leads_append, leads_cons, leads_none, leads_so}
 use Rattle.gh_core.proofs.ValidEntries.{event_fits}

@@ -77,7 +77,7 @@ use Rattle.gh_core.proofs.KilledNone.{NoneKilled, killed_in, life_killed, none_s
 use Rattle.gh_core.proofs.LengthBound.{history_is_short}
 use Rattle.gh_core.proofs.LookCalls.{entries_all}
 use Rattle.gh_core.proofs.LookKeeps.{index_shown}
-use Rattle.gh_core.proofs.Owing.{IsOwing, at_owed, with_amounts}
+use Rattle.gh_core.proofs.OwingSteps.{IsOwing, at_owed, with_amounts}
 use Rattle.gh_core.proofs.SoundEvents.{event_keeps_sound}
 use Rattle.gh_core.proofs.TraceLaws.{Leads, leads_append, leads_cons, leads_none, leads_so}
 use Rattle.gh_core.proofs.TurnItems.{HasActed}

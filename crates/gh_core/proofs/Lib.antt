@@ -84,7 +84,7 @@ pub mod LookRoom
 pub mod NoPins
 pub mod OweKeeps
 pub mod OwedLemmas
-pub mod Owing
+pub mod OwingSteps
 pub mod PartCalls
 pub mod PartItems
 pub mod PinCalls
