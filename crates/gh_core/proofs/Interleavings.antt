@@ -109,7 +109,8 @@ module _ {P : Type 0} (answer : P → Option Reply → program.Step) (after_repl
   event_counted course cpu now keeps (inl on) =
       subst (λ (list : List Made). list_any exits list ≡ false → length list < last_number) (sym on.made) (keeps.counted cpu)
   event_counted course cpu now keeps (inr over) =
-      let going : list_any exits (course.conf.cpu cpu).made ≡ false = has_none course.conf cpu over.given keeps.sound.calls over.has in
+      let going : list_any exits (course.conf.cpu cpu).made ≡ false =
+      has_none course.conf cpu over.given keeps.sound.calls over.has in
       end_counted answer after_reply (first cpu) (course.conf.cpu cpu) now (course.programs cpu) (keeps.follow cpu) over.given over.call
       going over.has over.made over.frame (keeps.counted cpu going)
 
