@@ -2,6 +2,7 @@ pub mod ActCalls
 pub mod ActFits
 pub mod ActItems
 pub mod Acting
+pub mod Blocks
 pub mod BoundKeeps
 pub mod Boxes
 pub mod CallEffects
