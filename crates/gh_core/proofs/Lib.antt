@@ -3,6 +3,7 @@ pub mod ActFits
 pub mod ActItems
 pub mod Acting
 pub mod Blocks
+pub mod BlocksStay
 pub mod BoundKeeps
 pub mod Boxes
 pub mod CallEffects
