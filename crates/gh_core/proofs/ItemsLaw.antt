@@ -4,8 +4,9 @@ use Rattle.gh_base.specs.declared.limits.TheConstants.{CPUS}
 use Rattle.gh_model.specs.Marks.{Fails, Grants, Outcome, Seen, Wants}
 use Rattle.gh_core.specs.CallEvents.{begun, has_needs}
 use Rattle.gh_core.specs.Committing.{cpu_no}
-use Rattle.gh_core.specs.Config.{AtAct, Config, Current, DeadPin, Failed, Given, IsBetween, Looked, Pin, Reading, Stage, Undone, came_to}
-use Rattle.gh_core.specs.Items.{HasFreeIndex, act, begins, item, item_between, item_in, item_of, judged_in}
+use Rattle.gh_core.specs.Config.{AtAct, Config, Current, DeadPin, Failed, Given, IsBetween, Looked, Pin, Reading, Stage, Undone, came_to, present}
+use Rattle.gh_core.specs.Items.{act, begins, item, item_between, item_in, item_of}
+use Rattle.gh_core.specs.Indices.{InBlocks}
 use Rattle.gh_core.specs.Sound.{IsSound}
 use Rattle.gh_core.specs.Sweep.{KeepsNine}
 use Rattle.gh_core.specs.Trace.{AreDone, after_all}
@@ -53,13 +54,8 @@ module _ (conf : Config) (at : ℕ) where
   unfolding item
   item_acts call is = current_acts call (conf.cpu at).current is
 
--- an item's premises: a CPU that there is, and the turn free; where it is the act of a create, a free
--- index for its object
-abbrev FreeWhere : Config → ℕ → Type 0
-FreeWhere conf at = (call : Current) → ready (conf.cpu at) ≡ Some call → HasFreeIndex (judged_in conf at) at
-
 module _ (conf : Config) (at : ℕ) (sound : IsSound conf)
-    (nine : KeepsNine conf.history) (is_cpu : at < CPUS) (free : conf.turn ≡ None) (frees : FreeWhere conf at) where
+    (nine : KeepsNine conf.history) (is_cpu : at < CPUS) (free : conf.turn ≡ None) (blocks : InBlocks (present conf) conf.index) where
   abbrev Frees : Config → Type 0
   Frees new = new.turn ≡ None
 
@@ -68,7 +64,7 @@ module _ (conf : Config) (at : ℕ) (sound : IsSound conf)
       leads_so conf (item conf at) (λ new. new.turn ≡ conf.turn) Frees (call_item_done conf at sound is_cpu is) (λ new same. same ∙ free)
   leads_by (Some call) is =
       subst (λ (events : List Event). Leads conf events Frees) (sym (item_acts conf at call is))
-      (leads_so conf (act at conf) (λ new. IsUnpinning new at None []) Frees (act_leads conf at sound nine is_cpu free call is (frees call is)) (λ new has. has.turn_is))
+      (leads_so conf (act at conf) (λ new. IsUnpinning new at None []) Frees (act_leads conf at sound nine is_cpu free call is blocks) (λ new has. has.turn_is))
 
   -- the item is possible, and leaves the turn free
   pub item_leads : Leads conf (item conf at) (λ new. new.turn ≡ None)
