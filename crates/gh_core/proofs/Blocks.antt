@@ -321,6 +321,14 @@ module _ (s : State) (index : ℕ → ℕ) (valid : IsValid s) (indices : AreInd
           uninhabited = free_there free.at free.found.passes;
         }
 
+    pub plain_place : (cost : ℕ) → 0 < cost
+        → used_by s.objects home.serial.0 + given_by s.partitions home.serial.0 + cost ≤ row_quota (find (is_partition home.serial.0) s.partitions)
+        → place_of (unwrap_or (free_index s index (place_of (index home.serial.0))) 0) ≡ place_of (index home.serial.0)
+    plain_place cost some fits =
+        let free : FreeIn = free_by cost some fits (free_index s index (place_of (index home.serial.0))) refl in
+        let same : unwrap_or (free_index s index (place_of (index home.serial.0))) 0 ≡ free.at = ap (λ (found : Option ℕ). unwrap_or found 0) free.is in
+        ap place_of same ∙ (let low : place_of (index home.serial.0) * 128 ≤ free.at = free.found.low in let high : free.at < place_of (index home.serial.0) * 128 + 128 = free.found.high in omega (arith, low, high))
+
   -- a new partition: there are fewer than places
 
   abbrev in_kind : ObjectRow → Bool
@@ -431,3 +439,30 @@ module _ (s : State) (index : ℕ → ℕ) (valid : IsValid s) (indices : AreInd
     -- finds a free index
     pub new_free : IsFreeAt s index (new_index s index row.kind row.partition.0)
     new_free = new_by (is_partition_kind row.kind) refl
+
+    -- in the block of its partition
+    place_found : (found : Option ObjectRow) → object_row s row.partition.0 ≡ found → is_of_kind kind.Partition found ≡ true
+        → place_of (unwrap_or (free_index s index (place_of (index row.partition.0))) 0) ≡ place_of (index row.partition.0)
+    place_found None is fits = absurd (let never : ⊥ = cc in never)
+    place_found (Some home) is fits =
+        let that : home.serial.0 ≡ row.partition.0 = eqb-true home.serial.0 row.partition.0 (found_passes (is_object row.partition.0) s.objects home is) in
+        subst (λ (n : ℕ). place_of (unwrap_or (free_index s index (place_of (index n))) 0) ≡ place_of (index n)) that
+        (plain_place home (subst (λ (n : ℕ). find (is_object n) s.objects ≡ Some home) (sym that) is) (partition_number home.kind ∙ fits) row.cost may.some
+        (subst (λ (n : ℕ). used_by s.objects n + given_by s.partitions n + row.cost ≤ row_quota (find (is_partition n) s.partitions)) (sym that)
+        (omega (arith, may.units, may.some))))
+
+    pub new_place : is_partition_kind row.kind ≡ false
+        → place_of (new_index s index row.kind row.partition.0) ≡ place_of (index row.partition.0)
+    new_place other =
+        ap (λ (part : Bool). place_of (if part then option_map_or block_at (free_place s index) 0 else unwrap_or (free_index s index (place_of (index row.partition.0))) 0)) other
+        ∙ place_found (object_row s row.partition.0) refl may.partition
+
+    -- or the first one of a block
+    first_in : (found : Option ℕ) → option_map_or block_at found 0 % 128 ≡ 0
+    first_in None = refl
+    first_in (Some at) = omega arith
+
+    pub new_first : is_partition_kind row.kind ≡ true → new_index s index row.kind row.partition.0 % 128 ≡ 0
+    new_first part =
+        ap (λ (one : Bool). (if one then option_map_or block_at (free_place s index) 0 else unwrap_or (free_index s index (place_of (index row.partition.0))) 0) % 128) part
+        ∙ first_in (free_place s index)
