@@ -43,7 +43,6 @@ use Rattle.gh_core.proofs.Blocks.{IsFreeAt, new_free}
 use Rattle.gh_core.proofs.Commits.{IsActive}
 use Rattle.gh_core.proofs.EntryMoves.{indices_of}
 use Rattle.gh_core.proofs.ValidEntries.{event_fits}
-use Rattle.gh_core.proofs.CallItems.{IsUnpinning}
 use Rattle.gh_core.proofs.CallMakes.{decision_settled, is_unfinished}
 use Rattle.gh_core.proofs.Creates.{create_acts}
 use Rattle.gh_core.proofs.EntryReferences.{MakesOne}
@@ -55,7 +54,7 @@ use Rattle.gh_core.proofs.SweepRounds.{IsSwept, sweep_leads}
 use Rattle.gh_core.proofs.SweepSteps.{IsScanned, IsSweeping}
 use Rattle.gh_core.proofs.TraceLaws.{Leads, after_append, leads_none, leads_so, leads_then}
 use Rattle.gh_core.proofs.TraceSound.{trace_nine}
-use Rattle.gh_core.proofs.TurnItems.{HasActed, free_leads, may_take, take_begins, take_leads}
+use Rattle.gh_core.proofs.TurnItems.{HasActed, HasEnded, free_leads, may_take, take_begins, take_leads}
 
 -- a refusal ends the act
 
@@ -207,9 +206,9 @@ module _ (at : ℕ) (call : Current) where
           record { within = free.within; uninhabited = free.uninhabited }
 
   ends_act : (conf : Config) → IsPrepared conf at call
-      → Leads conf (and_then (acting at) (and_then (freeing at) (unpins at)) conf) (λ new. IsUnpinning new at None [])
+      → Leads conf (and_then (acting at) (and_then (freeing at) (unpins at)) conf) (HasEnded at)
   ends_act conf prepared =
-      leads_then (acting at) (and_then (freeing at) (unpins at)) conf (λ new. HasActed new at) (λ new. IsUnpinning new at None [])
+      leads_then (acting at) (and_then (freeing at) (unpins at)) conf (λ new. HasActed new at) (HasEnded at)
       (finishes conf prepared) (λ new acted. free_leads new at acted)
 
 -- the whole act
@@ -229,15 +228,15 @@ module _ (conf : Config) (at : ℕ) (sound : IsSound conf)
   prepared : Leads Taken (preparing at Taken) (λ new. IsPrepared new at begins.call)
   prepared = preparing_leads at begins.call Taken (is_sweeping Taken at taken_sound is_cpu (record { partitions = blocks.partitions; others = blocks.others }) begins) nine
 
-  rest_leads : Leads Taken (and_then (preparing at) (and_then (acting at) (and_then (freeing at) (unpins at))) Taken) (λ new. IsUnpinning new at None [])
+  rest_leads : Leads Taken (and_then (preparing at) (and_then (acting at) (and_then (freeing at) (unpins at))) Taken) (HasEnded at)
   rest_leads =
-      leads_then (preparing at) (and_then (acting at) (and_then (freeing at) (unpins at))) Taken (λ new. IsPrepared new at begins.call) (λ new. IsUnpinning new at None [])
+      leads_then (preparing at) (and_then (acting at) (and_then (freeing at) (unpins at))) Taken (λ new. IsPrepared new at begins.call) (HasEnded at)
       prepared (λ new ready. ends_act at begins.call new ready)
 
   -- it leaves the CPU between calls
-  pub act_leads : Leads conf (act at conf) (λ new. IsUnpinning new at None [])
+  pub act_leads : Leads conf (act at conf) (HasEnded at)
   unfolding act
   act_leads =
-      leads_then (taking at) (and_then (preparing at) (and_then (acting at) (and_then (freeing at) (unpins at)))) conf (λ new. new ≡ Taken) (λ new. IsUnpinning new at None [])
+      leads_then (taking at) (and_then (preparing at) (and_then (acting at) (and_then (freeing at) (unpins at)))) conf (λ new. new ≡ Taken) (HasEnded at)
       (take_leads conf at sound is_cpu free call is)
-      (λ new same. subst (λ (there : Config). Leads there (and_then (preparing at) (and_then (acting at) (and_then (freeing at) (unpins at))) there) (λ last. IsUnpinning last at None [])) (sym same) rest_leads)
+      (λ new same. subst (λ (there : Config). Leads there (and_then (preparing at) (and_then (acting at) (and_then (freeing at) (unpins at))) there) (HasEnded at)) (sym same) rest_leads)

@@ -663,4 +663,4 @@ module _ (conf : Config) (at : ℕ) (call : Current) (judges : IsJudged conf at 
     pub create_acts : Leads conf (committing at entry conf) (λ there. HasActed there at)
     create_acts =
         leads_so conf (committing at entry conf) Done (λ there. HasActed there at) create_commits
-        (λ there committed. has_acted_there conf at call judges later (put conf.dead home false) (holder.revived ++ home ∷ []) there done none_behind committed)
+        (λ there committed. has_acted_there conf at call judges later (put conf.dead home false) (holder.revived ++ home ∷ []) there done none_behind new_blocks committed)

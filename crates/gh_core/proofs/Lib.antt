@@ -82,6 +82,7 @@ pub mod PartItems
 pub mod PinCalls
 pub mod PinKeeps
 pub mod Places
+pub mod QuietEvents
 pub mod Ranks
 pub mod RetiredSince
 pub mod ReviveKeeps

@@ -64,12 +64,12 @@ pub fn acts_are_possible()
         → ready (conf.cpu at) ≡ Some call → (after_all conf (act at conf)).turn ≡ None }
 {}
 
-/// So the next item of every CPU is possible, and the turn is free again behind it.
+/// So the next item of every CPU is possible in a steady configuration, and leaves a steady one.
 pub fn items_are_possible()
     ensures possible { (conf : Config) (at : ℕ) → IsSteady conf → at < CPUS
         → AreDone conf (item conf at) }
-    ensures free { (conf : Config) (at : ℕ) → IsSteady conf → at < CPUS
-        → (after_all conf (item conf at)).turn ≡ None }
+    ensures steady { (conf : Config) (at : ℕ) → IsSteady conf → at < CPUS
+        → IsSteady (after_all conf (item conf at)) }
 {}
 
 /// The objects of each boot file have indices, each its own: 128 times the place of its partition

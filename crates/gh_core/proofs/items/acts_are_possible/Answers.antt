@@ -15,4 +15,4 @@ returns-clause-between c = λ conf at call steady is_cpu is.
 
 pub returns-clause-free : goal.returns-clause-free
 returns-clause-free c = λ conf at call steady is_cpu is.
-    (act_leads conf at steady.sound steady.nine is_cpu steady.free call is steady.blocks).behind.turn_is
+    (act_leads conf at steady.sound steady.nine is_cpu steady.free call is steady.blocks).behind.0.turn_is
