@@ -18,24 +18,31 @@ use Rattle.gh_model.specs.declared.change.Decision.TheVariants.{Refuse, Unfinish
 use Rattle.gh_model.specs.declared.entry.Entry.TheVariants.{Acted}
 use Rattle.gh_model.specs.declared.rows.ObjectRow.{ObjectRow}
 use Rattle.gh_model.specs.declared.state.State.{State}
-use Rattle.gh_invariant.specs.Events.{changes_of}
-use Rattle.gh_core.specs.Committing.{added, committing, cpu_no}
+use Rattle.gh_invariant.specs.Events.{EventFits}
+use Rattle.gh_invariant.specs.Premises.{MayChangeAll}
+use Rattle.gh_invariant.proofs.EventWords.{event_may}
+use Rattle.gh_model.specs.ObjectCalls.{new_master, new_object}
+use Rattle.gh_model.specs.declared.change.Change.TheVariants.{AddObject, PutCapability}
+use Rattle.gh_core.specs.Committing.{committing, cpu_no}
 use Rattle.gh_core.specs.Config.{Config, Current, Holder, entries, has_acted, has_part, judged, present}
 use Rattle.gh_core.specs.Entries.{logged}
 use Rattle.gh_core.specs.HolderEvents.{is_done}
-use Rattle.gh_core.specs.Indices.{IsFreeIndex, new_index}
+use Rattle.gh_core.specs.Indices.{InBlocks, IsFreeIndex, new_index}
 use Rattle.gh_model.specs.Decisions.{grant_at}
 use Rattle.gh_base.specs.declared.mark.End.TheVariants as ends
 use Rattle.gh_core.specs.TurnEvents as turns
 use Rattle.gh_core.specs.Calls.{stands_open}
-use Rattle.gh_core.specs.Items.{FreesIndex, HasFreeIndex, act, acting, freeing, judged_in, object_revoked, parts, plain_caps, preparing, prepares, sweeps, taking, unpins}
+use Rattle.gh_core.specs.Items.{act, acting, freeing, object_revoked, parts, plain_caps, preparing, prepares, sweeps, taking, unpins}
 use Rattle.gh_core.specs.Sound.{IsSound}
 use Rattle.gh_core.specs.Sweep.{HasNotBegun, KeepsNine, sweep}
 use Rattle.gh_core.specs.Trace.{AreDone, after_all, and_then}
 use Rattle.gh_core.specs.TurnEvents.{Ending, ending, has_causes, ready, refused_ending, short_ending, taken}
 use Rattle.gh_core.specs.declared.event.Event.TheVariants.{Take}
-use Rattle.gh_core.proofs.Acting.{IsDone, IsJudged, acting_leads}
-use Rattle.gh_core.proofs.CallItems.{IsUnpinning}
+use Rattle.gh_core.proofs.Acting.{IsDone, IsJudged, acted_allows, acting_leads}
+use Rattle.gh_core.proofs.Blocks.{IsFreeAt, new_free}
+use Rattle.gh_core.proofs.Commits.{IsActive}
+use Rattle.gh_core.proofs.EntryMoves.{indices_of}
+use Rattle.gh_core.proofs.ValidEntries.{event_fits}
 use Rattle.gh_core.proofs.CallMakes.{decision_settled, is_unfinished}
 use Rattle.gh_core.proofs.Creates.{create_acts}
 use Rattle.gh_core.proofs.EntryReferences.{MakesOne}
@@ -47,7 +54,7 @@ use Rattle.gh_core.proofs.SweepRounds.{IsSwept, sweep_leads}
 use Rattle.gh_core.proofs.SweepSteps.{IsScanned, IsSweeping}
 use Rattle.gh_core.proofs.TraceLaws.{Leads, after_append, leads_none, leads_so, leads_then}
 use Rattle.gh_core.proofs.TraceSound.{trace_nine}
-use Rattle.gh_core.proofs.TurnItems.{HasActed, free_leads, may_take, take_begins, take_leads}
+use Rattle.gh_core.proofs.TurnItems.{HasActed, HasEnded, free_leads, may_take, take_begins, take_leads}
 
 -- a refusal ends the act
 
@@ -179,29 +186,36 @@ module _ (at : ℕ) (call : Current) where
       (prepares_by conf sweeping nine (sweeps call.given.call) (is_revoke call.given.call) refl refl)
 
   -- the entry, and the end
-  finishes : (conf : Config) → IsPrepared conf at call → HasFreeIndex conf at
-      → Leads conf (acting at conf) (λ new. HasActed new at)
-  finishes conf prepared frees =
+  finishes : (conf : Config) → IsPrepared conf at call → Leads conf (acting at conf) (λ new. HasActed new at)
+  finishes conf prepared =
       acting_leads conf at call prepared.judges
-      (λ done makes. create_acts conf at call prepared.judges done makes (free_by makes (frees call prepared.judges.active.in_act.is_current)))
+      (λ done makes. create_acts conf at call prepared.judges done makes (free_by done makes))
       prepared.refused
     where
-      free_by : (makes : MakesOne (present conf) (logged (Acted (cpu_no at) call.given.number) call))
-          → FreesIndex conf (added (changes_of (present conf) (logged (Acted (cpu_no at) call.given.number) call)))
+      free_by : (done : IsDone conf at call prepared.judges)
+          → (makes : MakesOne (present conf) (logged (Acted (cpu_no at) call.given.number) call))
           → IsFreeIndex conf (new_index (present conf) conf.index makes.new.kind (grant_at (grants_of call.given.call (map word_of call.seen)) 0).0)
-      free_by makes free = subst (FreesIndex conf) (ap added makes.new.is) free
+      free_by done makes =
+          let active : IsActive conf at prepared.judges.holder call = prepared.judges.active in
+          let fits : EventFits (present conf) (logged (Acted (cpu_no at) call.given.number) call) =
+          event_fits conf at (Acted (cpu_no at) call.given.number) prepared.judges.holder call conf.index (acted_allows conf at call prepared.judges done) active.sound.valid in
+          let may : MayChangeAll (present conf) (AddObject (new_object (present conf) (grant_at (grants_of call.given.call (map word_of call.seen)) 0) makes.new.kind) ∷ PutCapability (new_master (present conf) (grant_at (grants_of call.given.call (map word_of call.seen)) 1) makes.new.slot makes.new.kind) ∷ []) =
+          subst (MayChangeAll (present conf)) makes.new.is (event_may (present conf) (logged (Acted (cpu_no at) call.given.number) call) active.sound.valid.valid fits) in
+          let free : IsFreeAt (present conf) conf.index (new_index (present conf) conf.index makes.new.kind (grant_at (grants_of call.given.call (map word_of call.seen)) 0).0) =
+          new_free (present conf) conf.index active.sound.valid.valid (indices_of conf active.sound.references active.sound.state.within) active.blocks (new_object (present conf) (grant_at (grants_of call.given.call (map word_of call.seen)) 0) makes.new.kind) may.first in
+          record { within = free.within; uninhabited = free.uninhabited }
 
-  ends_act : (conf : Config) → IsPrepared conf at call → HasFreeIndex conf at
-      → Leads conf (and_then (acting at) (and_then (freeing at) (unpins at)) conf) (λ new. IsUnpinning new at None [])
-  ends_act conf prepared frees =
-      leads_then (acting at) (and_then (freeing at) (unpins at)) conf (λ new. HasActed new at) (λ new. IsUnpinning new at None [])
-      (finishes conf prepared frees) (λ new acted. free_leads new at acted)
+  ends_act : (conf : Config) → IsPrepared conf at call
+      → Leads conf (and_then (acting at) (and_then (freeing at) (unpins at)) conf) (HasEnded at)
+  ends_act conf prepared =
+      leads_then (acting at) (and_then (freeing at) (unpins at)) conf (λ new. HasActed new at) (HasEnded at)
+      (finishes conf prepared) (λ new acted. free_leads new at acted)
 
 -- the whole act
 
 module _ (conf : Config) (at : ℕ) (sound : IsSound conf)
     (nine : KeepsNine conf.history) (is_cpu : at < CPUS) (free : conf.turn ≡ None) (call : Current)
-    (is : ready (conf.cpu at) ≡ Some call) (frees : HasFreeIndex (judged_in conf at) at) where
+    (is : ready (conf.cpu at) ≡ Some call) (blocks : InBlocks (present conf) conf.index) where
   abbrev Taken : Config
   Taken = taken conf at
 
@@ -212,26 +226,17 @@ module _ (conf : Config) (at : ℕ) (sound : IsSound conf)
   begins = take_begins conf at sound is_cpu free call is
 
   prepared : Leads Taken (preparing at Taken) (λ new. IsPrepared new at begins.call)
-  prepared = preparing_leads at begins.call Taken (is_sweeping Taken at taken_sound is_cpu begins) nine
+  prepared = preparing_leads at begins.call Taken (is_sweeping Taken at taken_sound is_cpu (record { partitions = blocks.partitions; others = blocks.others }) begins) nine
 
-  Judged : Config → Type 0
-  Judged new = IsPrepared new at begins.call × (new ≡ after_all Taken (preparing at Taken))
-
-  frees_there : HasFreeIndex (after_all Taken (preparing at Taken)) at
-  unfolding and_then taking
-  frees_there = frees
-
-  rest_leads : Leads Taken (and_then (preparing at) (and_then (acting at) (and_then (freeing at) (unpins at))) Taken) (λ new. IsUnpinning new at None [])
-  unfolding Judged
+  rest_leads : Leads Taken (and_then (preparing at) (and_then (acting at) (and_then (freeing at) (unpins at))) Taken) (HasEnded at)
   rest_leads =
-      leads_then (preparing at) (and_then (acting at) (and_then (freeing at) (unpins at))) Taken Judged (λ new. IsUnpinning new at None [])
-      (record { done = prepared.done; behind = (prepared.behind, refl) })
-      (λ new both. ends_act at begins.call new both.0 (subst (λ (there : Config). HasFreeIndex there at) (sym both.1) frees_there))
+      leads_then (preparing at) (and_then (acting at) (and_then (freeing at) (unpins at))) Taken (λ new. IsPrepared new at begins.call) (HasEnded at)
+      prepared (λ new ready. ends_act at begins.call new ready)
 
   -- it leaves the CPU between calls
-  pub act_leads : Leads conf (act at conf) (λ new. IsUnpinning new at None [])
+  pub act_leads : Leads conf (act at conf) (HasEnded at)
   unfolding act
   act_leads =
-      leads_then (taking at) (and_then (preparing at) (and_then (acting at) (and_then (freeing at) (unpins at)))) conf (λ new. new ≡ Taken) (λ new. IsUnpinning new at None [])
+      leads_then (taking at) (and_then (preparing at) (and_then (acting at) (and_then (freeing at) (unpins at)))) conf (λ new. new ≡ Taken) (HasEnded at)
       (take_leads conf at sound is_cpu free call is)
-      (λ new same. subst (λ (there : Config). Leads there (and_then (preparing at) (and_then (acting at) (and_then (freeing at) (unpins at))) there) (λ last. IsUnpinning last at None [])) (sym same) rest_leads)
+      (λ new same. subst (λ (there : Config). Leads there (and_then (preparing at) (and_then (acting at) (and_then (freeing at) (unpins at))) there) (HasEnded at)) (sym same) rest_leads)

@@ -28,11 +28,13 @@ use Rattle.gh_core.specs.Committing.{committing, cpu_no}
 use Rattle.gh_core.specs.Config.{AtAct, Config, Cpu, Current, HasTurn, Holder, IsIn, entries, has_acted, is_acted, judged, present, some_killed}
 use Rattle.gh_core.specs.Entries.{Allows, logged}
 use Rattle.gh_core.specs.HolderEvents.{is_done}
+use Rattle.gh_core.specs.Indices.{InBlocks}
 use Rattle.gh_core.specs.Items.{acting, acts}
 use Rattle.gh_core.specs.Sound.{IsSound}
 use Rattle.gh_core.specs.TurnEvents.{acted_ending, ending}
 use Rattle.gh_core.specs.ValidState as fits
 use Rattle.gh_core.specs.ValidState.{CpuFits, IsExiting, MayRun}
+use Rattle.gh_core.proofs.BlocksStay.{plain_blocks}
 use Rattle.gh_core.proofs.Commits.{IsActive, IsCommitted, entered_by, plain_commits}
 use Rattle.gh_core.proofs.EntryKeeps.{some_of}
 use Rattle.gh_core.proofs.EntryReferences.{MakesNone, MakesOne, Objects, event_objects}
@@ -166,8 +168,9 @@ module _ (conf : Config) (at : ℕ) (call : Current) (judges : IsJudged conf at 
 
   pub has_acted_there : (later : ℕ → ℕ) (dead : ℕ → Bool) (revived : List ℕ) (new : Config) → IsDone
       → NoneKilled (history.after_event (present conf) (logged entry call)) later dead
+      → InBlocks (history.after_event (present conf) (logged entry call)) later
       → IsCommitted conf holder entry call later dead revived new → HasActed new at
-  has_acted_there later dead revived new done none committed =
+  has_acted_there later dead revived new done none blocks committed =
       subst (λ (there : Config). HasActed there at) (sym committed.is) record {
         sound = subst IsSound committed.is committed.sound;
         is_cpu = judges.active.is_cpu;
@@ -178,6 +181,7 @@ module _ (conf : Config) (at : ℕ) (call : Current) (judges : IsJudged conf at 
         owes_nothing = committed.owes;
         none_killed = subst (λ (s : State). NoneKilled s later dead) (sym grown) none;
         has_ended = ending_there later committed.cap committed.count dead revived committed.owed done;
+        blocks = subst (λ (s : State). InBlocks s later) (sym grown) blocks;
       }
 
   -- an act that makes no object
@@ -199,7 +203,7 @@ module _ (conf : Config) (at : ℕ) (call : Current) (judges : IsJudged conf at 
     plain_acts done =
         leads_so conf (committing at entry conf) (IsCommitted conf holder entry call conf.index conf.dead holder.revived) (λ new. HasActed new at)
         (plain_commits conf at entry holder call judges.active (acted_allows done) makes)
-        (λ new committed. has_acted_there conf.index conf.dead holder.revived new done none_plain committed)
+        (λ new committed. has_acted_there conf.index conf.dead holder.revived new done none_plain (plain_blocks (present conf) (logged entry call) conf.index makes judges.active.blocks) committed)
 
   -- what an act that is refused ends with
   refused_acts : is_some (ending conf at holder call) ≡ true → HasActed conf at
@@ -213,6 +217,7 @@ module _ (conf : Config) (at : ℕ) (call : Current) (judges : IsJudged conf at 
     owes_nothing = judges.active.owes_nothing;
     none_killed = judges.none_killed;
     has_ended = ends;
+    blocks = judges.active.blocks;
   }
 
   -- the act, where one that makes an object can be committed

@@ -30,6 +30,7 @@ use Rattle.gh_model.specs.Word.{word_at}
 use Rattle.gh_core.specs.Config.{AtAct, Config, Current, HasTurn, Holder, IsIn, OwesNothing, live_references, present, put, references_at}
 use Rattle.gh_core.specs.Entries.{Allows, Covers, KindAllows, index_after, logged, makes_object, next_state, or_else, owed_after, shown, slot_set}
 use Rattle.gh_core.specs.Events.{Possible, after}
+use Rattle.gh_core.specs.Indices.{InBlocks}
 use Rattle.gh_core.specs.Sound.{IsSound}
 use Rattle.gh_core.specs.Trace.{AreDone, after_all}
 use Rattle.gh_core.specs.TurnEvents.{MayCommit, MaySetCap, committed, committed_by, put_word, set_cap, with_entry}
@@ -125,6 +126,8 @@ pub record IsActive (conf : Config) (at : ℕ) (holder : Holder) (call : Current
   pub in_act : IsIn (conf.cpu at) call AtAct
   pub owes_nothing : OwesNothing holder
   pub unrevived : holder.revived ≡ []
+  -- and objects lie in the blocks of their partitions
+  pub blocks : InBlocks (present conf) conf.index
 
 -- the holder has one more entry, and these indices are revived
 abbrev pub entered_by : Holder → Entry → List ℕ → (ℕ → ℕ) → Holder

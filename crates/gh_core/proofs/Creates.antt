@@ -1,6 +1,6 @@
 -- A create is committed: its gains are owed, the index of its object is revived with the first
 -- references, and the entry sets the slot of the master capability.
-use Rattle.std.proofs.Common.{◌≡◌, ◌==◌, ◌+◌, ◌*◌, ◌-◌, ◌^◌, ◌<◌, ◌≤◌, ◌∙◌, ◌⊎◌, inl, inr, ℕ, Bool, true, false, not, List, [], ◌∷◌, ◌++◌, refl, subst, sym, ap, arith, IsTrue, length, filter, map, Option, Some, None, find, is_some, if◌then◌else◌}
+use Rattle.std.proofs.Common.{◌≡◌, ◌==◌, ◌+◌, ◌*◌, ◌-◌, ◌%◌, ◌^◌, ◌<◌, ◌≤◌, ◌∙◌, ◌⊎◌, inl, inr, ℕ, Bool, true, false, not, List, [], ◌∷◌, ◌++◌, refl, subst, sym, ap, arith, IsTrue, length, filter, map, Option, Some, None, find, is_some, if◌then◌else◌}
 use Rattle.std.specs.Prelude.{◌&&◌, ◌||◌, count_by, nat_lt, option_map}
 use Rattle.std.specs.List.{list_all, list_any}
 use Rattle.std.specs.Option.{option_map_or}
@@ -27,6 +27,9 @@ use Rattle.gh_model.specs.References.{references}
 use Rattle.gh_model.specs.Registers.{needs_of}
 use Rattle.gh_model.specs.Rows.{is_object, object_row}
 use Rattle.gh_model.specs.Word.{is_slot, word_at}
+use Rattle.gh_model.specs.Decide.{verdict}
+use Rattle.gh_model.specs.declared.change.Decision.{Decision}
+use Rattle.gh_model.specs.declared.change.Decision.TheVariants.{Refuse, Unfinished, Make}
 use Rattle.gh_model.specs.declared.change.Change.{Change}
 use Rattle.gh_model.specs.declared.change.Change.TheVariants.{AddObject, PutCapability}
 use Rattle.gh_model.specs.declared.entry.Entry.{Entry}
@@ -36,11 +39,11 @@ use Rattle.gh_model.specs.declared.rows.ObjectRow.{ObjectRow}
 use Rattle.gh_model.specs.declared.state.State.{State}
 use Rattle.gh_model.specs.declared.word.Word.{Word}
 use Rattle.gh_invariant.specs.Effects.{gained, gains, home_of, is_that, lost, slots_set, times}
-use Rattle.gh_invariant.specs.Events.{EventFits, changes_of}
+use Rattle.gh_invariant.specs.Events.{EventFits, changes_of, judged_by, made_by}
 use Rattle.gh_invariant.specs.Lives.{lives, lives_as}
 use Rattle.gh_invariant.specs.Premises.{MayChangeAll}
 use Rattle.gh_invariant.specs.Valid.{IsValid}
-use Rattle.gh_invariant.proofs.Counting.{count_append, count_cons, find_push_other, one_true}
+use Rattle.gh_invariant.proofs.Counting.{count_append, count_cons, find_push_new, find_push_other, one_true}
 use Rattle.gh_invariant.proofs.EntriesKept.{begins}
 use Rattle.gh_invariant.proofs.EventWords.{event_may}
 use Rattle.gh_invariant.proofs.EventsKept.{event_valid}
@@ -52,7 +55,7 @@ use Rattle.gh_core.specs.Config.{AtAct, Config, Current, HasTurn, Holder, IsIn, 
 use Rattle.gh_core.specs.Entries.{Allows, Covers, index_after, is_that_index, logged, makes_object, owed_after, row_shown, shown}
 use Rattle.gh_core.specs.Entries as entries
 use Rattle.gh_core.specs.HolderEvents.{MayRevive, is_create, is_done, revived, with_revived}
-use Rattle.gh_core.specs.Indices.{IsFreeIndex, new_index}
+use Rattle.gh_core.specs.Indices.{InBlocks, IsFreeIndex, is_partition_kind, new_index, place_of}
 use Rattle.gh_core.specs.Sound.{IsSound}
 use Rattle.gh_core.specs.Start.{AreIndices}
 use Rattle.gh_core.specs.Trace.{after_all}
@@ -62,6 +65,7 @@ use Rattle.gh_core.specs.declared.event.Event.{Event}
 use Rattle.gh_core.specs.declared.event.Event.TheVariants.{Revive, SetCap}
 use Rattle.gh_core.proofs.ActFits.{grants_made}
 use Rattle.gh_core.proofs.Acting.{IsDone, IsJudged, acted_allows, has_acted_there}
+use Rattle.gh_core.proofs.Blocks.{new_first, new_place}
 use Rattle.gh_core.proofs.CallMakes.{MakesNew}
 use Rattle.gh_core.proofs.ChangeLives.{AllLive, gains_live, lives_here}
 use Rattle.gh_core.proofs.Commits.{IsActive, IsCommitted, entered_by, gains_lead, owed_serials}
@@ -78,6 +82,7 @@ use Rattle.gh_core.proofs.LengthBound.{history_is_short}
 use Rattle.gh_core.proofs.LookCalls.{entries_all}
 use Rattle.gh_core.proofs.LookKeeps.{index_shown}
 use Rattle.gh_core.proofs.OwingSteps.{IsOwing, at_owed, with_amounts}
+use Rattle.gh_core.proofs.Ranks.{HomeOf, home_of as lives_in_home}
 use Rattle.gh_core.proofs.SoundEvents.{event_keeps_sound}
 use Rattle.gh_core.proofs.TraceLaws.{Leads, leads_append, leads_cons, leads_none, leads_so}
 use Rattle.gh_core.proofs.TurnItems.{HasActed}
@@ -393,6 +398,68 @@ module _ (conf : Config) (at : ℕ) (call : Current) (judges : IsJudged conf at 
             life_killed s new conf.index later (put conf.dead home false) x (put_other conf.index next home x apart) same ∙ none_revived x
         by_goes (inr made) apart = absurd (let never : ⊥ = grind (arith, nat_tests, made.next) in never)
 
+    -- objects lie in their blocks behind it
+
+    acted_objects : (allowed : Bool) (decision : Decision) → allowed ≡ true
+        → (if allowed then made_by decision else []) ≡ AddObject row ∷ PutCapability cap ∷ []
+        → (if allowed then history.after_verdict s (verdict s decision) else history.numbered s).objects ≡ s.objects ++ row ∷ []
+    acted_objects false decision may list = absurd (let never : ⊥ = cc in never)
+    acted_objects true (Refuse errno) may list = absurd (let never : ⊥ = cc in never)
+    acted_objects true Unfinished may list = absurd (let never : ⊥ = cc in never)
+    acted_objects true (Make made reply) may list = ap (λ (changes_made : List Change). (changed_all s changes_made).objects) list
+
+    objects_are : new.objects ≡ s.objects ++ row ∷ []
+    objects_are =
+        acted_objects (history.may_act s at call.given.call (map word_of call.seen)) (judged_by s at event) allows.allowed.may_act made_is
+
+    new_row : object_row new next ≡ Some row
+    new_row =
+        ap (find (is_object next)) objects_are ∙ find_push_new (is_object next) s.objects row (none_by (object_row s next) refl unmade) (same_number next)
+      where
+        none_by : (found : Option ObjectRow) → object_row s next ≡ found → is_some (object_row s next) ≡ false → find (is_object next) s.objects ≡ None
+        none_by None is none = is
+        none_by (Some one) is none =
+            let some : is_some (object_row s next) ≡ true = ap is_some is in absurd (let never : ⊥ = cc in never)
+
+    old_row : (one : ObjectRow) → object_row new one.serial.0 ≡ Some one → (one.serial.0 == next) ≡ false → object_row s one.serial.0 ≡ Some one
+    old_row one is apart =
+        sym (find_push_other (is_object one.serial.0) s.objects row (let other : (next == one.serial.0) ≡ false = grind (arith, nat_tests) in other))
+        ∙ sym (ap (find (is_object one.serial.0)) objects_are) ∙ is
+
+    home_kept : (one : ObjectRow) → object_row s one.serial.0 ≡ Some one → later one.partition.0 ≡ conf.index one.partition.0
+    home_kept one is =
+        let its : HomeOf s valid one = lives_in_home s valid one is in
+        subst (λ (n : ℕ). later n ≡ conf.index n) its.that (later_old its.home.serial.0 (active.sound.state.given its.home.serial.0 (ap is_some its.is_row)))
+
+    row_kept : (one : ObjectRow) → object_row s one.serial.0 ≡ Some one → later one.serial.0 ≡ conf.index one.serial.0
+    row_kept one is = later_old one.serial.0 (active.sound.state.given one.serial.0 (ap is_some is))
+
+    partition_kept : later (grant 0).0 ≡ conf.index (grant 0).0
+    partition_kept =
+        later_old (grant 0).0 (active.sound.state.given (grant 0).0 (lives_any s.objects (grant 0).0 kind.Partition may_change.first.partition))
+
+    same_row : (one : ObjectRow) → object_row new one.serial.0 ≡ Some one → one.serial.0 ≡ next → row ≡ one
+    same_row one is that =
+        let both : Some row ≡ Some one = sym (ap (object_row new) that ∙ new_row) ∙ is in cc
+
+    parts_fit : (one : ObjectRow) → object_row new one.serial.0 ≡ Some one → is_partition_kind one.kind ≡ true → later one.serial.0 % 128 ≡ 0
+    parts_fit one is part =
+        elim (eqb_tells one.serial.0 next) as (λ _. later one.serial.0 % 128 ≡ 0) [
+          | inl same ↦ subst (λ (n : ℕ). n % 128 ≡ 0) (sym (ap later same.1 ∙ later_next)) (new_first s conf.index valid births.indices active.blocks row may_change.first (ap (λ (its : ObjectRow). is_partition_kind its.kind) (same_row one is same.1) ∙ part))
+          | inr differs ↦ let was : object_row s one.serial.0 ≡ Some one = old_row one is differs.0 in subst (λ (n : ℕ). n % 128 ≡ 0) (sym (row_kept one was)) (active.blocks.partitions one was part)
+        ]
+
+    others_fit : (one : ObjectRow) → object_row new one.serial.0 ≡ Some one → is_partition_kind one.kind ≡ false
+        → place_of (later one.serial.0) ≡ place_of (later one.partition.0)
+    others_fit one is other =
+        elim (eqb_tells one.serial.0 next) as (λ _. place_of (later one.serial.0) ≡ place_of (later one.partition.0)) [
+          | inl same ↦ let that : row ≡ one = same_row one is same.1 in ap place_of (ap later same.1 ∙ later_next) ∙ new_place s conf.index valid births.indices active.blocks row may_change.first (ap (λ (its : ObjectRow). is_partition_kind its.kind) that ∙ other) ∙ ap place_of (sym partition_kept) ∙ ap (λ (its : ObjectRow). place_of (later its.partition.0)) that
+          | inr differs ↦ let was : object_row s one.serial.0 ≡ Some one = old_row one is differs.0 in ap place_of (row_kept one was) ∙ active.blocks.others one was other ∙ ap place_of (sym (home_kept one was))
+        ]
+
+    new_blocks : InBlocks new later
+    new_blocks = record { partitions = parts_fit; others = others_fit }
+
     -- behind the gains and the revival
 
     abbrev holds : List ℕ → (ℕ → ℕ) → Holder
@@ -596,4 +663,4 @@ module _ (conf : Config) (at : ℕ) (call : Current) (judges : IsJudged conf at 
     pub create_acts : Leads conf (committing at entry conf) (λ there. HasActed there at)
     create_acts =
         leads_so conf (committing at entry conf) Done (λ there. HasActed there at) create_commits
-        (λ there committed. has_acted_there conf at call judges later (put conf.dead home false) (holder.revived ++ home ∷ []) there done none_behind committed)
+        (λ there committed. has_acted_there conf at call judges later (put conf.dead home false) (holder.revived ++ home ∷ []) there done none_behind new_blocks committed)

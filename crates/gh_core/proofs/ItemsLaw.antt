@@ -4,8 +4,9 @@ use Rattle.gh_base.specs.declared.limits.TheConstants.{CPUS}
 use Rattle.gh_model.specs.Marks.{Fails, Grants, Outcome, Seen, Wants}
 use Rattle.gh_core.specs.CallEvents.{begun, has_needs}
 use Rattle.gh_core.specs.Committing.{cpu_no}
-use Rattle.gh_core.specs.Config.{AtAct, Config, Current, DeadPin, Failed, Given, IsBetween, Looked, Pin, Reading, Stage, Undone, came_to}
-use Rattle.gh_core.specs.Items.{HasFreeIndex, act, begins, item, item_between, item_in, item_of, judged_in}
+use Rattle.gh_core.specs.Config.{AtAct, Config, Current, DeadPin, Failed, Given, IsBetween, Looked, Pin, Reading, Stage, Undone, came_to, present}
+use Rattle.gh_core.specs.Items.{IsSteady, act, begins, item, item_between, item_in, item_of}
+use Rattle.gh_core.specs.Indices.{HasBlocks}
 use Rattle.gh_core.specs.Sound.{IsSound}
 use Rattle.gh_core.specs.Sweep.{KeepsNine}
 use Rattle.gh_core.specs.Trace.{AreDone, after_all}
@@ -13,7 +14,10 @@ use Rattle.gh_core.specs.TurnEvents.{call_at_act, if_at_act, if_lookless, ready}
 use Rattle.gh_core.specs.declared.event.Event.{Event}
 use Rattle.gh_core.specs.declared.event.Event.TheVariants.{Enter}
 use Rattle.gh_core.proofs.ActItems.{act_leads}
-use Rattle.gh_core.proofs.CallItems.{IsUnpinning, call_item_done}
+use Rattle.gh_core.proofs.CallItems.{call_item_done}
+use Rattle.gh_core.proofs.QuietEvents.{item_quiet, quiet_blocks}
+use Rattle.gh_core.proofs.TraceSound.{trace_keeps_sound, trace_nine}
+use Rattle.gh_core.proofs.TurnItems.{HasEnded}
 use Rattle.gh_core.proofs.TraceLaws.{Leads, leads_so}
 
 -- the item of a call that is at its act is the act
@@ -53,27 +57,32 @@ module _ (conf : Config) (at : ℕ) where
   unfolding item
   item_acts call is = current_acts call (conf.cpu at).current is
 
--- an item's premises: a CPU that there is, and the turn free; where it is the act of a create, a free
--- index for its object
-abbrev FreeWhere : Config → ℕ → Type 0
-FreeWhere conf at = (call : Current) → ready (conf.cpu at) ≡ Some call → HasFreeIndex (judged_in conf at) at
-
 module _ (conf : Config) (at : ℕ) (sound : IsSound conf)
-    (nine : KeepsNine conf.history) (is_cpu : at < CPUS) (free : conf.turn ≡ None) (frees : FreeWhere conf at) where
-  abbrev Frees : Config → Type 0
-  Frees new = new.turn ≡ None
+    (nine : KeepsNine conf.history) (is_cpu : at < CPUS) (free : conf.turn ≡ None) (blocks : HasBlocks conf) where
+  abbrev Rests : Config → Type 0
+  Rests new = (new.turn ≡ None) × HasBlocks new
 
-  leads_by : (call : Option Current) → ready (conf.cpu at) ≡ call → Leads conf (item conf at) Frees
+  leads_by : (call : Option Current) → ready (conf.cpu at) ≡ call → Leads conf (item conf at) Rests
   leads_by None is =
-      leads_so conf (item conf at) (λ new. new.turn ≡ conf.turn) Frees (call_item_done conf at sound is_cpu is) (λ new same. same ∙ free)
+      let led : Leads conf (item conf at) (λ new. new.turn ≡ conf.turn) = call_item_done conf at sound is_cpu is in
+      record { done = led.done; behind = (led.behind ∙ free, quiet_blocks conf (item conf at) (item_quiet conf at is) blocks) }
   leads_by (Some call) is =
-      subst (λ (events : List Event). Leads conf events Frees) (sym (item_acts conf at call is))
-      (leads_so conf (act at conf) (λ new. IsUnpinning new at None []) Frees (act_leads conf at sound nine is_cpu free call is (frees call is)) (λ new has. has.turn_is))
+      subst (λ (events : List Event). Leads conf events Rests) (sym (item_acts conf at call is))
+      (leads_so conf (act at conf) (HasEnded at) Rests (act_leads conf at sound nine is_cpu free call is blocks) (λ new has. (has.0.turn_is, has.1)))
 
   -- the item is possible, and leaves the turn free
-  pub item_leads : Leads conf (item conf at) (λ new. new.turn ≡ None)
+  pub item_leads : Leads conf (item conf at) (λ new. (new.turn ≡ None) × HasBlocks new)
   item_leads = leads_by (ready (conf.cpu at)) refl
 
+  -- and the configuration steady
+  pub item_steady : IsSteady (after_all conf (item conf at))
+  item_steady = record {
+    sound = trace_keeps_sound conf (item conf at) sound item_leads.done;
+    nine = trace_nine conf (item conf at) nine item_leads.done;
+    blocks = item_leads.behind.1;
+    free = item_leads.behind.0;
+  }
+
 -- an act leaves its CPU between calls
-pub act_between : (conf : Config) (at : ℕ) → IsUnpinning conf at None [] → IsBetween (conf.cpu at)
-act_between conf at has = record { none = has.ended; dropped = has.held }
+pub act_between : (conf : Config) (at : ℕ) → HasEnded at conf → IsBetween (conf.cpu at)
+act_between conf at has = record { none = has.0.ended; dropped = has.0.held }

@@ -3,6 +3,8 @@ pub mod ActFits
 pub mod ActItems
 pub mod Acting
 pub mod AllowTests
+pub mod Blocks
+pub mod BlocksStay
 pub mod BootTables
 pub mod BoundKeeps
 pub mod Boxes
@@ -90,6 +92,7 @@ pub mod PartItems
 pub mod PinCalls
 pub mod PinKeeps
 pub mod Places
+pub mod QuietEvents
 pub mod Ranks
 pub mod RetiredSince
 pub mod ReviveKeeps

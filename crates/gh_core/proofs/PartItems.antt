@@ -32,6 +32,7 @@ use Rattle.gh_core.specs.Config.{AtAct, Config, Current, Holder, came_to, has_ac
 use Rattle.gh_core.specs.Entries.{Allows, is_least, is_plain_of, logged}
 use Rattle.gh_core.specs.HolderEvents.{is_done}
 use Rattle.gh_core.specs.Items.{goes_on, next_part, object_revoked, part, part_at, part_by, part_of, parts, plain_caps}
+use Rattle.gh_core.specs.Indices.{InBlocks}
 use Rattle.gh_core.specs.Sound.{IsSound}
 use Rattle.gh_core.specs.Trace.{and_then}
 use Rattle.gh_core.specs.declared.event.Event.{Event}
@@ -182,6 +183,7 @@ module _ (conf : Config) (at : ℕ) (call : Current) (revoking : IsRevoking conf
             in_act = revoking.judged.active.in_act;
             owes_nothing = none;
             unrevived = revoking.judged.active.unrevived;
+            blocks = subst (λ (now : State). InBlocks now conf.index) (sym grown) (record { partitions = revoking.judged.active.blocks.partitions; others = revoking.judged.active.blocks.others });
           };
           not_acted = none_acted holder.entries entry is_acted revoking.judged.not_acted refl;
           none_killed = subst (λ (now : State). NoneKilled now conf.index conf.dead) (sym grown) (λ serial. revoking.judged.none_killed serial);

@@ -34,7 +34,7 @@ use Rattle.gh_core.proofs.Finding.{found_passes, same_number}
 -- counts
 
 -- what passes a narrower test, and what passes the wider one alone
-count_within : (p q : ObjectRow → Bool) (rows : List ObjectRow) → ((row : ObjectRow) → p row ≡ true → q row ≡ true)
+pub count_within : (p q : ObjectRow → Bool) (rows : List ObjectRow) → ((row : ObjectRow) → p row ≡ true → q row ≡ true)
     → count_by p rows + count_by (λ (row : ObjectRow). q row && not (p row)) rows ≡ count_by q rows
 count_within p q [] within = refl
 count_within p q (row ∷ rows) within =
@@ -111,7 +111,7 @@ same_rank test rows row other found also passes too same =
 -- units
 
 -- each object of a partition costs it a unit at least
-units_count : (partition : ℕ) (test : ObjectRow → Bool) (rows : List ObjectRow)
+pub units_count : (partition : ℕ) (test : ObjectRow → Bool) (rows : List ObjectRow)
     → ((row : ObjectRow) → test row ≡ true → 0 < row.cost) → IsTrue (list_all test rows)
     → count_by (lives_in partition) rows ≤ used_by rows partition
 units_count partition test [] costs all = omega arith
@@ -126,7 +126,7 @@ units_count partition test (row ∷ rows) costs all =
     by_kept false is cost rest =
         omega (arith, count_cons (lives_in partition) row rows, one_false (lives_in partition row) is, rest)
 
-partition_number : (k : Kind) → is_partition_kind k ≡ (kind_number k == kind_number kind.Partition)
+pub partition_number : (k : Kind) → is_partition_kind k ≡ (kind_number k == kind_number kind.Partition)
 partition_number kind.Partition = refl
 partition_number kind.Cspace = refl
 partition_number kind.Space = refl
@@ -138,7 +138,7 @@ module _ (s : State) (valid : IsValid s) where
   abbrev in_partition : ObjectRow → Bool
   in_partition row = is_partition_kind row.kind
 
-  same_count : (p q : ObjectRow → Bool) (rows : List ObjectRow) → ((row : ObjectRow) → p row ≡ q row) → count_by p rows ≡ count_by q rows
+  pub same_count : (p q : ObjectRow → Bool) (rows : List ObjectRow) → ((row : ObjectRow) → p row ≡ q row) → count_by p rows ≡ count_by q rows
   same_count p q [] same = refl
   same_count p q (row ∷ rows) same =
       omega (arith, count_cons p row rows, count_cons q row rows, ap one_if (same row), same_count p q rows same)
@@ -170,11 +170,11 @@ module _ (s : State) (valid : IsValid s) where
       home_by row (object_row s row.partition.0) refl (found_all (is_object row.serial.0) (is_housed s.objects) s.objects row valid.objects.housed is)
 
   -- a partition has 128 objects at most
-  cost_some : (row : ObjectRow) → cost_fits s.partitions s.extents row ≡ true → 0 < row.cost
+  pub cost_some : (row : ObjectRow) → cost_fits s.partitions s.extents row ≡ true → 0 < row.cost
   cost_some row fits =
       let some : nat_lt 0 row.cost ≡ true = (and_parts (nat_lt 0 row.cost) _ fits).0 in grind (arith, nat_tests)
 
-  quota_by : (partition : ℕ) (found : Option PartitionRow) → find (is_partition partition) s.partitions ≡ found
+  pub quota_by : (partition : ℕ) (found : Option PartitionRow) → find (is_partition partition) s.partitions ≡ found
       → row_quota found ≤ PARTITION_UNITS
   quota_by partition None is = omega arith
   quota_by partition (Some row) is =

@@ -80,6 +80,7 @@ scanned_on conf at call sweeping new has =
           in_act = sweeping.active.in_act;
           owes_nothing = sweeping.active.owes_nothing;
           unrevived = sweeping.active.unrevived;
+          blocks = record { partitions = sweeping.active.blocks.partitions; others = sweeping.active.blocks.others };
         };
         not_acted = sweeping.not_acted;
         no_part = sweeping.no_part;
@@ -210,6 +211,7 @@ module _ (at : ℕ) (call : Current) (serial : Serial) where
               in_act = dying.active.in_act;
               owes_nothing = dying.active.owes_nothing;
               unrevived = dying.active.unrevived;
+              blocks = record { partitions = dying.active.blocks.partitions; others = dying.active.blocks.others };
             };
             not_acted = dying.not_acted;
             no_part = dying.no_part;
@@ -361,6 +363,7 @@ module _ (conf : Config) (at : ℕ) (call : Current) (serial : Serial) (scanned 
           in_act = scanned.sweeping.active.in_act;
           owes_nothing = scanned.sweeping.active.owes_nothing;
           unrevived = scanned.sweeping.active.unrevived;
+          blocks = record { partitions = scanned.sweeping.active.blocks.partitions; others = scanned.sweeping.active.blocks.others };
         };
         not_acted = scanned.sweeping.not_acted;
         no_part = scanned.sweeping.no_part;
@@ -393,6 +396,7 @@ module _ (conf : Config) (at : ℕ) (call : Current) (serial : Serial) (scanned 
             in_act = scanned.sweeping.active.in_act;
             owes_nothing = scanned.sweeping.active.owes_nothing;
             unrevived = scanned.sweeping.active.unrevived;
+            blocks = record { partitions = scanned.sweeping.active.blocks.partitions; others = scanned.sweeping.active.blocks.others };
           };
           not_acted = scanned.sweeping.not_acted;
           no_part = scanned.sweeping.no_part;

@@ -2,6 +2,7 @@
 use Rattle.std.proofs.Common.{◌≡◌, ◌<◌, ◌∙◌, ℕ, true, refl, subst, sym, ap, Option, Some}
 use Rattle.gh_base.specs.declared.limits.TheConstants.{CPUS}
 use Rattle.gh_core.specs.Config.{Config, Holder, present}
+use Rattle.gh_core.specs.Indices.{InBlocks}
 use Rattle.gh_core.specs.Sound.{IsSound}
 use Rattle.gh_core.specs.Sweep.{HasNotBegun, KeepsNine, sweep}
 use Rattle.gh_core.specs.Trace.{AreDone, after_all}
@@ -12,7 +13,8 @@ use Rattle.gh_core.proofs.SweepSteps.{IsScanned, IsSweeping}
 use Rattle.gh_core.proofs.TraceLaws.{Leads}
 use Rattle.gh_core.proofs.TraceSound.{trace_nine}
 
-module _ (conf : Config) (at : ℕ) (sound : IsSound conf) (is_cpu : at < CPUS) (begins : HasNotBegun conf at) where
+module _ (conf : Config) (at : ℕ) (sound : IsSound conf) (is_cpu : at < CPUS)
+    (blocks : InBlocks (present conf) conf.index) (begins : HasNotBegun conf at) where
   pub is_sweeping : IsSweeping conf at begins.call
   is_sweeping = record {
     holder = begins.holder;
@@ -23,6 +25,7 @@ module _ (conf : Config) (at : ℕ) (sound : IsSound conf) (is_cpu : at < CPUS) 
       in_act = begins.in_act;
       owes_nothing = begins.owes_nothing;
       unrevived = begins.unrevived;
+      blocks = blocks;
     };
     not_acted = begins.not_acted;
     no_part = begins.no_part;
@@ -48,6 +51,10 @@ module _ (conf : Config) (at : ℕ) (sound : IsSound conf) (is_cpu : at < CPUS) 
     no_part = scanned.sweeping.no_part;
     none_killed = none_some (present new) new.index new.dead scanned.sweeping.active.sound.valid.valid scanned.sweeping.none_killed;
   }
+
+  -- objects still lie in their blocks
+  pub sweep_blocks : InBlocks (present (after_all conf (sweep at conf))) (after_all conf (sweep at conf)).index
+  sweep_blocks = leads.behind.0.sweeping.active.blocks
 
   -- and the act may begin behind it
   pub sweep_begins : HasNotBegun (after_all conf (sweep at conf)) at

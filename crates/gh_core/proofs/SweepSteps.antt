@@ -33,11 +33,13 @@ use Rattle.gh_core.specs.Entries.{Allows, AreScans, KindAllows, logged}
 use Rattle.gh_core.specs.Events.{Possible, after}
 use Rattle.gh_core.specs.HolderEvents.{MayKill, is_create, kill_failed, killed, with_failed, with_turn, without_scans}
 use Rattle.gh_core.specs.Length.{EntriesCount, is_leaving, is_staying, makes_one, reclaims_one, retires_one}
+use Rattle.gh_core.specs.Indices.{InBlocks}
 use Rattle.gh_core.specs.Sound.{IsSound}
 use Rattle.gh_core.specs.Sweep.{counters, have_left, has_left, is_left, kill, killing, kills, may_kill, may_reclaim, reclaiming, retired_now, retires_dead, retiring, scans}
 use Rattle.gh_core.specs.Trace.{AreDone, after_all, and_then}
 use Rattle.gh_core.specs.declared.event.Event.{Event}
 use Rattle.gh_core.specs.declared.event.Event.TheVariants.{Kill}
+use Rattle.gh_core.proofs.BlocksStay.{plain_blocks}
 use Rattle.gh_core.proofs.Commits.{IsActive, IsCommitted, entered_by, plain_commits}
 use Rattle.gh_core.proofs.EntryMoves.{RowOf, row_of}
 use Rattle.gh_core.proofs.EntryReferences.{MakesNone, MakesOne, Objects, event_objects}
@@ -164,6 +166,7 @@ module _ (conf : Config) (at : ℕ) (call : Current) (entry : Entry) (holder : H
       in_act = active.in_act;
       owes_nothing = committed.owes;
       unrevived = active.unrevived;
+      blocks = subst (λ (st : State). InBlocks st conf.index) (sym grown) (plain_blocks (present conf) (logged entry call) conf.index (no_object conf at entry holder call active allows not_act) active.blocks);
     };
     not_acted = none_acted holder.entries entry is_acted allows.not_acted not_act;
     no_part = none_acted holder.entries entry is_part no_part not_part;

@@ -11,7 +11,9 @@ use Rattle.gh_core.specs.CallEvents.{begun, finished, has_grants, has_needs, wit
 use Rattle.gh_core.specs.Calls.{CurrentIs, came_fits, pinned_looks}
 use Rattle.gh_core.specs.Config.{AtAct, Config, Cpu, Current, DeadPin, Failed, Given, HasTurn, Holder, IsIn, Looked, OwesNothing, Pin, Reading, Stage, Undone, came_to, pin_of, present, put}
 use Rattle.gh_core.specs.Grace.{objects_of}
+use Rattle.gh_core.specs.Indices.{HasBlocks}
 use Rattle.gh_core.specs.Items.{freeing, taking, unpins}
+use Rattle.std.specs.List.{list_all}
 use Rattle.gh_core.specs.Sound.{IsSound}
 use Rattle.gh_core.specs.Sweep.{HasNotBegun}
 use Rattle.gh_core.specs.Trace.{and_then}
@@ -19,6 +21,7 @@ use Rattle.gh_core.specs.TurnEvents.{Ending, MayEnd, MayTake, call_at_act, end_c
 use Rattle.gh_core.proofs.CallItems.{IsUnpinning, pin_within, unpins_lead}
 use Rattle.gh_core.proofs.Finding.{put_here}
 use Rattle.gh_core.proofs.KilledNone.{NoneKilled, killed_in, none_some}
+use Rattle.gh_core.proofs.QuietEvents.{is_quiet, pins_quiet, quiet_blocks}
 use Rattle.gh_core.proofs.TraceLaws.{Leads, leads_then}
 
 -- Take
@@ -131,6 +134,10 @@ module _ (conf : Config) (at : ℕ) (sound : IsSound conf) where
 
 -- Free
 
+-- a call has ended whole: its CPU is between calls, the turn is free, and objects lie in their blocks
+abbrev pub HasEnded : ℕ → Config → Type 0
+HasEnded at new = IsUnpinning new at None [] × HasBlocks new
+
 -- the holder's act has come to its end
 pub record HasActed (conf : Config) (at : ℕ) : Type 0 where
   pub sound : IsSound conf
@@ -142,6 +149,7 @@ pub record HasActed (conf : Config) (at : ℕ) : Type 0 where
   pub owes_nothing : OwesNothing holder
   pub none_killed : NoneKilled (present conf) conf.index conf.dead
   pub has_ended : is_some (ending conf at holder call) ≡ true
+  pub blocks : HasBlocks conf
 
 module _ (conf : Config) (at : ℕ) (acted : HasActed conf at) where
   may_end : MayEnd conf at
@@ -180,10 +188,20 @@ module _ (conf : Config) (at : ℕ) (acted : HasActed conf at) where
     within = λ i pin is. pin_within conf at i pin acted.sound is;
   }
 
-  -- the turn is given back with the call's end, and the pins go
-  pub free_leads : Leads conf (and_then (freeing at) (unpins at) conf) (λ new. IsUnpinning new at None [])
+  unpins_leads : Leads conf (and_then (freeing at) (unpins at) conf) (λ new. IsUnpinning new at None [])
   unfolding freeing
-  free_leads =
+  unpins_leads =
       leads_then (freeing at) (unpins at) conf (λ new. IsUnpinning new at None (conf.cpu at).pins) (λ new. IsUnpinning new at None [])
       (record { done = (may_end, tt); behind = ended_unpins })
       (λ new has. unpins_lead new at None (conf.cpu at).pins has)
+
+  all_quiet : list_all is_quiet (and_then (freeing at) (unpins at) conf) ≡ true
+  unfolding and_then freeing unpins
+  all_quiet = pins_quiet at ((ended conf at).cpu at).pins
+
+  -- the turn is given back with the call's end, and the pins go
+  pub free_leads : Leads conf (and_then (freeing at) (unpins at) conf) (HasEnded at)
+  free_leads = record {
+    done = unpins_leads.done;
+    behind = (unpins_leads.behind, quiet_blocks conf (and_then (freeing at) (unpins at) conf) all_quiet acted.blocks);
+  }

@@ -87,3 +87,7 @@ pub record InBlocks (s : State) (index : ℕ → ℕ) : Type 0 where
 pub record IsFreeIndex (conf : Config) (at : ℕ) : Type 0 where
   pub within : at < OBJECT_INDICES
   pub uninhabited : object_at (present conf) conf.index at ≡ None
+
+-- the objects of a configuration lie so
+abbrev pub HasBlocks : Config → Type 0
+HasBlocks conf = InBlocks (present conf) conf.index

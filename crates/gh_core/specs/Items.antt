@@ -1,6 +1,6 @@
 -- The items of a call: what a CPU does next, as a list of events. Each look, each pin and each undo
 -- is one; so are the begin of a section and its end, and the whole act.
-use Rattle.std.specs.Prelude.{◌≡◌, ⊤, ◌==◌, ℕ, zero, suc, Bool, true, false, List, [], ◌∷◌, length, Option, Some, None, filter, map, slice_get, slice_index, if◌then◌else◌}
+use Rattle.std.specs.Prelude.{◌≡◌, ◌==◌, ℕ, zero, suc, Bool, true, false, List, [], ◌∷◌, length, Option, Some, None, filter, map, slice_get, slice_index, if◌then◌else◌}
 use Rattle.std.specs.List.{last_or}
 use Rattle.std.specs.Option.{option_map_or}
 use Rattle.gh_base.specs.declared.call.Call.{Call}
@@ -13,15 +13,14 @@ use Rattle.gh_model.specs.declared.entry.Entry.TheVariants.{Acted, Part}
 use Rattle.gh_model.specs.declared.rows.CapabilityRow.{CapabilityRow}
 use Rattle.gh_model.specs.declared.state.State.{State}
 use Rattle.gh_core.specs.CallEvents.{has_needs}
-use Rattle.gh_invariant.specs.Events.{changes_of}
-use Rattle.gh_model.specs.declared.rows.ObjectRow.{ObjectRow}
-use Rattle.gh_core.specs.Committing.{added, committing, cpu_no, index_no}
+use Rattle.gh_core.specs.Committing.{committing, cpu_no, index_no}
 use Rattle.gh_core.specs.Config.{AtAct, Config, Current, DeadPin, Failed, Given, Looked, Pin as Held, Reading, Stage, Undone, came_to, judged, present, seen_index}
-use Rattle.gh_core.specs.Entries.{is_before, is_plain_of, logged}
+use Rattle.gh_core.specs.Entries.{is_before, is_plain_of}
 use Rattle.gh_core.specs.HolderEvents.{is_done}
-use Rattle.gh_core.specs.Indices.{IsFreeIndex, new_index}
-use Rattle.gh_core.specs.Sweep.{sweep}
-use Rattle.gh_core.specs.Trace.{after_all, and_then}
+use Rattle.gh_core.specs.Indices.{HasBlocks}
+use Rattle.gh_core.specs.Sound.{IsSound}
+use Rattle.gh_core.specs.Sweep.{KeepsNine, sweep}
+use Rattle.gh_core.specs.Trace.{and_then}
 use Rattle.gh_core.specs.declared.event.Event.{Event}
 use Rattle.gh_core.specs.declared.event.Event.TheVariants.{Enter, Free, Leave, Look, Pin, Take, Undo, Unpin}
 
@@ -171,17 +170,10 @@ item_of at conf (Some call) = item_in at conf call call.stage
 unfoldable pub item : Config → ℕ → List Event
 item conf at = item_of at conf (conf.cpu at).current
 
--- the index that the act of the CPU's call gives its object, where it makes one, is free
-abbrev pub FreesIndex : Config → Option ObjectRow → Type 0
-FreesIndex conf None = ⊤
-FreesIndex conf (Some row) =
-    IsFreeIndex conf (new_index (present conf) conf.index row.kind row.partition.0)
-
-abbrev pub HasFreeIndex : Config → ℕ → Type 0
-HasFreeIndex conf at = (call : Current) → (conf.cpu at).current ≡ Some call
-    → FreesIndex conf
-    (added (changes_of (present conf) (logged (Acted (cpu_no at) call.given.number) call)))
-
--- the configuration in which the act is judged: the turn is taken, and the sweep or the parts are made
-abbrev pub judged_in : Config → ℕ → Config
-judged_in conf at = after_all conf (and_then (taking at) (preparing at) conf)
+-- a configuration between items: it is sound, each entry that keeps counters keeps nine, objects lie
+-- in the blocks of their partitions, and the turn is free
+pub record IsSteady (conf : Config) : Type 0 where
+  pub sound : IsSound conf
+  pub nine : KeepsNine conf.history
+  pub blocks : HasBlocks conf
+  pub free : conf.turn ≡ None

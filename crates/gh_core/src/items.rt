@@ -4,8 +4,8 @@
 ghost use Rattle.std.specs.Prelude.{◌≡◌, ◌<◌, ℕ, List, Some, None, IsTrue, true};
 ghost use Rattle.gh_base.specs.declared.limits.TheConstants.{CPUS};
 ghost use Rattle.gh_core.specs.Config.{Config, Current, Holder, IsBetween, present};
-ghost use Rattle.gh_core.specs.Indices.{boot_index};
-ghost use Rattle.gh_core.specs.Items.{HasFreeIndex, act, item, judged_in};
+ghost use Rattle.gh_core.specs.Indices.{HasBlocks, boot_index};
+ghost use Rattle.gh_core.specs.Items.{IsSteady, act, item};
 ghost use Rattle.gh_core.specs.Sound.{IsSound};
 ghost use Rattle.gh_core.specs.Start.{AreIndices};
 ghost use Rattle.gh_core.specs.Sweep.{HasNotBegun, KeepsNine, sweep};
@@ -34,47 +34,42 @@ pub fn call_items_are_possible()
         → ready (conf.cpu at) ≡ None → (after_all conf (item conf at)).turn ≡ conf.turn }
 {}
 
-/// In a sound configuration the holder of the turn can sweep before its act, and the act may begin
-/// behind the sweep. Each object that is retired or without references then has what holds it: the
-/// count that a failed kill saw, or the first CPU that still has its odd counter of the retirement.
+/// In a sound configuration whose objects lie in the blocks of their partitions, the holder of the
+/// turn can sweep before its act, and the act may begin behind the sweep. Each object that is retired
+/// or without references then has what holds it: the count that a failed kill saw, or the first CPU
+/// that still has its odd counter of the retirement.
 pub fn sweeps_are_possible()
-    ensures possible { (conf : Config) (at : ℕ) → IsSound conf → at < CPUS → HasNotBegun conf at → AreDone conf (sweep at conf) }
-    ensures begins { (conf : Config) (at : ℕ) → IsSound conf → at < CPUS → HasNotBegun conf at → HasNotBegun (after_all conf (sweep at conf)) at }
-    ensures held { (conf : Config) (at : ℕ) (holder : Holder) → IsSound conf
-        → at < CPUS → HasNotBegun conf at → KeepsNine conf.history
+    ensures possible { (conf : Config) (at : ℕ) → IsSound conf → at < CPUS → HasBlocks conf
+        → HasNotBegun conf at → AreDone conf (sweep at conf) }
+    ensures blocks { (conf : Config) (at : ℕ) → IsSound conf → at < CPUS → HasBlocks conf
+        → HasNotBegun conf at → HasBlocks (after_all conf (sweep at conf)) }
+    ensures begins { (conf : Config) (at : ℕ) → IsSound conf → at < CPUS → HasBlocks conf
+        → HasNotBegun conf at → HasNotBegun (after_all conf (sweep at conf)) at }
+    ensures held { (conf : Config) (at : ℕ) (holder : Holder) → IsSound conf → at < CPUS
+        → HasBlocks conf → HasNotBegun conf at → KeepsNine conf.history
         → (after_all conf (sweep at conf)).turn ≡ Some holder
         → has_causes holder (present (after_all conf (sweep at conf))) ≡ true }
 {}
 
-/// With a free turn, the whole act of a call that is at its act is possible: the turn is taken, the
-/// sweep or the parts are made, the act's entry is committed where the act is done, the turn is given
-/// back with the call's end and the pins are dropped. A create has a free index for its object where
-/// its act is judged. The CPU is between calls then, and the turn is free again.
+/// Where the turn is free, the whole act of a call that is at its act is possible: the turn is taken,
+/// the sweep or the parts are made, the act's entry is committed where the act is done, the turn is
+/// given back with the call's end and the pins are dropped. The CPU is between calls then, and the
+/// turn is free again.
 pub fn acts_are_possible()
-    ensures possible { (conf : Config) (at : ℕ) (call : Current) → IsSound conf
-        → KeepsNine conf.history → at < CPUS → conf.turn ≡ None
-        → ready (conf.cpu at) ≡ Some call → HasFreeIndex (judged_in conf at) at
-        → AreDone conf (act at conf) }
-    ensures between { (conf : Config) (at : ℕ) (call : Current) → IsSound conf
-        → KeepsNine conf.history → at < CPUS → conf.turn ≡ None
-        → ready (conf.cpu at) ≡ Some call → HasFreeIndex (judged_in conf at) at
-        → IsBetween ((after_all conf (act at conf)).cpu at) }
-    ensures free { (conf : Config) (at : ℕ) (call : Current) → IsSound conf
-        → KeepsNine conf.history → at < CPUS → conf.turn ≡ None
-        → ready (conf.cpu at) ≡ Some call → HasFreeIndex (judged_in conf at) at
-        → (after_all conf (act at conf)).turn ≡ None }
+    ensures possible { (conf : Config) (at : ℕ) (call : Current) → IsSteady conf → at < CPUS
+        → ready (conf.cpu at) ≡ Some call → AreDone conf (act at conf) }
+    ensures between { (conf : Config) (at : ℕ) (call : Current) → IsSteady conf → at < CPUS
+        → ready (conf.cpu at) ≡ Some call → IsBetween ((after_all conf (act at conf)).cpu at) }
+    ensures free { (conf : Config) (at : ℕ) (call : Current) → IsSteady conf → at < CPUS
+        → ready (conf.cpu at) ≡ Some call → (after_all conf (act at conf)).turn ≡ None }
 {}
 
-/// So with a free turn the next item of every CPU is possible, and the turn is free again behind it.
+/// So the next item of every CPU is possible in a steady configuration, and leaves a steady one.
 pub fn items_are_possible()
-    ensures possible { (conf : Config) (at : ℕ) → IsSound conf
-        → KeepsNine conf.history → at < CPUS → conf.turn ≡ None
-        → ((call : Current) → ready (conf.cpu at) ≡ Some call → HasFreeIndex (judged_in conf at) at)
+    ensures possible { (conf : Config) (at : ℕ) → IsSteady conf → at < CPUS
         → AreDone conf (item conf at) }
-    ensures free { (conf : Config) (at : ℕ) → IsSound conf
-        → KeepsNine conf.history → at < CPUS → conf.turn ≡ None
-        → ((call : Current) → ready (conf.cpu at) ≡ Some call → HasFreeIndex (judged_in conf at) at)
-        → (after_all conf (item conf at)).turn ≡ None }
+    ensures steady { (conf : Config) (at : ℕ) → IsSteady conf → at < CPUS
+        → IsSteady (after_all conf (item conf at)) }
 {}
 
 /// The objects of each boot file have indices, each its own: 128 times the place of its partition

@@ -6,13 +6,13 @@ use Rattle.gh_core.specs.Items.{act}
 use Rattle.gh_core.specs.Trace.{after_all}
 
 pub returns-clause-possible : goal.returns-clause-possible
-returns-clause-possible c = λ conf at call sound nine is_cpu free is frees.
-    (act_leads conf at sound nine is_cpu free call is frees).done
+returns-clause-possible c = λ conf at call steady is_cpu is.
+    (act_leads conf at steady.sound steady.nine is_cpu steady.free call is steady.blocks).done
 
 pub returns-clause-between : goal.returns-clause-between
-returns-clause-between c = λ conf at call sound nine is_cpu free is frees.
-    act_between (after_all conf (act at conf)) at (act_leads conf at sound nine is_cpu free call is frees).behind
+returns-clause-between c = λ conf at call steady is_cpu is.
+    act_between (after_all conf (act at conf)) at (act_leads conf at steady.sound steady.nine is_cpu steady.free call is steady.blocks).behind
 
 pub returns-clause-free : goal.returns-clause-free
-returns-clause-free c = λ conf at call sound nine is_cpu free is frees.
-    (act_leads conf at sound nine is_cpu free call is frees).behind.turn_is
+returns-clause-free c = λ conf at call steady is_cpu is.
+    (act_leads conf at steady.sound steady.nine is_cpu steady.free call is steady.blocks).behind.0.turn_is

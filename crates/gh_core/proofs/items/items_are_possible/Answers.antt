@@ -1,9 +1,9 @@
 -- The laws are the lemma.
-use Rattle.gh_core.proofs.ItemsLaw.{item_leads}
+use Rattle.gh_core.proofs.ItemsLaw.{item_leads, item_steady}
 use Rattle.gh_core.proofs.items.items_are_possible.Goals as goal
 
 pub returns-clause-possible : goal.returns-clause-possible
-returns-clause-possible c = λ conf at sound nine is_cpu free frees. (item_leads conf at sound nine is_cpu free frees).done
+returns-clause-possible c = λ conf at steady is_cpu. (item_leads conf at steady.sound steady.nine is_cpu steady.free steady.blocks).done
 
-pub returns-clause-free : goal.returns-clause-free
-returns-clause-free c = λ conf at sound nine is_cpu free frees. (item_leads conf at sound nine is_cpu free frees).behind
+pub returns-clause-steady : goal.returns-clause-steady
+returns-clause-steady c = λ conf at steady is_cpu. item_steady conf at steady.sound steady.nine is_cpu steady.free steady.blocks
