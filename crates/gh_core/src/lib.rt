@@ -24,6 +24,7 @@ mod lookups;
 mod owing;
 mod reads;
 mod references;
+mod set_cap;
 mod slots_set;
 mod sound;
 mod start;
