@@ -59,6 +59,7 @@ pub mod RetiredSince
 pub mod ReviveKeeps
 pub mod SawPins
 pub mod SetCapWords
+pub mod SettingTests
 pub mod SlotHomes
 pub mod SlotsCame
 pub mod SlotsLeft

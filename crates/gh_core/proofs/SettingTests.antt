@@ -1,0 +1,107 @@
+-- What sets a slot is what the machine sets, where it may.
+use Rattle.std.proofs.Common.{◌≡◌, ◌==◌, ◌&&◌, ◌||◌, ◌+◌, ◌<◌, ◌∙◌, ◌++◌, ◌∷◌, [], ℕ, Bool, true, false, List, refl, ap, sym, subst, arith, not, Option, Some, None, nat_lt, option_map, if◌then◌else◌}
+use Rattle.std.specs.List.{list_all, list_any}
+use Rattle.gh_base.specs.CapWord.{indices, object_of}
+use Rattle.gh_base.specs.declared.cap_word.CapWord.{CapWord}
+use Rattle.gh_base.specs.declared.limits.TheConstants.{CPUS, OBJECT_INDICES}
+use Rattle.gh_invariant.specs.Events.{changes_of}
+use Rattle.gh_model.specs.History as history
+use Rattle.gh_model.specs.Word.{word_at}
+use Rattle.gh_model.specs.declared.entry.Entry.{Entry}
+use Rattle.gh_model.specs.declared.state.State.{State}
+use Rattle.gh_core.specs.Config.{Config, Current, Holder, present, put}
+use Rattle.gh_core.specs.Entries.{index_after, is_that_index, logged, makes_object, next_state, owed_after, shown, slot_set}
+use Rattle.gh_core.specs.EntryTests.{entry_goes}
+use Rattle.gh_core.specs.Owing.{CoversAll, later_indices, later_of, next_is, owed_behind, owed_in, owing_covers, owing_of, revived_for, setting_goes, slot_shows, with_event, with_owing, with_slot}
+use Rattle.gh_core.specs.Running.{event_of, has_index, holder_of, index_in, no_number, stands_for}
+use Rattle.gh_core.specs.Tables.{numbers, put_number}
+use Rattle.gh_core.specs.TurnEvents.{MaySetCap, committed_by, put_word, set_cap, with_entry}
+use Rattle.gh_core.specs.declared.commit_events.Next.{Next}
+use Rattle.gh_core.specs.declared.config.Running.{Running}
+use Rattle.gh_core.specs.declared.holder.Turn.{Turn}
+use Rattle.gh_core.specs.declared.table.Written.{Written}
+use Rattle.gh_core.proofs.CallTests.{both, equal, is_below, is_equal, joined}
+use Rattle.gh_core.proofs.CommitTests.{Ready, ready, tells_covers, tells_goes}
+use Rattle.gh_core.proofs.OwedLemmas.{owed_is}
+use Rattle.gh_core.proofs.TableLemmas.{put_last}
+
+-- indices
+
+all_last : (written : List Written) (w : Written) → list_all has_index written ≡ true → has_index w ≡ true → list_all has_index (written ++ w ∷ []) ≡ true
+all_last [] w are is = joined (has_index w) true is refl
+all_last (first ∷ written) w are is =
+    let parts = both (has_index first) (list_all has_index written) are in
+    joined (has_index first) (list_all has_index (written ++ w ∷ [])) parts.0 (all_last written w parts.1 is)
+
+later_by : (makes : Bool) (given : List Written) (serial index : ℕ) → list_all has_index given ≡ true → index < OBJECT_INDICES
+    → list_all has_index (if makes then given ++ record { at = serial; value = index } ∷ [] else given) ≡ true
+later_by true given serial index are within = all_last given (record { at = serial; value = index }) are (is_below index OBJECT_INDICES within)
+later_by false given serial index are within = are
+
+object_within : (word : ℕ) → object_of word < OBJECT_INDICES
+object_within word = omega arith
+
+-- what an entry gives as an index is one
+pub later_within : (given : List Written) (old new : State) (word : CapWord) → list_all has_index given ≡ true
+    → list_all has_index (later_indices given old new word) ≡ true
+later_within given old new word are = later_by (makes_object old new) given old.next_serial (object_of word.0) are (object_within word.0)
+
+index_by : (makes : Bool) (first given : List Written) (serial index : ℕ)
+    → index_in first (if makes then given ++ record { at = serial; value = index } ∷ [] else given)
+    ≡ (if makes then put (index_in first given) serial index else index_in first given)
+index_by true first given serial index = put_last put_number (numbers no_number first) given (record { at = serial; value = index })
+index_by false first given serial index = refl
+
+-- the indices behind an entry
+pub later_is : (running : Running) (new : State) (word : CapWord)
+    → index_in running.first (later_indices running.given (present (stands_for running)) new word) ≡ index_after (stands_for running) new word
+later_is running new word = index_by (makes_object (present (stands_for running)) new) running.first running.given (present (stands_for running)).next_serial (object_of word.0)
+
+-- the slot
+
+pub record Shown (conf : Config) (new : State) (later : ℕ → ℕ) (space slot : ℕ) (word : CapWord) (found : Option (ℕ × ℕ)) : Type 0 where
+  pub cspace : ℕ
+  pub is : found ≡ Some (cspace, slot)
+  pub at_space : conf.index cspace ≡ space
+  pub shows : word.0 ≡ shown later (word_at new cspace slot)
+
+shown_told : (conf : Config) (new : State) (later : ℕ → ℕ) (space slot : ℕ) (word : CapWord) (found : Option (ℕ × ℕ))
+    → slot_shows conf new later space slot word found ≡ true → Shown conf new later space slot word found
+shown_told conf new later space slot word None is = absurd (let never : ⊥ = cc in never)
+shown_told conf new later space slot word (Some place) is =
+    let parts = both (place.1 == slot) ((conf.index place.0 == space) && (word.0 == shown later (word_at new place.0 slot))) is in
+    let rest = both (conf.index place.0 == space) (word.0 == shown later (word_at new place.0 slot)) parts.1 in
+    record {
+      cspace = place.0;
+      is = ap (λ (n : ℕ). Some (place.0, n)) (equal place.1 slot parts.0);
+      at_space = equal (conf.index place.0) space rest.0;
+      shows = equal word.0 (shown later (word_at new place.0 slot)) rest.1;
+    }
+
+tells_shown : (conf : Config) (new : State) (later : ℕ → ℕ) (space slot cspace : ℕ) (word : CapWord) (found : Option (ℕ × ℕ))
+    → found ≡ Some (cspace, slot) → conf.index cspace ≡ space → word.0 ≡ shown later (word_at new cspace slot)
+    → slot_shows conf new later space slot word found ≡ true
+tells_shown conf new later space slot cspace word found is there shows =
+    subst (λ (o : Option (ℕ × ℕ)). slot_shows conf new later space slot word o ≡ true) (sym is)
+    (joined (slot == slot) ((conf.index cspace == space) && (word.0 == shown later (word_at new cspace slot))) (is_equal slot slot refl)
+    (joined (conf.index cspace == space) (word.0 == shown later (word_at new cspace slot)) (is_equal (conf.index cspace) space there) (is_equal word.0 (shown later (word_at new cspace slot)) shows)))
+
+-- revived indices
+
+either : (a b : Bool) → (not a || b) ≡ true → a ≡ true → b ≡ true
+either true b is made = is
+either false b is made = absurd (let never : ⊥ = cc in never)
+
+tells_either : (a b : Bool) → (a ≡ true → b ≡ true) → (not a || b) ≡ true
+tells_either true b is = is refl
+tells_either false b is = refl
+
+revived_told : (turn : Option Holder) (holder : Holder) (old new : State) (word : CapWord) → turn ≡ Some holder → revived_for turn old new word ≡ true
+    → makes_object old new ≡ true → list_any (is_that_index (object_of word.0)) holder.revived ≡ true
+revived_told turn holder old new word is revived =
+    either (makes_object old new) (list_any (is_that_index (object_of word.0)) holder.revived) (subst (λ (o : Option Holder). revived_for o old new word ≡ true) is revived)
+
+tells_revived : (turn : Option Holder) (holder : Holder) (old new : State) (word : CapWord) → turn ≡ Some holder
+    → (makes_object old new ≡ true → list_any (is_that_index (object_of word.0)) holder.revived ≡ true) → revived_for turn old new word ≡ true
+tells_revived turn holder old new word is revived =
+    subst (λ (o : Option Holder). revived_for o old new word ≡ true) (sym is) (tells_either (makes_object old new) (list_any (is_that_index (object_of word.0)) holder.revived) revived)
