@@ -105,3 +105,67 @@ tells_revived : (turn : Option Holder) (holder : Holder) (old new : State) (word
     → (makes_object old new ≡ true → list_any (is_that_index (object_of word.0)) holder.revived ≡ true) → revived_for turn old new word ≡ true
 tells_revived turn holder old new word is revived =
     subst (λ (o : Option Holder). revived_for o old new word ≡ true) (sym is) (tells_either (makes_object old new) (list_any (is_that_index (object_of word.0)) holder.revived) revived)
+
+-- settings
+
+module _ (running : Running) (at : ℕ) (entry : Entry) (space slot : ℕ) (word : CapWord) (next : Next) (all : List Written)
+    (is : Ready running at entry 1 (later_of running next word) next all)
+    (goes : setting_goes (stands_for running) (event_of next.logged) next.state (later_of running next word) space slot word ≡ true) where
+  slot_is : Shown (stands_for running) next.state (later_of running next word) space slot word (slot_set (changes_of (present (stands_for running)) (event_of next.logged)))
+  slot_is = shown_told (stands_for running) next.state (later_of running next word) space slot word (slot_set (changes_of (present (stands_for running)) (event_of next.logged)))
+      (both (slot_shows (stands_for running) next.state (later_of running next word) space slot word (slot_set (changes_of (present (stands_for running)) (event_of next.logged)))) _ goes).0
+
+  turn_is : (stands_for running).turn ≡ Some (holder_of is.own)
+  turn_is = ap (option_map holder_of) is.turn
+
+  -- the state and the indices behind the entry
+  behind : later_of running next word ≡ index_after (stands_for running) (next_state (stands_for running) is.call entry) word
+  behind = later_is running next.state word ∙ ap (λ (s : State). index_after (stands_for running) s word) is.state
+
+  pub set_may : at < CPUS → space < OBJECT_INDICES → MaySetCap (stands_for running) at entry space slot word
+  set_may within there = record {
+    is_cpu = within;
+    is_index = there;
+    holder = holder_of is.own;
+    call = is.call;
+    allows = is.allows;
+    one_slot = is.sets;
+    cspace = slot_is.cspace;
+    sets = subst (λ (event : history.Event). slot_set (changes_of (present (stands_for running)) event) ≡ Some (slot_is.cspace, slot)) is.event slot_is.is;
+    at_space = slot_is.at_space;
+    shows = slot_is.shows ∙ (ap (λ (index : ℕ → ℕ). shown index (word_at next.state slot_is.cspace slot)) behind
+        ∙ ap (λ (s : State). shown (index_after (stands_for running) (next_state (stands_for running) is.call entry) word) (word_at s slot_is.cspace slot)) is.state);
+    revived = subst (λ (s : State). makes_object (present (stands_for running)) s ≡ true → list_any (is_that_index (object_of word.0)) (holder_of is.own).revived ≡ true) is.state
+        (revived_told (stands_for running).turn (holder_of is.own) (present (stands_for running)) next.state word turn_is
+        (both (slot_shows (stands_for running) next.state (later_of running next word) space slot word (slot_set (changes_of (present (stands_for running)) (event_of next.logged)))) _ goes).1);
+    covers = subst (λ (index : ℕ → ℕ). CoversAll is.own.owed (present (stands_for running)) (next_state (stands_for running) is.call entry) (stands_for running).index index) behind
+        (subst (λ (s : State). CoversAll is.own.owed (present (stands_for running)) s (stands_for running).index (later_of running next word)) is.state is.covers);
+  }
+
+-- the test fails where it may not
+
+pub not_ready_to_set : (running : Running) (at : ℕ) (entry : Entry) (space slot : ℕ) (word : CapWord)
+    → entry_goes (stands_for running) at entry 1 ≡ false → MaySetCap (stands_for running) at entry space slot word → ⊥
+not_ready_to_set running at entry space slot word is may =
+    let goes : entry_goes (stands_for running) at entry 1 ≡ true = tells_goes (stands_for running) at entry 1 may.holder may.call may.allows may.one_slot in cc
+
+module _ (running : Running) (at : ℕ) (entry : Entry) (space slot : ℕ) (word : CapWord) (next : Next)
+    (ready : next_is (stands_for running) entry ((stands_for running).cpu at).current next) (may : MaySetCap (stands_for running) at entry space slot word) where
+  here : next_is (stands_for running) entry (Some may.call) next
+  here = subst (λ (o : Option Current). next_is (stands_for running) entry o next) may.allows.in_act.is_current ready
+
+  behind_may : later_of running next word ≡ index_after (stands_for running) (next_state (stands_for running) may.call entry) word
+  behind_may = later_is running next.state word ∙ ap (λ (s : State). index_after (stands_for running) s word) here.1
+
+  pub tells_setting : setting_goes (stands_for running) (event_of next.logged) next.state (later_of running next word) space slot word ≡ true
+  tells_setting = joined (slot_shows (stands_for running) next.state (later_of running next word) space slot word (slot_set (changes_of (present (stands_for running)) (event_of next.logged)))) _
+      (tells_shown (stands_for running) next.state (later_of running next word) space slot may.cspace word (slot_set (changes_of (present (stands_for running)) (event_of next.logged)))
+      (ap (λ (event : history.Event). slot_set (changes_of (present (stands_for running)) event)) here.0 ∙ may.sets) may.at_space
+      (may.shows ∙ sym (ap (λ (index : ℕ → ℕ). shown index (word_at next.state may.cspace slot)) behind_may
+      ∙ ap (λ (s : State). shown (index_after (stands_for running) (next_state (stands_for running) may.call entry) word) (word_at s may.cspace slot)) here.1)))
+      (tells_revived (stands_for running).turn may.holder (present (stands_for running)) next.state word may.allows.has_turn.turn
+      (subst (λ (s : State). makes_object (present (stands_for running)) s ≡ true → list_any (is_that_index (object_of word.0)) may.holder.revived ≡ true) (sym here.1) may.revived))
+
+  pub tells_owing : owing_covers running.turn (present (stands_for running)) next.state (stands_for running).index (later_of running next word)
+  tells_owing = subst (λ (index : ℕ → ℕ). owing_covers running.turn (present (stands_for running)) next.state (stands_for running).index index) (sym behind_may)
+      (tells_covers running at entry (index_after (stands_for running) (next_state (stands_for running) may.call entry) word) may.holder may.call next may.allows may.covers ready)
