@@ -169,3 +169,62 @@ module _ (running : Running) (at : ℕ) (entry : Entry) (space slot : ℕ) (word
   pub tells_owing : owing_covers running.turn (present (stands_for running)) next.state (stands_for running).index (later_of running next word)
   tells_owing = subst (λ (index : ℕ → ℕ). owing_covers running.turn (present (stands_for running)) next.state (stands_for running).index index) (sym behind_may)
       (tells_covers running at entry (index_after (stands_for running) (next_state (stands_for running) may.call entry) word) may.holder may.call next may.allows may.covers ready)
+
+-- what is made of the configuration
+
+module _ (conf : Config) (entry : Entry) (call : Current) (own : Holder) (space slot : ℕ) (word : CapWord) where
+  abbrev next_one : State
+  next_one = next_state conf call entry
+
+  abbrev index_of : ℕ → ℕ
+  index_of = index_after conf (next_state conf call entry) word
+
+  abbrev owed_of : ℕ → ℕ
+  owed_of = owed_after conf own (next_state conf call entry) (index_after conf (next_state conf call entry) word)
+
+  abbrev on_turn : Option Holder → Config
+  on_turn turn = record conf {
+    history = conf.history ++ logged entry call ∷ [];
+    index = index_after conf (next_state conf call entry) word;
+    turn = turn;
+    cap = put_word conf.cap space slot word;
+  }
+
+  turn_by : conf.turn ≡ Some own
+      → option_map (with_owing entry (owed_after conf own (next_state conf call entry) (index_after conf (next_state conf call entry) word))) conf.turn
+      ≡ option_map (with_entry conf entry (next_state conf call entry) (index_after conf (next_state conf call entry) word)) conf.turn
+  turn_by is =
+      ap (option_map (with_owing entry (owed_after conf own (next_state conf call entry) (index_after conf (next_state conf call entry) word)))) is
+      ∙ sym (ap (option_map (with_entry conf entry (next_state conf call entry) (index_after conf (next_state conf call entry) word))) is)
+
+  abbrev with_caps : Config → Config
+  with_caps c = record c { cap = put_word conf.cap space slot word }
+
+  -- what was put is what the machine sets
+  pub setting_by : (current : Option Current) (event : history.Event) (later owed : ℕ → ℕ) → current ≡ Some call → conf.turn ≡ Some own
+      → event ≡ logged entry call → later ≡ index_after conf (next_state conf call entry) word
+      → owed ≡ owed_after conf own (next_state conf call entry) (index_after conf (next_state conf call entry) word)
+      → with_slot (with_event conf event owed) later space slot word
+      ≡ with_caps (committed_by conf entry (λ new. index_after conf new word) current)
+  setting_by current event later owed is turn events laters oweds =
+      ap (λ (e : history.Event). with_slot (with_event conf e owed) later space slot word) events
+      ∙ (ap (λ (o : ℕ → ℕ). with_slot (with_event conf (logged entry call) o) later space slot word) oweds
+      ∙ (ap (λ (l : ℕ → ℕ). with_slot (with_event conf (logged entry call) owed_of) l space slot word) laters
+      ∙ (ap on_turn (turn_by turn)
+      ∙ sym (ap (λ (c : Option Current). with_caps (committed_by conf entry (λ new. index_after conf new word) c)) is))))
+
+module _ (running : Running) (at : ℕ) (entry : Entry) (space slot : ℕ) (word : CapWord) (next : Next) (all : List Written)
+    (is : Ready running at entry 1 (later_of running next word) next all) where
+  owed_same : numbers no_number all ≡ owed_after (stands_for running) (holder_of is.own) (next_state (stands_for running) is.call entry) (index_after (stands_for running) (next_state (stands_for running) is.call entry) word)
+  owed_same =
+      ap (numbers no_number) is.owed
+      ∙ (owed_is is.own.owed (present (stands_for running)) next.state (stands_for running).index (later_of running next word)
+      ∙ (ap (λ (s : State). owed_in is.own.owed (present (stands_for running)) s (stands_for running).index (later_of running next word)) is.state
+      ∙ ap (λ (index : ℕ → ℕ). owed_in is.own.owed (present (stands_for running)) (next_state (stands_for running) is.call entry) (stands_for running).index index)
+      (later_is running next.state word ∙ ap (λ (s : State). index_after (stands_for running) s word) is.state)))
+
+  -- what was put is what the machine sets, over the tables
+  pub set_is : with_slot (with_event (stands_for running) (event_of next.logged) (numbers no_number all)) (later_of running next word) space slot word ≡ set_cap (stands_for running) at entry space slot word
+  set_is = setting_by (stands_for running) entry is.call (holder_of is.own) space slot word ((stands_for running).cpu at).current (event_of next.logged) (later_of running next word) (numbers no_number all)
+      is.current (ap (option_map holder_of) is.turn) is.event
+      (later_is running next.state word ∙ ap (λ (s : State). index_after (stands_for running) s word) is.state) owed_same
