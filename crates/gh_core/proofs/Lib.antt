@@ -101,6 +101,7 @@ pub mod RisingRows
 pub mod SawPins
 pub mod Scanning
 pub mod SetCapWords
+pub mod SettingTests
 pub mod SlotHomes
 pub mod SlotsCame
 pub mod SlotsLeft

@@ -1,15 +1,22 @@
 -- What is owed behind an entry, over the tables.
-use Rattle.std.specs.Prelude.{◌≡◌, ◌==◌, ◌+◌, ◌-◌, ◌<◌, ◌≤◌, ◌++◌, ℕ, Bool, List, [], ◌∷◌, Option, Some, None, map, nat_le, option_map}
+use Rattle.std.specs.Prelude.{◌≡◌, ◌==◌, ◌&&◌, ◌||◌, ◌+◌, ◌-◌, ◌<◌, ◌≤◌, ◌++◌, not, ℕ, Bool, true, false, List, [], ◌∷◌, Option, Some, None, map, nat_le, option_map, if◌then◌else◌}
+use Rattle.std.specs.List.{list_any}
+use Rattle.gh_base.specs.CapWord.{object_of}
+use Rattle.gh_base.specs.declared.cap_word.CapWord.{CapWord}
+use Rattle.gh_invariant.specs.Events.{changes_of}
+use Rattle.gh_model.specs.Word.{word_at}
+use Rattle.gh_core.specs.TurnEvents.{put_word}
 use Rattle.gh_base.specs.declared.limits.TheConstants.{OBJECT_INDICES}
 use Rattle.gh_model.specs.declared.rows.ObjectRow.{ObjectRow}
 use Rattle.gh_model.specs.declared.state.State.{State}
 use Rattle.gh_model.specs.History as history
 use Rattle.gh_model.specs.declared.entry.Entry.{Entry}
-use Rattle.gh_core.specs.Config.{Config, Current, Holder, references_at}
-use Rattle.gh_core.specs.Entries.{logged, next_state}
-use Rattle.gh_core.specs.Running.{event_of, no_number}
+use Rattle.gh_core.specs.Config.{Config, Current, Holder, present, references_at}
+use Rattle.gh_core.specs.Entries.{is_that_index, logged, makes_object, next_state, shown, slot_set}
+use Rattle.gh_core.specs.Running.{event_of, index_in, no_number, stands_for}
 use Rattle.gh_core.specs.Tables.{numbers}
 use Rattle.gh_core.specs.declared.commit_events.Next.{Next}
+use Rattle.gh_core.specs.declared.config.Running.{Running}
 use Rattle.gh_core.specs.declared.holder.Turn.{Turn}
 use Rattle.gh_core.specs.declared.table.Written.{Written}
 
@@ -74,3 +81,42 @@ owing_covers (Some turn) old new index later = CoversAll turn.owed old new index
 abbrev pub owing_of : Option Turn → State → State → (ℕ → ℕ) → (ℕ → ℕ) → List Written
 owing_of None old new index later = []
 owing_of (Some turn) old new index later = owed_behind turn.owed old new index later
+
+-- setting a slot
+
+-- the indices that entries gave, behind one that sets a slot to this word
+abbrev pub later_indices : List Written → State → State → CapWord → List Written
+later_indices given old new word =
+    if makes_object old new
+    then given ++ record { at = old.next_serial; value = object_of word.0 } ∷ [] else given
+
+-- an object that the entry makes has an index that was revived in this turn
+abbrev pub revived_for : Option Holder → State → State → CapWord → Bool
+revived_for None old new word = false
+revived_for (Some holder) old new word =
+    not (makes_object old new) || list_any (is_that_index (object_of word.0)) holder.revived
+
+-- the slot that the changes set is this one, and the word shows what it has behind them
+abbrev pub slot_shows : Config → State → (ℕ → ℕ) → ℕ → ℕ → CapWord → Option (ℕ × ℕ) → Bool
+slot_shows conf new later space slot word None = false
+slot_shows conf new later space slot word (Some place) =
+    (place.1 == slot)
+    && ((conf.index place.0 == space) && (word.0 == shown later (word_at new place.0 slot)))
+
+-- the event may set the slot to this word
+abbrev pub setting_goes : Config → history.Event → State → (ℕ → ℕ) → ℕ → ℕ → CapWord → Bool
+setting_goes conf event new later space slot word =
+    slot_shows conf new later space slot word (slot_set (changes_of (present conf) event))
+    && revived_for conf.turn (present conf) new word
+
+-- these indices, and a slot with this word
+abbrev pub with_slot : Config → (ℕ → ℕ) → ℕ → ℕ → CapWord → Config
+with_slot conf later space slot word = record conf {
+  index = later;
+  cap = put_word conf.cap space slot word;
+}
+
+-- the indices behind an entry that sets a slot to this word
+abbrev pub later_of : Running → Next → CapWord → ℕ → ℕ
+later_of running next word =
+    index_in running.first (later_indices running.given (present (stands_for running)) next.state word)

@@ -175,7 +175,7 @@ fn entry_of(
 }
 
 /// The entry of the CPU's call, where it has the turn.
-fn ready_entry(
+pub(crate) fn ready_entry(
     alloc: Global,
     running: &Running,
     boot: &State,
@@ -217,11 +217,16 @@ fn put_owing(turn: &mut Option<Turn>, entry: Entry, owed: Sequence<Written>) -> 
 }
 
 /// The history gets an event that is allowed, and the holder owes this.
-fn put_event(running: &mut Running, logged: Logged, owed: Sequence<Written>) -> Result<(), NoMemory>
+pub(crate) fn put_event(
+    running: &mut Running,
+    logged: Logged,
+    owed: Sequence<Written>,
+) -> Result<(), NoMemory>
     requires kept { IsKept running.old }
     requires made { is_made (present_of (stands_for running.old)) (event_of logged) ≡ true }
     ensures put { OnOk result (stands_for running.new
         ≡ with_event (stands_for running.old) (event_of logged) (numbers no_number owed)) }
+    ensures first { OnOk result (running.new.first ≡ running.old.first) }
     ensures kept { OnOk result (IsKept running.new) }
 {
     let entry = logged.entry;
@@ -230,7 +235,7 @@ fn put_event(running: &mut Running, logged: Logged, owed: Sequence<Written>) -> 
 }
 
 /// What is owed behind an entry; none where an owed amount would fall below 0.
-fn owing_behind(
+pub(crate) fn owing_behind(
     alloc: Global,
     turn: &Option<Turn>,
     behind: Behind,

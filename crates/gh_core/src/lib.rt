@@ -27,6 +27,7 @@ mod owing;
 mod reads;
 mod references;
 mod rising;
+mod set_cap;
 mod slots_set;
 mod sound;
 mod start;
