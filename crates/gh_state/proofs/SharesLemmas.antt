@@ -1,5 +1,6 @@
 -- What is at each index once another body is put to one of them.
-use Rattle.std.proofs.Common.{◌≡◌, ◌≢◌, ◌<◌, ◌≤◌, ◌∙◌, ◌/◌, ◌%◌, ◌*◌, ◌+◌, ℕ, List, [], refl, sym, ap, subst, arith, inl, inr, length, set, get_or}
+use Rattle.std.proofs.Common.{◌≡◌, ◌≢◌, ◌<◌, ◌≤◌, ◌∙◌, ◌/◌, ◌%◌, ◌*◌, ◌+◌, ℕ, List, [], refl, sym, ap, subst, arith, inl, inr}
+use Rattle.std.proofs.Common.{length, set, get_or}
 use Rattle.std.specs.Prelude.{All}
 use Rattle.std.proofs.lemmas.Bool.{cases_lt, cases_eq}
 use Rattle.std.proofs.lemmas.List.{get_or-set_same, get_or-set_other, length-set, set_past, set-get_or, set-set}
