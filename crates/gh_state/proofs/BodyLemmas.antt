@@ -17,7 +17,8 @@ use Rattle.gh_state.specs.declared.body.Body.TheVariants.{Nothing}
 use Rattle.gh_state.specs.declared.shares.Place.{Place}
 use Rattle.gh_state.proofs.FoundRows.{find_changed_passing}
 use Rattle.gh_state.proofs.IndexLemmas.{found_at, one_serial, unfound_past}
-use Rattle.gh_state.proofs.SharesLemmas.{body_here, body_other, body_past, body_twice, share_of, spot_of}
+use Rattle.gh_state.proofs.PlaceLemmas.{share_of, spot_of}
+use Rattle.gh_state.proofs.SharesLemmas.{body_here, body_other, body_past, body_twice}
 
 -- no body is past the last index
 pub body_none : (shares : List (List Place)) (index : ℕ) → AreShares shares → OBJECT_INDICES ≤ index

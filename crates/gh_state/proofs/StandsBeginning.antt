@@ -26,7 +26,7 @@ use Rattle.gh_state.specs.declared.journal.Journal.{Journal}
 use Rattle.gh_state.specs.declared.journal.Memory.TheVariants.{Bare}
 use Rattle.gh_state.specs.declared.slots.Slots.{Slots}
 use Rattle.gh_state.specs.declared.shares.Place.{Place}
-use Rattle.gh_state.proofs.SharesLemmas.{share_of, sized_share, spot_of}
+use Rattle.gh_state.proofs.PlaceLemmas.{share_of, sized_share, spot_of}
 use Rattle.gh_state.proofs.SlotNumbers.{slot_within, word_is}
 
 no_header : (index : ℕ) → header_at no_headers.headers index ≡ None
