@@ -1,5 +1,6 @@
 -- The rows that bodies show, once the body of one object is another.
-use Rattle.std.proofs.Common.{◌≡◌, ◌≢◌, ◌≤◌, ◌∙◌, ℕ, Bool, true, false, List, [], Option, Some, None, refl, sym, ap, subst, arith, inl, inr, find, option_map}
+use Rattle.std.proofs.Common.{◌≡◌, ◌≢◌, ◌≤◌, ◌∙◌, ℕ, Bool, true, false, List, [], Option, Some, None, refl, sym, ap, subst, arith}
+use Rattle.std.proofs.Common.{inl, inr, find, option_map}
 use Rattle.std.proofs.lemmas.Bool.{cases_lt, cases_eq}
 use Rattle.std.proofs.lemmas.List.{get_or_past}
 use Rattle.std.proofs.lemmas.Nat.{le-div}
@@ -16,7 +17,8 @@ use Rattle.gh_state.specs.declared.body.Body.TheVariants.{Nothing}
 use Rattle.gh_state.specs.declared.shares.Place.{Place}
 use Rattle.gh_state.proofs.FoundRows.{find_changed_passing}
 use Rattle.gh_state.proofs.IndexLemmas.{found_at, one_serial, unfound_past}
-use Rattle.gh_state.proofs.SharesLemmas.{body_here, body_other, body_past, body_twice, share_of, spot_of}
+use Rattle.gh_state.proofs.PlaceLemmas.{share_of, spot_of}
+use Rattle.gh_state.proofs.SharesLemmas.{body_here, body_other, body_past, body_twice}
 
 -- no body is past the last index
 pub body_none : (shares : List (List Place)) (index : ℕ) → AreShares shares → OBJECT_INDICES ≤ index

@@ -9,6 +9,7 @@ mod Options
 mod PlaceLemmas
 mod QueueChanges
 mod QueueLemmas
+mod ReadLemmas
 mod Reindexed
 mod SharesLemmas
 mod ShowsLemmas

@@ -1,17 +1,52 @@
 -- What is at each index once what is at one of them is another.
-use Rattle.std.proofs.Common.{◌≡◌, ◌≢◌, ◌<◌, ◌≤◌, ◌∙◌, ℕ, List, [], Option, None, refl, sym, ap, subst, arith, inl, inr, length, set, get_or}
+use Rattle.std.proofs.Common.{◌≡◌, ◌≢◌, ◌<◌, ◌≤◌, ◌∙◌, ◌/◌, ◌%◌, ◌*◌, ◌+◌, ℕ, List, [], Option, None, refl, sym, ap, subst, arith, inl, inr, length}
+use Rattle.std.proofs.Common.{set, get_or}
 use Rattle.std.specs.Prelude.{All}
 use Rattle.std.proofs.lemmas.Bool.{cases_lt, cases_eq}
 use Rattle.std.proofs.lemmas.List.{get_or-set_same, get_or-set_other, length-set, set_past}
 use Rattle.std.proofs.lemmas.List.Elements.{All-get_or, All-set}
-use Rattle.std.proofs.lemmas.Nat.{le-div}
+use Rattle.std.proofs.lemmas.Nat.{div-add-mod', div_below, le-div, mod_below}
 use Rattle.gh_base.specs.declared.limits.TheConstants.{OBJECT_INDICES, PARTITION_PLACES, PARTITIONS}
 use Rattle.gh_state.specs.Shares.{AreShares, no_place, place_at, place_in, with_cost_at}
 use Rattle.gh_state.specs.declared.shares.Place.{Place}
 use Rattle.gh_objects.specs.declared.header.Header.{Header}
 use Rattle.gh_state.specs.Index.{AreIndexed, found_index, index_of}
 use Rattle.gh_state.proofs.IndexLemmas.{unfound_past}
-use Rattle.gh_state.proofs.SharesLemmas.{other_spot, set_there, share_below, share_of, sized_share, spot_below, spot_of}
+
+-- what holds of an element and of what was there holds once it is written there
+pub set_there : {X : Type 0} (P : X → Type 0) (xs : List X) (i : ℕ) (x d : X) → P x → P (get_or xs i d)
+    → P (get_or (set xs i x) i d)
+set_there P xs i x d new old =
+    elim (cases_lt i (length xs)) [
+      | inl below ↦ subst P (sym (get_or-set_same xs i x d below)) new
+      | inr past ↦ subst (λ (ys : List _). P (get_or ys i d)) (sym (set_past xs i x past)) old
+    ]
+
+-- a share has a place for each of its objects
+abbrev pub sized_share : List Place → Type 0
+sized_share places = length places ≡ PARTITION_PLACES
+
+-- the share of an index, and its place there
+abbrev pub share_of : ℕ → ℕ
+share_of index = index / PARTITION_PLACES
+
+abbrev pub spot_of : ℕ → ℕ
+spot_of index = index % PARTITION_PLACES
+
+pub share_below : (index : ℕ) → index < OBJECT_INDICES → share_of index < PARTITIONS
+share_below index within = div_below index PARTITION_PLACES PARTITIONS (omega arith) within
+
+pub spot_below : (index : ℕ) → spot_of index < PARTITION_PLACES
+spot_below index = mod_below index PARTITION_PLACES (omega arith)
+
+-- another place of the same share
+pub other_spot : (index other : ℕ) → other ≢ index → share_of other ≡ share_of index
+    → spot_of other ≢ spot_of index
+other_spot index other apart share spot =
+    apart (sym (div-add-mod' other PARTITION_PLACES)
+    ∙ ap (λ (q : ℕ). q * PARTITION_PLACES + spot_of other) share
+    ∙ ap (λ (r : ℕ). share_of index * PARTITION_PLACES + r) spot
+    ∙ div-add-mod' index PARTITION_PLACES)
 
 module _ (shares : List (List Place)) (index : ℕ) (place : Place) where
   abbrev share : List Place

@@ -9,7 +9,8 @@ use Rattle.gh_state.specs.BodyChanges.{on_queue, roomed, sent_to, without_any, w
 use Rattle.gh_state.specs.Stands.{Stands}
 use Rattle.gh_state.specs.declared.body.Body.{Body}
 use Rattle.gh_state.specs.declared.parts.Parts.{Parts}
-use Rattle.gh_state.proofs.BodyChangeLemmas.{flushed_shown, queue_bells, queue_kind, queue_memory, received_shown, roomed_bells, roomed_kind, roomed_memory, roomed_shown}
+use Rattle.gh_state.proofs.BodyChangeLemmas.{flushed_shown, queue_bells, queue_kind, queue_memory, received_shown, roomed_bells}
+use Rattle.gh_state.proofs.BodyChangeLemmas.{roomed_kind, roomed_memory, roomed_shown}
 use Rattle.gh_state.proofs.StandsQueues.{ChangesQueue, sent_shown}
 
 pub one_dropped : (serial : ℕ) (body : Body)

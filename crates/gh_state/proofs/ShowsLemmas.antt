@@ -1,5 +1,6 @@
 -- An address space shows who holds the pages, once an extent more has a span.
-use Rattle.std.proofs.Common.{◌≡◌, ◌∙◌, ◌+◌, ℕ, Bool, true, false, List, [], ◌∷◌, Option, Some, None, refl, sym, ap, subst, find, map, if◌then◌else◌}
+use Rattle.std.proofs.Common.{◌≡◌, ◌∙◌, ◌+◌, ℕ, Bool, true, false, List, [], ◌∷◌, Option, Some, None, refl, sym, ap, subst, find}
+use Rattle.std.proofs.Common.{map, if◌then◌else◌}
 use Rattle.std.specs.Prelude.{All, IsSomeAnd}
 use Rattle.std.proofs.lemmas.List.Elements.{All-head, All-nil, All-tail, All-weaker}
 use Rattle.gh_base.specs.declared.ids.Serial.{Serial}
@@ -59,7 +60,8 @@ no_mappings : (spans : ℕ → Option Span) → ((extent : ℕ) → spans extent
     → All (IsNamed spans) mappings → mappings ≡ []
 no_mappings spans none [] named = refl
 no_mappings spans none (mapping ∷ mappings) named =
-    absurd (subst (λ (o : Option Span). IsSomeAnd o (λ (span : Span). mapping.page.0 ≡ span.first.0 + mapping.row.offset)) (none mapping.row.extent.0) (All-head (IsNamed spans) mapping mappings named))
+    absurd (subst (λ (o : Option Span). IsSomeAnd o (λ (span : Span). mapping.page.0 ≡ span.first.0 + mapping.row.offset))
+    (none mapping.row.extent.0) (All-head (IsNamed spans) mapping mappings named))
 
 -- where no extent has a span, an address space has no rows, and shows whatever spans and holders there
 -- are

@@ -1,12 +1,11 @@
 -- The parts before any boot line stand for the state of nothing.
-use Rattle.std.proofs.Common.{◌≡◌, ◌<◌, ◌≤◌, ◌∙◌, ℕ, List, [], Option, Some, None, refl, sym, ap, subst, arith, inl, inr, length, replicate, get_or}
-use Rattle.std.specs.Prelude.{All}
-use Rattle.std.proofs.lemmas.Bool.{cases_lt, ne_eqb}
+use Rattle.std.proofs.Common.{◌≡◌, ◌∙◌, ℕ, List, [], Option, Some, None, refl, sym, ap, subst, arith, inl, inr}
+use Rattle.std.proofs.Common.{replicate}
+use Rattle.std.proofs.lemmas.Bool.{cases_lt}
 use Rattle.std.proofs.lemmas.List.{get_or-replicate, get_or_past, length-replicate}
 use Rattle.std.proofs.lemmas.List.Elements.{All-replicate}
 use Rattle.gh_base.specs.declared.cap_word.CapWord.{CapWord}
 use Rattle.gh_base.specs.declared.limits.TheConstants.{OBJECT_INDICES, PARTITION_PLACES, PARTITIONS}
-use Rattle.gh_cspace.specs.Cspace.{word_at}
 use Rattle.gh_model.specs.Boot.{empty_state}
 use Rattle.gh_objects.proofs.ListLemmas.{replicate-at}
 use Rattle.gh_objects.specs.Counts.{count_at, no_counts}
@@ -21,14 +20,13 @@ use Rattle.gh_state.specs.Bodies.{bell_in, mappings_in, queue_in, space_in, span
 use Rattle.gh_state.specs.Index.{index_of}
 use Rattle.gh_state.specs.Shares.{AreShares, body_at, no_place, no_shares, place_in}
 use Rattle.gh_state.specs.Stands.{Stands}
-use Rattle.gh_state.specs.declared.body.Body.{Body}
 use Rattle.gh_state.specs.declared.body.Body.TheVariants.{Nothing}
 use Rattle.gh_state.specs.declared.journal.Account.{Account}
 use Rattle.gh_state.specs.declared.journal.Journal.{Journal}
 use Rattle.gh_state.specs.declared.journal.Memory.TheVariants.{Bare}
 use Rattle.gh_state.specs.declared.slots.Slots.{Slots}
 use Rattle.gh_state.specs.declared.shares.Place.{Place}
-use Rattle.gh_state.proofs.SharesLemmas.{share_of, sized_share, spot_of}
+use Rattle.gh_state.proofs.PlaceLemmas.{share_of, sized_share, spot_of}
 use Rattle.gh_state.proofs.SlotNumbers.{slot_within, word_is}
 
 no_header : (index : ℕ) → header_at no_headers.headers index ≡ None

@@ -1,5 +1,6 @@
 -- The parts stand for the rows once a slot is filled, emptied or revoked.
-use Rattle.std.proofs.Common.{◌≡◌, ◌<◌, ◌≤◌, ◌+◌, ◌-◌, ◌∙◌, ◌∷◌, not, ℕ, Bool, true, List, [], Option, Some, None, refl, sym, ap, subst, arith, find, get_or, if◌then◌else◌}
+use Rattle.std.proofs.Common.{◌≡◌, ◌<◌, ◌≤◌, ◌+◌, ◌-◌, ◌∙◌, ◌∷◌, not, ℕ, Bool, true, List, [], Option, Some, None, refl, sym, ap}
+use Rattle.std.proofs.Common.{subst, arith, find, get_or, if◌then◌else◌}
 use Rattle.std.proofs.lemmas.Bool.{and_from, eq-eqb, leb-true}
 use Rattle.gh_base.specs.CapWord.{state_of}
 use Rattle.gh_base.specs.declared.cap_word.CapWord.{CapWord}
@@ -73,7 +74,8 @@ module _ (owed : List Serial) (parts : Parts) (s : State) (stand : StandsOwing o
       → IsFreeSlot (words_of parts.journal.slots row.cspace.0) row.slot
   free_slot valid room =
       let empty : (word_at (words_of parts.journal.slots row.cspace.0) row.slot).0 ≡ setting s row.cspace.0 row.slot =
-      subst (λ (found : Option CapabilityRow). ShowsSlot parts.table.headers (word_at (words_of parts.journal.slots row.cspace.0) row.slot) (name_in parts.journal.slots row.cspace.0 row.slot) found (setting s row.cspace.0 row.slot))
+      subst (λ (found : Option CapabilityRow). ShowsSlot parts.table.headers (word_at (words_of parts.journal.slots row.cspace.0) row.slot)
+      (name_in parts.journal.slots row.cspace.0 row.slot) found (setting s row.cspace.0 row.slot))
       may.free (stand.slots.words row.cspace.0 row.slot may.slot) in
       record {
         within = slot_within row.slot may.slot;
@@ -115,8 +117,12 @@ module _ (parts : Parts) (s : State) (row : CapabilityRow) (valid : IsValidWithi
       (find (fills row.cspace.0 row.slot) (changed s (PutCapability row)).caps)
       (setting (changed s (PutCapability row)) row.cspace.0 row.slot)
   shows slots is =
-      subst (λ (w : CapWord). ShowsSlot headers w (get_or (filled row.slot word row.serial slots).names (row.slot - 1) no_serial) (find (fills row.cspace.0 row.slot) after.caps) (setting after row.cspace.0 row.slot)) (sym (word_here slots.words row.slot word (slot_within row.slot may.slot) ((stand.slots.sized row.cspace.0 slots is).words)))
-      (subst (λ (n : Serial). ShowsSlot headers word n (find (fills row.cspace.0 row.slot) after.caps) (setting after row.cspace.0 row.slot)) (sym (name_here slots.names row.slot row.serial (slot_within row.slot may.slot) ((stand.slots.sized row.cspace.0 slots is).names)))
+      subst (λ (w : CapWord). ShowsSlot headers w (get_or (filled row.slot word row.serial slots).names (row.slot - 1) no_serial)
+      (find (fills row.cspace.0 row.slot) after.caps) (setting after row.cspace.0 row.slot))
+      (sym (word_here slots.words row.slot word (slot_within row.slot may.slot) ((stand.slots.sized row.cspace.0 slots is).words)))
+      (subst (λ (n : Serial). ShowsSlot headers word n
+      (find (fills row.cspace.0 row.slot) after.caps) (setting after row.cspace.0 row.slot))
+      (sym (name_here slots.names row.slot row.serial (slot_within row.slot may.slot) ((stand.slots.sized row.cspace.0 slots is).names)))
       (subst (λ (found : Option CapabilityRow). ShowsSlot headers word row.serial found (setting after row.cspace.0 row.slot)) (sym set.capability)
       (subst (λ (n : ℕ). ShowsSlot headers word row.serial (Some row) n) (sym set.setting) shown)))
 

@@ -1,5 +1,6 @@
 -- The parts stand for the rows once a filled slot is emptied, or its capability revoked.
-use Rattle.std.proofs.Common.{◌≡◌, ◌+◌, ◌-◌, ◌∙◌, ◌∷◌, not, ℕ, Bool, true, false, List, [], Option, Some, None, refl, sym, ap, subst, find, get_or, length, if◌then◌else◌}
+use Rattle.std.proofs.Common.{◌≡◌, ◌+◌, ◌-◌, ◌∙◌, ◌∷◌, not, ℕ, Bool, true, false, List, [], Option, Some, None, refl, sym, ap}
+use Rattle.std.proofs.Common.{subst, find, get_or, length, if◌then◌else◌}
 use Rattle.std.specs.Prelude.{IfSome, ◌≤◌}
 use Rattle.std.specs.Option.{option_map}
 use Rattle.std.proofs.lemmas.Bool.{and_from, eq-eqb}
@@ -24,7 +25,8 @@ use Rattle.gh_state.specs.Slots.{emptied, no_serial, revoked}
 use Rattle.gh_state.specs.Stands.{ShowsSlot, Stands, StandsOwing}
 use Rattle.gh_state.specs.declared.parts.Parts.{Parts}
 use Rattle.gh_state.specs.declared.slots.Slots.{Slots}
-use Rattle.gh_state.proofs.FilledSlots.{IsFilling, fit, named, names_there, row_home, row_there, shown, slot_is, space_there, words_there}
+use Rattle.gh_state.proofs.FilledSlots.{IsFilling, fit, named, names_there, row_home, row_there, shown, slot_is, space_there}
+use Rattle.gh_state.proofs.FilledSlots.{words_there}
 use Rattle.gh_state.proofs.SlotNumbers.{slot_within, word_here}
 use Rattle.gh_state.proofs.StandsCapabilities.{others_stay}
 use Rattle.gh_state.proofs.StandsMoved.{references_moved}

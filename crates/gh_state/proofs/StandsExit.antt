@@ -1,5 +1,6 @@
 -- The parts stand for the rows once a CPU has exited.
-use Rattle.std.proofs.Common.{◌≡◌, ◌∙◌, ◌∷◌, ◌+◌, Bool, true, false, List, [], Option, Some, refl, sym, ap, subst, find, if◌then◌else◌}
+use Rattle.std.proofs.Common.{◌≡◌, ◌∙◌, ◌∷◌, ◌+◌, Bool, true, false, List, [], Option, Some, refl, sym, ap, subst, find}
+use Rattle.std.proofs.Common.{if◌then◌else◌}
 use Rattle.gh_base.specs.declared.ids.CpuNo.{CpuNo}
 use Rattle.gh_base.specs.declared.ids.Serial.{Serial}
 use Rattle.gh_invariant.specs.Effects.{attachments, losses}

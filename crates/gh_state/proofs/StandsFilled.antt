@@ -1,5 +1,6 @@
 -- The parts stand for the rows once a slot is filled before the first entry.
-use Rattle.std.proofs.Common.{◌≡◌, ◌+◌, ◌-◌, ◌∙◌, ◌∷◌, not, Bool, List, [], Option, Some, refl, sym, ap, subst, find, get_or, if◌then◌else◌}
+use Rattle.std.proofs.Common.{◌≡◌, ◌+◌, ◌-◌, ◌∙◌, ◌∷◌, not, Bool, List, [], Option, Some, refl, sym, ap, subst, find, get_or}
+use Rattle.std.proofs.Common.{if◌then◌else◌}
 use Rattle.std.specs.Option.{option_map_or}
 use Rattle.std.proofs.lemmas.Bool.{and_from, eq-eqb}
 use Rattle.std.proofs.Math.Nat.{mod-eq_of_lt}
@@ -79,7 +80,8 @@ module _ (parts : Parts) (s : State) (row : CapabilityRow) (valid : IsValidWithi
       (get_or (filled row.slot word row.serial slots).names (row.slot - 1) no_serial)
       (find (fills row.cspace.0 row.slot) after.caps) (setting after row.cspace.0 row.slot)
   shows slots is =
-      subst (λ (w : CapWord). ShowsSlot headers w (get_or (filled row.slot word row.serial slots).names (row.slot - 1) no_serial) (find (fills row.cspace.0 row.slot) after.caps) (setting after row.cspace.0 row.slot))
+      subst (λ (w : CapWord). ShowsSlot headers w (get_or (filled row.slot word row.serial slots).names (row.slot - 1) no_serial)
+      (find (fills row.cspace.0 row.slot) after.caps) (setting after row.cspace.0 row.slot))
       (sym (word_here slots.words row.slot word (slot_within row.slot may.slot) ((stand.slots.sized row.cspace.0 slots is).words)))
       (subst (λ (n : Serial). ShowsSlot headers word n (find (fills row.cspace.0 row.slot) after.caps) (setting after row.cspace.0 row.slot))
       (sym (name_here slots.names row.slot row.serial (slot_within row.slot may.slot) ((stand.slots.sized row.cspace.0 slots is).names)))

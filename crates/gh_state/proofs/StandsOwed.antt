@@ -1,5 +1,6 @@
 -- The parts stand for the rows once a reference more or less is counted.
-use Rattle.std.proofs.Common.{◌≡◌, ◌∙◌, ◌∷◌, ℕ, List, Option, None, Some, refl, sym, ap, subst, arith, length, ◌+◌, ◌-◌, ◌<◌, ◌≤◌, ◌==◌, Bool, true, false, []}
+use Rattle.std.proofs.Common.{◌≡◌, ◌∙◌, ◌∷◌, ℕ, List, Option, None, Some, refl, sym, ap, subst, arith, length, ◌+◌, ◌-◌, ◌<◌, ◌≤◌}
+use Rattle.std.proofs.Common.{◌==◌, Bool, true, false, []}
 use Rattle.std.specs.Prelude.{IfSome, ◌^◌}
 use Rattle.std.proofs.lemmas.List.{get_or_past}
 use Rattle.gh_base.specs.declared.ids.ObjIndex.{ObjIndex}
@@ -18,7 +19,8 @@ use Rattle.gh_state.specs.Owing.{HasCount, recounted}
 use Rattle.gh_state.specs.Stands.{StandsOwing}
 use Rattle.gh_state.specs.declared.parts.Parts.{Parts}
 use Rattle.gh_state.proofs.IndexLemmas.{found_at, unfound_past}
-use Rattle.gh_state.proofs.StandsCounts.{Recounts, countable, owe_recounts, owed_some, references_recounted, settle_recounts, uncounted}
+use Rattle.gh_state.proofs.StandsCounts.{Recounts, countable, owe_recounts, owed_some, references_recounted, settle_recounts}
+use Rattle.gh_state.proofs.StandsCounts.{uncounted}
 
 -- with these counts
 abbrev pub counted : Parts → List (Option Count) → Parts

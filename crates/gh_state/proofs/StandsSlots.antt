@@ -1,5 +1,6 @@
 -- The slots stand for the rows once one of them is changed.
-use Rattle.std.proofs.Common.{◌≡◌, ◌≢◌, ◌-◌, ◌∙◌, ◌==◌, ◌&&◌, ℕ, false, List, [], Option, Some, refl, sym, ap, subst, inl, inr, find, get_or, is_some, IsTrue}
+use Rattle.std.proofs.Common.{◌≡◌, ◌≢◌, ◌-◌, ◌∙◌, ◌==◌, ◌&&◌, ℕ, false, List, [], Option, Some, refl, sym, ap, subst, inl, inr}
+use Rattle.std.proofs.Common.{find, get_or, is_some, IsTrue}
 use Rattle.std.specs.Option.{option_map, option_map_or}
 use Rattle.std.proofs.lemmas.Bool.{and_left, and_right, cases_eq, ne_eqb}
 use Rattle.std.proofs.lemmas.List.{length-set}
@@ -120,9 +121,11 @@ module _ (headers : List (Option Header)) (all : List Slots) (s s' : State) (csp
 
   slot_shown : Shown now s' cspace slot
   slot_shown =
-      subst (λ (words : List CapWord). ShowsSlot headers (word_at words slot) (name_in now cspace slot) (find (fills cspace slot) s'.caps) (setting_number (find (tells_setting cspace slot) s'.set_at)))
+      subst (λ (words : List CapWord). ShowsSlot headers (word_at words slot) (name_in now cspace slot)
+      (find (fills cspace slot) s'.caps) (setting_number (find (tells_setting cspace slot) s'.set_at)))
       (sym words_now)
-      (subst (λ (names : List Serial). ShowsSlot headers (word_at (change there).words slot) (get_or names (slot - 1) no_serial) (find (fills cspace slot) s'.caps) (setting_number (find (tells_setting cspace slot) s'.set_at)))
+      (subst (λ (names : List Serial). ShowsSlot headers (word_at (change there).words slot) (get_or names (slot - 1) no_serial)
+      (find (fills cspace slot) s'.caps) (setting_number (find (tells_setting cspace slot) s'.set_at)))
       (sym names_now) shows)
 
   home_shown : (n : ℕ) → IsTrue (is_slot n) → Shown now s' cspace n

@@ -1,5 +1,6 @@
 -- The parts stand for the rows once an extent, or the root extent, has its span.
-use Rattle.std.proofs.Common.{◌≡◌, ◌<◌, ◌+◌, ◌-◌, ◌∙◌, ◌∷◌, ◌++◌, ◌==◌, ◌&&◌, ◌||◌, ℕ, Bool, true, false, List, [], Option, Some, None, refl, sym, ap, subst, arith, inl, inr, find, length, replicate, if◌then◌else◌}
+use Rattle.std.proofs.Common.{◌≡◌, ◌<◌, ◌+◌, ◌-◌, ◌∙◌, ◌∷◌, ◌++◌, ◌==◌, ◌&&◌, ◌||◌, ℕ, Bool, true, false, List, [], Option, Some}
+use Rattle.std.proofs.Common.{None, refl, sym, ap, subst, arith, inl, inr, find, length, replicate, if◌then◌else◌}
 use Rattle.std.specs.Prelude.{◌^◌}
 use Rattle.std.specs.Option.{option_map}
 use Rattle.std.proofs.lemmas.Bool.{and_left, and_parts, both_ways, cases_eq, eq-eqb, eqb-true, ne_eqb, or_cases}
@@ -27,7 +28,8 @@ use Rattle.gh_state.specs.Making.{HasRoom}
 use Rattle.gh_state.specs.MemoryChanges.{spanned, with_extent, with_memory, with_span}
 use Rattle.gh_state.specs.Owing.{HasCount, recounted}
 use Rattle.gh_state.specs.Shares.{with_body}
-use Rattle.gh_state.specs.Stands.{ReferencesStand, SpacesStand, SpansStand, Stands, StandsOwing, extent_rows, page_holders, span_row_of}
+use Rattle.gh_state.specs.Stands.{ReferencesStand, SpacesStand, SpansStand, Stands, StandsOwing, extent_rows, page_holders}
+use Rattle.gh_state.specs.Stands.{span_row_of}
 use Rattle.gh_state.specs.declared.body.Body.{Body}
 use Rattle.gh_state.specs.declared.body.Body.TheVariants.{Extent}
 use Rattle.gh_state.specs.declared.journal.Memory.{Memory}

@@ -3,7 +3,8 @@ use Rattle.std.proofs.Common.{◌≡◌, ◌<◌, ◌∙◌, ◌/◌, ◌==◌, 
 use Rattle.std.specs.Prelude.{bit_and}
 use Rattle.std.proofs.lemmas.Bool.{eqb-true}
 use Rattle.std.proofs.lemmas.Nat.{and_le_r, div-mul-add, div_below, mod-mul-add}
-use Rattle.gh_base.specs.CapWord.{filled_bits, filled_state, kind_number_of, mark_number, master_number_of, object_of, packed, revoked_bits, rights_of, state_number, state_number_of, state_numbered, state_of}
+use Rattle.gh_base.specs.CapWord.{filled_bits, filled_state, kind_number_of, mark_number, master_number_of, object_of, packed}
+use Rattle.gh_base.specs.CapWord.{revoked_bits, rights_of, state_number, state_number_of, state_numbered, state_of}
 use Rattle.gh_base.specs.Kind.{kind_number, kind_rights}
 use Rattle.gh_base.specs.declared.cap_word.CapState.TheVariants.{Empty}
 use Rattle.gh_base.specs.declared.kind.Kind.{Kind}

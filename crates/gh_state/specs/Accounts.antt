@@ -54,3 +54,7 @@ costing_more object cost parts =
     (change_row (is_account (home_in parts.table.headers object).0) (using (cost - 1))
     parts.journal.accounts)
     (costing object cost parts)
+
+-- the units that are left in an account, if there is one
+abbrev pub free_of : Option Account → ℕ
+free_of account = option_map_or (λ (a : Account). free_units a.units) account 0

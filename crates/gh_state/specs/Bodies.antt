@@ -15,7 +15,8 @@ use Rattle.gh_objects.specs.declared.header.Header.{Header}
 use Rattle.gh_state.specs.Index.{index_of}
 use Rattle.gh_state.specs.Shares.{body_at}
 use Rattle.gh_state.specs.declared.body.Body.{Body}
-use Rattle.gh_state.specs.declared.body.Body.TheVariants.{Nothing, Bell, NewQueue, Queue, Space, Extent}
+use Rattle.gh_state.specs.declared.body.Body.TheVariants.{Nothing, Bell, NewQueue, Queue, Space}
+use Rattle.gh_state.specs.declared.body.Body.TheVariants.{Extent}
 use Rattle.gh_state.specs.declared.shares.Place.{Place}
 
 -- the body of the live object with this serial; that of nothing where none has it

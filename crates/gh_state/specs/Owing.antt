@@ -19,8 +19,8 @@ recounted change parts serial = record parts {
   };
 }
 
--- an object is found by its serial, no count is where no object is, and the object's count, if there
--- is the object, is so
+-- an object is found by its serial, no count is where no object is, and the object's count is so,
+-- if there is the object
 pub record HasCount (parts : Parts) (serial : ℕ) (is : ℕ → Type 0) : Type 0 where
   pub indexed : AreIndexed parts.table.headers
   pub bare : (index : ℕ) → header_at parts.table.headers index ≡ None

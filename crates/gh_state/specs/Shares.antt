@@ -1,6 +1,7 @@
 -- The shares of the partition places as callers see them: for each partition place the objects'
 -- costs and bodies, by their places there.
-use Rattle.std.specs.Prelude.{◌≡◌, ◌/◌, ◌%◌, ℕ, List, [], length, replicate, All, slice_index_or, slice_set}
+use Rattle.std.specs.Prelude.{◌≡◌, ◌/◌, ◌%◌, ℕ, List, [], length, replicate, All, slice_index_or}
+use Rattle.std.specs.Prelude.{slice_set}
 use Rattle.gh_base.specs.declared.limits.TheConstants.{PARTITIONS, PARTITION_PLACES}
 use Rattle.gh_state.specs.declared.body.Body.{Body}
 use Rattle.gh_state.specs.declared.body.Body.TheVariants.{Nothing}
@@ -40,7 +41,8 @@ with_body_in places at body = slice_set places at (record (place_in places at) {
 abbrev pub with_body : List (List Place) → ℕ → Body → List (List Place)
 with_body shares index body =
     slice_set shares (index / PARTITION_PLACES)
-    (with_body_in (slice_index_or shares (index / PARTITION_PLACES) []) (index % PARTITION_PLACES) body)
+    (with_body_in (slice_index_or shares (index / PARTITION_PLACES) [])
+    (index % PARTITION_PLACES) body)
 
 -- a share with another cost at a place
 abbrev pub with_cost_in : List Place → ℕ → ℕ → List Place
@@ -50,4 +52,5 @@ with_cost_in places at cost = slice_set places at (record (place_in places at) {
 abbrev pub with_cost_at : List (List Place) → ℕ → ℕ → List (List Place)
 with_cost_at shares index cost =
     slice_set shares (index / PARTITION_PLACES)
-    (with_cost_in (slice_index_or shares (index / PARTITION_PLACES) []) (index % PARTITION_PLACES) cost)
+    (with_cost_in (slice_index_or shares (index / PARTITION_PLACES) [])
+    (index % PARTITION_PLACES) cost)

@@ -27,4 +27,5 @@ with_slots cspace change parts = record parts {
 -- the parts with the capability of a row in its slot, set by an entry
 abbrev pub with_filled : CapabilityRow → ℕ → Parts → Parts
 with_filled row entry parts =
-    with_slots row.cspace.0 (filled row.slot (word_for parts.table.headers row entry) row.serial) parts
+    with_slots row.cspace.0
+    (filled row.slot (word_for parts.table.headers row entry) row.serial) parts

@@ -1,12 +1,14 @@
 -- The slots of the live capability spaces: a list with one set of slots for each of them, and how a
 -- slot in it is filled, emptied and revoked.
-use Rattle.std.specs.Prelude.{◌≡◌, ◌==◌, ◌-◌, ℕ, Bool, false, List, [], Option, Some, None, find, replicate, slice_index_or, slice_set, if◌then◌else◌}
+use Rattle.std.specs.Prelude.{◌≡◌, ◌==◌, ◌-◌, ℕ, Bool, false, List, [], Option, Some, None, find}
+use Rattle.std.specs.Prelude.{replicate, slice_index_or, slice_set, if◌then◌else◌}
 use Rattle.std.specs.Option.{option_map_or}
 use Rattle.gh_base.specs.CapWord.{set_at_of, state_of}
 use Rattle.gh_base.specs.declared.cap_word.CapWord.{CapWord}
 use Rattle.gh_base.specs.declared.ids.Serial.{Serial}
 use Rattle.gh_base.specs.declared.limits.TheConstants.{CSPACE_SLOTS}
-use Rattle.gh_cspace.specs.Cspace.{IsSlot, empty_word, is_free, is_valid, never_set, revoked_word, with_word, word_at}
+use Rattle.gh_cspace.specs.Cspace.{IsSlot, empty_word, is_free, is_valid, never_set, revoked_word}
+use Rattle.gh_cspace.specs.Cspace.{with_word, word_at}
 use Rattle.gh_state.specs.declared.slots.Slots.{Slots}
 
 -- no object has this serial

@@ -1,6 +1,7 @@
 -- What the parts stand for: the rows of the state, one record for each kind of row. Rows are looked
 -- up by their serials, each at its object's index.
-use Rattle.std.specs.Prelude.{◌≡◌, ◌==◌, ◌+◌, ◌<◌, ℕ, Bool, true, IsTrue, List, [], length, replicate, Option, Some, None, is_some, find, filter, slice_index_or}
+use Rattle.std.specs.Prelude.{◌≡◌, ◌==◌, ◌+◌, ◌<◌, ℕ, Bool, true, IsTrue, List, [], length}
+use Rattle.std.specs.Prelude.{replicate, Option, Some, None, is_some, find, filter, slice_index_or}
 use Rattle.std.specs.Option.{option_map}
 use Rattle.gh_base.specs.CapWord.{filled_bits}
 use Rattle.gh_base.specs.declared.cap_word.CapWord.{CapWord}
@@ -13,7 +14,8 @@ use Rattle.gh_invariant.specs.Effects.{times}
 use Rattle.gh_invariant.specs.Lives.{lives_as}
 use Rattle.gh_model.specs.Boot.{is_row_of}
 use Rattle.gh_model.specs.References.{references}
-use Rattle.gh_model.specs.Rows.{fills, is_bell, is_extent, is_object, is_partition, is_queue, tells_setting}
+use Rattle.gh_model.specs.Rows.{fills, is_bell, is_extent, is_object, is_partition, is_queue}
+use Rattle.gh_model.specs.Rows.{tells_setting}
 use Rattle.gh_model.specs.Units.{given_by, used_by}
 use Rattle.gh_model.specs.Word.{is_slot, setting_number}
 use Rattle.gh_model.specs.declared.memory.Span.{Span}
@@ -30,7 +32,8 @@ use Rattle.gh_objects.specs.Counts.{count_at}
 use Rattle.gh_objects.specs.Headers.{header_at}
 use Rattle.gh_objects.specs.declared.count.Count.{Count}
 use Rattle.gh_objects.specs.declared.header.Header.{Header}
-use Rattle.gh_state.specs.Bodies.{bell_in, body_of, fits_body, mappings_in, queue_in, space_in, span_in}
+use Rattle.gh_state.specs.Bodies.{bell_in, body_of, fits_body, mappings_in, queue_in, space_in}
+use Rattle.gh_state.specs.Bodies.{span_in}
 use Rattle.gh_state.specs.Index.{AreIndexed, index_of, indexed}
 use Rattle.gh_state.specs.Shares.{AreShares, place_at}
 use Rattle.gh_state.specs.Slots.{is_home, name_in, no_serial, word_in}

@@ -3,8 +3,11 @@
 ghost use Rattle.std.specs.Prelude.{◌≡◌, ◌<◌, ◌≤◌, IfSome};
 ghost use Rattle.gh_base.specs.declared.kind.Kind.{Kind};
 ghost use Rattle.gh_cspace.specs.Cspace.{IsFreeSlot};
-ghost use Rattle.gh_model.specs.Changes.{drop_capability, fill_slot, put_capability, revoke_capability};
-ghost use Rattle.gh_model.specs.declared.change.Change.TheVariants.{DropCapability, FillSlot, PutCapability, RevokeCapability};
+ghost use Rattle.gh_model.specs.Changes.{drop_capability, fill_slot, put_capability};
+ghost use Rattle.gh_model.specs.Changes.{revoke_capability};
+ghost use Rattle.gh_model.specs.declared.change.Change.TheVariants.{DropCapability, FillSlot};
+ghost use Rattle.gh_model.specs.declared.change.Change.TheVariants.{PutCapability};
+ghost use Rattle.gh_model.specs.declared.change.Change.TheVariants.{RevokeCapability};
 ghost use Rattle.gh_model.specs.declared.state.State.{State};
 ghost use Rattle.gh_state.specs.Index.{AreIndexed, index_of};
 ghost use Rattle.gh_state.specs.Making.{CanMake};

@@ -1,7 +1,8 @@
 //! References that are counted before a row has them, and still counted once it has them no more.
 
 ghost use Rattle.std.specs.Prelude.{◌≡◌, ◌<◌, ◌≤◌, IfSome};
-ghost use Rattle.gh_objects.specs.Counts.{count_at, count_changed, with_reference, without_reference};
+ghost use Rattle.gh_objects.specs.Counts.{count_at, count_changed, with_reference};
+ghost use Rattle.gh_objects.specs.Counts.{without_reference};
 ghost use Rattle.gh_state.specs.Owing.{HasCount, recounted};
 
 use crate::parts::Parts;

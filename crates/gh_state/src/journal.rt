@@ -33,7 +33,8 @@ pub enum Memory {
 pub struct Journal {
     /// References and retirements, and the serials of doomed and retired objects.
     pub counts: Counts,
-    /// The CPUs' counters at the retirement of the object at each index; none where it isn't retired.
+    /// The CPUs' counters at the retirement of the object at each index; none where it isn't
+    /// retired.
     pub retirements: Sequence<Option<Counters>>,
     /// At most sixteen, one for each live capability space.
     pub slots: Sequence<Slots>,

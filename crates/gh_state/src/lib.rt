@@ -14,6 +14,7 @@ mod memory;
 mod objects;
 mod parts;
 mod queues;
+mod reads;
 mod shares;
 mod slots;
 mod units;

@@ -7,7 +7,8 @@ ghost use Rattle.gh_model.specs.declared.change.Change.TheVariants.{AddExtent, A
 ghost use Rattle.gh_model.specs.declared.state.State.{State};
 ghost use Rattle.gh_state.specs.Index.{AreIndexed};
 ghost use Rattle.gh_state.specs.Making.{CanMake};
-ghost use Rattle.gh_state.specs.MemoryChanges.{TakesRow, spanned, with_extent, with_memory, with_span};
+ghost use Rattle.gh_state.specs.MemoryChanges.{TakesRow, spanned, with_extent, with_memory};
+ghost use Rattle.gh_state.specs.MemoryChanges.{with_span};
 ghost use Rattle.gh_state.specs.Shares.{AreShares};
 ghost use Rattle.gh_state.specs.Stands.{Stands};
 ghost use Rattle.gh_state.specs.declared.journal.Memory.TheVariants as memory;

@@ -2,7 +2,8 @@
 
 ghost use Rattle.std.specs.Prelude.{◌≡◌, ◌<◌, OnErr, OnOk};
 ghost use Rattle.gh_invariant.specs.Premises.{MaySend};
-ghost use Rattle.gh_model.specs.Changes.{configure_queue, drop_message, empty_queue, put_message, set_room};
+ghost use Rattle.gh_model.specs.Changes.{configure_queue, drop_message, empty_queue, put_message};
+ghost use Rattle.gh_model.specs.Changes.{set_room};
 ghost use Rattle.gh_model.specs.declared.change.Change.TheVariants.{ConfigureQueue};
 ghost use Rattle.gh_model.specs.declared.state.State.{State};
 ghost use Rattle.gh_msgqueue.specs.Queue.{IsConfigurable};

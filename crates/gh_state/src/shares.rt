@@ -75,6 +75,14 @@ impl Share {
         mem::replace(&mut self.places[at].body, body)
     }
 
+    /// The body at a place.
+    fn body(&self, at: usize) -> &Body
+        requires { at < length self.now }
+        ensures { result.now ≡ (place_in self.now at).body }
+    {
+        &self.places[at].body
+    }
+
     /// The object at a place costs so many units from now on.
     fn set_cost(&mut self, at: usize, cost: u16)
         requires { at < length self.old }
@@ -112,6 +120,15 @@ impl Shares {
     {
         let index = index.0 as usize;
         self.shares[index / PARTITION_PLACES].exchange(index % PARTITION_PLACES, body)
+    }
+
+    /// The body at an index.
+    pub fn body(&self, index: ObjIndex) -> &Body
+        requires { index.0 < OBJECT_INDICES }
+        ensures { result.now ≡ body_at self.now index.0 }
+    {
+        let index = index.0 as usize;
+        self.shares[index / PARTITION_PLACES].body(index % PARTITION_PLACES)
     }
 
     /// Takes the body from an index, to be put back there changed.

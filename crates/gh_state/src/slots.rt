@@ -4,7 +4,8 @@
 ghost use Rattle.std.specs.Prelude.{◌≡◌, find, position};
 ghost use Rattle.gh_cspace.specs.Cspace.{IsFreeSlot, IsSlot};
 ghost use Rattle.gh_model.specs.Rows.{change_row};
-ghost use Rattle.gh_state.specs.Slots.{IsFilledSlot, emptied, filled, granted_by, granted_in, is_home, new_slots, revoked, set_at_by, set_at_in, words_of};
+ghost use Rattle.gh_state.specs.Slots.{IsFilledSlot, emptied, filled, granted_by, granted_in};
+ghost use Rattle.gh_state.specs.Slots.{is_home, new_slots, revoked, set_at_by, set_at_in, words_of};
 
 use gh_base::{CSPACE_SLOTS, CapState, CapWord, Sequence, Serial};
 use gh_cspace::Cspace;

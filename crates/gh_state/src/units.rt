@@ -1,12 +1,13 @@
 //! Changes of units.
 
 ghost use Rattle.std.specs.Prelude.{◌≡◌, ◌<◌, find, position};
-ghost use Rattle.std.specs.Option.{option_map_or};
 ghost use Rattle.gh_model.specs.Changes.{give_quota};
 ghost use Rattle.gh_model.specs.Rows.{change_row};
 ghost use Rattle.gh_model.specs.declared.change.Change.TheVariants.{GiveQuota};
 ghost use Rattle.gh_model.specs.declared.state.State.{State};
-ghost use Rattle.gh_state.specs.Accounts.{costing, costing_more, giver_in, giving, quoted, using, with_accounts};
+ghost use Rattle.gh_state.specs.Accounts.{costing, costing_more, free_of, giver_in, giving, quoted};
+ghost use Rattle.gh_state.specs.Accounts.{using};
+ghost use Rattle.gh_state.specs.Accounts.{with_accounts};
 ghost use Rattle.gh_state.specs.Index.{AreIndexed};
 ghost use Rattle.gh_state.specs.Making.{CanMake};
 ghost use Rattle.gh_state.specs.Shares.{AreShares};
@@ -56,6 +57,16 @@ fn giver(accounts: &[Account], partition: Serial) -> Serial
     match account_place(accounts, partition) {
         None => Serial(0),
         Some(at) => accounts[at].parent,
+    }
+}
+
+/// The units that a partition's account has left; 0 where it has no account.
+pub(crate) fn free_in(accounts: &[Account], partition: Serial) -> u16
+    ensures { result ≡ free_of (find (is_account partition.0) accounts.now) }
+{
+    match account_place(accounts, partition) {
+        None => 0,
+        Some(at) => accounts[at].units.free(),
     }
 }
 

@@ -34,7 +34,9 @@ settle_some-requires g c =
     let at : IsFilling c.args.self.now g.s c.args.cspace.0 c.args.slot =
     record { stand = c.requires.stands; valid = c.requires.valid; room = c.requires.room; fill = c.requires.may } in
     named_has c.settle.new.self (drop_of c.args.cspace c.args.slot g.s) (row_there c.args.self.now g.s c.args.cspace.0 c.args.slot at).it c.granted-object.result
-    (c.granted-object.ensures ∙ ap (λ (all : List Slots). granted_by c.args.slot (find (is_home c.args.cspace.0) all)) c.as_slice.ensures ∙ granted_is c.args.self.now g.s c.args.cspace.0 c.args.slot at)
+    (c.granted-object.ensures
+    ∙ ap (λ (all : List Slots). granted_by c.args.slot (find (is_home c.args.cspace.0) all)) c.as_slice.ensures
+    ∙ granted_is c.args.self.now g.s c.args.cspace.0 c.args.slot at)
     (dropped_home c.args.self.now c.empty.new.self c.settle.new.self g.s c.args.cspace c.args.slot at c.empty.ensures c.settle.ensures)
 
 pub returns : goal.returns
@@ -42,6 +44,8 @@ returns g c =
     let at : IsFilling c.args.self.now g.s c.args.cspace.0 c.args.slot =
     record { stand = c.requires.stands; valid = c.requires.valid; room = c.requires.room; fill = c.requires.may } in
     named_settled c.settle.new.self c.settle_some.new.self (drop_of c.args.cspace c.args.slot g.s) (row_there c.args.self.now g.s c.args.cspace.0 c.args.slot at).it c.granted-object.result
-    (c.granted-object.ensures ∙ ap (λ (all : List Slots). granted_by c.args.slot (find (is_home c.args.cspace.0) all)) c.as_slice.ensures ∙ granted_is c.args.self.now g.s c.args.cspace.0 c.args.slot at)
+    (c.granted-object.ensures
+    ∙ ap (λ (all : List Slots). granted_by c.args.slot (find (is_home c.args.cspace.0) all)) c.as_slice.ensures
+    ∙ granted_is c.args.self.now g.s c.args.cspace.0 c.args.slot at)
     (dropped_home c.args.self.now c.empty.new.self c.settle.new.self g.s c.args.cspace c.args.slot at c.empty.ensures c.settle.ensures)
     c.settle_some.ensures

@@ -25,7 +25,9 @@ settle_some-requires g c =
     let at : IsFilling c.args.self.now g.s c.args.cspace.0 c.args.slot =
     record { stand = c.requires.stands; valid = c.requires.valid; room = c.requires.room; fill = c.requires.may } in
     named_has c.revoke.new.self (revoke_of c.args.cspace c.args.slot g.s) (row_there c.args.self.now g.s c.args.cspace.0 c.args.slot at).it c.granted-object.result
-    (c.granted-object.ensures ∙ ap (λ (all : List Slots). granted_by c.args.slot (find (is_home c.args.cspace.0) all)) c.as_slice.ensures ∙ granted_is c.args.self.now g.s c.args.cspace.0 c.args.slot at)
+    (c.granted-object.ensures
+    ∙ ap (λ (all : List Slots). granted_by c.args.slot (find (is_home c.args.cspace.0) all)) c.as_slice.ensures
+    ∙ granted_is c.args.self.now g.s c.args.cspace.0 c.args.slot at)
     (killed c.args.self.now c.revoke.new.self g.s c.args.cspace c.args.slot at c.revoke.ensures)
 
 pub returns : goal.returns
@@ -33,6 +35,8 @@ returns g c =
     let at : IsFilling c.args.self.now g.s c.args.cspace.0 c.args.slot =
     record { stand = c.requires.stands; valid = c.requires.valid; room = c.requires.room; fill = c.requires.may } in
     named_settled c.revoke.new.self c.settle_some.new.self (revoke_of c.args.cspace c.args.slot g.s) (row_there c.args.self.now g.s c.args.cspace.0 c.args.slot at).it c.granted-object.result
-    (c.granted-object.ensures ∙ ap (λ (all : List Slots). granted_by c.args.slot (find (is_home c.args.cspace.0) all)) c.as_slice.ensures ∙ granted_is c.args.self.now g.s c.args.cspace.0 c.args.slot at)
+    (c.granted-object.ensures
+    ∙ ap (λ (all : List Slots). granted_by c.args.slot (find (is_home c.args.cspace.0) all)) c.as_slice.ensures
+    ∙ granted_is c.args.self.now g.s c.args.cspace.0 c.args.slot at)
     (killed c.args.self.now c.revoke.new.self g.s c.args.cspace c.args.slot at c.revoke.ensures)
     c.settle_some.ensures

@@ -1,0 +1,92 @@
+//! What the parts tell of the rows that they stand for. No read takes memory.
+
+ghost use Rattle.std.specs.Prelude.{◌≡◌, find, length};
+ghost use Rattle.gh_model.specs.Rows.{cpu_row as cpu_row_of, is_bell};
+ghost use Rattle.gh_model.specs.Units.{free_units as free_units_of};
+ghost use Rattle.gh_model.specs.declared.state.State.{State};
+ghost use Rattle.gh_state.specs.Bodies.{bell_in};
+ghost use Rattle.gh_state.specs.Stands.{Stands};
+
+use crate::body::Body;
+use crate::cpus::cpu_row;
+use crate::parts::Parts;
+use crate::units::free_in;
+use gh_base::{CpuNo, Serial};
+use gh_model::{BellRow, CpuRow};
+
+/// The row of a doorbell's body; none of any other.
+fn bell_row(body: &Body, bell: Serial) -> Option<BellRow>
+    ensures { result ≡ bell_in bell.0 body.now }
+{
+    match body {
+        Body::Bell(words) => {
+            let (flags, enable, ack) = words.words();
+            Some(BellRow {
+                serial: bell,
+                flags,
+                enable,
+                ack,
+            })
+        }
+        _ => None,
+    }
+}
+
+impl Parts {
+    /// The row of a doorbell, by a binary search.
+    pub fn bell(&self, bell: Serial) -> Option<BellRow>
+        ghost s: { State }
+        requires { Stands self.now s }
+        ensures { result ≡ find (is_bell bell.0) s.bells }
+    {
+        match self.index(bell) {
+            None => None,
+            Some(index) => bell_row(self.shares.body(index), bell),
+        }
+    }
+
+    /// The row of a CPU.
+    pub fn cpu(&self, cpu: CpuNo) -> Option<CpuRow>
+        ghost s: { State }
+        requires { Stands self.now s }
+        ensures { result ≡ cpu_row_of s cpu.0 }
+    {
+        cpu_row(self.journal.cpus.as_slice(), cpu)
+    }
+
+    /// The units that a partition has left.
+    pub fn free_units(&self, partition: Serial) -> u16
+        ghost s: { State }
+        requires { Stands self.now s }
+        ensures { result ≡ free_units_of s partition.0 }
+    {
+        free_in(self.journal.accounts.as_slice(), partition)
+    }
+
+    /// The serial of the next object.
+    pub fn next_serial(&self) -> Serial
+        ghost s: { State }
+        requires { Stands self.now s }
+        ensures { result.0 ≡ s.next_serial }
+    {
+        Serial(self.journal.next_serial)
+    }
+
+    /// How many slots the revokes took since the last entry of another kind.
+    pub fn taken(&self) -> usize
+        ghost s: { State }
+        requires { Stands self.now s }
+        ensures { result ≡ length s.taken }
+    {
+        self.journal.taken.len()
+    }
+
+    /// How often the resource manager's bell has rung.
+    pub fn rings(&self) -> u32
+        ghost s: { State }
+        requires { Stands self.now s }
+        ensures { result ≡ s.rings }
+    {
+        self.journal.rings
+    }
+}
