@@ -1,8 +1,10 @@
 //! The items of calls, made on the slow machine as a schedule asks for them.
 #![tactic(auto)]
 
+mod act_item;
 mod call_items;
 mod end;
+mod judge;
 mod leave_item;
 mod look_item;
 mod progress;
