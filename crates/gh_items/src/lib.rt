@@ -1,9 +1,11 @@
 //! The items of calls, made on the slow machine as a schedule asks for them.
 #![tactic(auto)]
 
+mod act_item;
 mod call_items;
 mod end;
 mod frame_item;
+mod judge;
 mod leave_item;
 mod look_item;
 mod progress;

@@ -1,0 +1,56 @@
+-- What the act of a call does to a run's progress: an entry of the history, and the call's end.
+use Rattle.std.specs.Prelude.{◌≡◌, ◌<◌, ℕ, List, [], ◌∷◌, ◌++◌, Option, Some, None}
+use Rattle.gh_base.specs.declared.limits.TheConstants.{CPUS}
+use Rattle.gh_base.specs.declared.mark.End.TheVariants as ends
+use Rattle.gh_core.specs.Committing.{HasFewReferences, cpu_no}
+use Rattle.gh_core.specs.Config.{Config, Current}
+use Rattle.gh_core.specs.Items.{HasFreeIndex, acting, freeing, judged_in, unpins}
+use Rattle.gh_core.specs.Sound.{IsSound}
+use Rattle.gh_core.specs.Sweep.{KeepsNine}
+use Rattle.gh_core.specs.Trace.{after_all, and_then}
+use Rattle.gh_core.specs.TurnEvents.{ready}
+use Rattle.gh_core.specs.declared.current.CurrentCall.{CurrentCall}
+use Rattle.gh_items.specs.Stands.{with_end}
+use Rattle.gh_items.specs.declared.progress.Progress.{Progress}
+use Rattle.gh_items.specs.declared.progress.Seat.{Seat}
+use Rattle.gh_model.specs.declared.entry.Entry.{Entry}
+use Rattle.gh_model.specs.declared.entry.Entry.TheVariants.{Acted}
+use Rattle.gh_model.specs.declared.plain.Judged.{Judged}
+use Rattle.gh_model.specs.declared.plain.Judged.TheVariants as says
+use Rattle.gh_model.specs.declared.state.State.{State}
+
+-- the progress in another state
+abbrev pub in_state : Progress → State → Progress
+in_state progress new = record progress { plain = new }
+
+-- the progress with one more entry of the history
+abbrev pub with_entry : Progress → Entry → Progress
+with_entry progress entry = record progress { entries = progress.entries ++ entry ∷ [] }
+
+-- the entry of a call's act
+abbrev pub act_entry : ℕ → CurrentCall → Entry
+act_entry at call = Acted (cpu_no at) call.given.number
+
+-- an act that is done is the call's entry, and one that is refused ends the call where it was judged
+abbrev pub with_judged : Progress → ℕ → Seat → CurrentCall → Judged → Progress
+with_judged progress at seat call (says.Done reply) =
+    with_end (with_entry progress (act_entry at call)) at seat call
+    (ends.Entry progress.plain.entries) reply
+with_judged progress at seat call (says.Refused reply) =
+    with_end progress at seat call (ends.Act progress.plain.entries) reply
+
+-- the configuration behind the act's entry, the end of the turn and that of the call's pins
+abbrev pub after_judged : Config → ℕ → Config
+after_judged conf at =
+    after_all conf (and_then (acting at) (and_then (freeing at) (unpins at)) conf)
+
+-- a CPU's call is at its act in a sound configuration with a free turn; an object that it makes has
+-- a free index
+pub record ActsNext (conf : Config) (at : ℕ) (call : Current) : Type 0 where
+  pub sound : IsSound conf
+  pub few : HasFewReferences conf.boot
+  pub nine : KeepsNine conf.history
+  pub is_cpu : at < CPUS
+  pub free : conf.turn ≡ None
+  pub is_ready : ready (conf.cpu at) ≡ Some call
+  pub has_index : HasFreeIndex (judged_in conf at) at

@@ -1,0 +1,104 @@
+//! The item of a call that is its act.
+
+ghost use Rattle.std.specs.Prelude.{◌≡◌, ◌+◌, ◌<◌, length, false, OnOk, Some};
+ghost use Rattle.gh_core.specs.Config.{Config};
+ghost use Rattle.gh_core.specs.Items.{act, judged_in, sweeps};
+ghost use Rattle.gh_core.specs.Running.{current_of};
+ghost use Rattle.gh_core.specs.Trace.{after_all};
+ghost use Rattle.gh_core.specs.TurnEvents.{taken};
+ghost use Rattle.gh_core.specs.declared.current.CallStage.TheVariants.{AtAct};
+ghost use Rattle.gh_items.specs.Acts.{ActsNext, with_judged};
+ghost use Rattle.gh_items.specs.Stands.{Stands, with_call};
+ghost use Rattle.gh_model.specs.Legal.{is_revoke};
+
+use crate::end::end_call;
+use crate::judge::judge;
+use crate::progress::{Progress, Seat, seat_of};
+use gh_base::{CpuNo, End, NoMemory};
+use gh_core::CurrentCall;
+use gh_model::{Entry, Judged};
+use std::alloc::Global;
+
+/// The call ends as its act was judged. One that was done is an entry of the history.
+fn end_judged(
+    progress: &mut Progress,
+    cpu: CpuNo,
+    seat: Seat,
+    call: CurrentCall,
+    judged: Judged,
+) -> Result<(), NoMemory>
+    requires seats { cpu.0 < length progress.old.seats }
+    requires calls { cpu.0 < length progress.old.calls }
+    requires counts { seat.calls + 1 < 4294967296 }
+    requires sections { seat.sections + 1 < 4294967296 }
+    ensures { OnOk result (progress.new ≡ with_judged progress.old cpu.0 seat call judged) }
+{
+    let number = progress.plain.entries();
+    match judged {
+        Judged::Refused(reply) => {
+            end_call(progress, cpu, seat, call, End::Act { place: number }, reply)
+        }
+        Judged::Done(reply) => {
+            let entry = Entry::Acted {
+                cpu,
+                number: call.given.number,
+            };
+            progress.entries.push(entry)?;
+            end_call(progress, cpu, seat, call, End::Entry { number }, reply)
+        }
+    }
+}
+
+/// Behind its sweep or its parts, the act is judged, and the call ends. Here it is one that makes no
+/// object.
+fn judged_act(
+    progress: &mut Progress,
+    alloc: Global,
+    cpu: CpuNo,
+    call: CurrentCall,
+) -> Result<(), NoMemory>
+    ghost conf: { Config }
+    requires stands { Stands (with_call progress.old cpu.0 (Some call)) (judged_in conf cpu.0) }
+    requires next { ActsNext conf cpu.0 (current_of call) }
+    requires unswept { sweeps call.given.call ≡ false }
+    ensures { OnOk result (Stands progress.new (after_all conf (act cpu.0 conf))) }
+{
+    let seat = seat_of(progress, cpu);
+    let judged = judge(progress, alloc, cpu, &call)?;
+    end_judged(progress, cpu, seat, call, judged)
+}
+
+/// The act of a call that begins with its turn, where neither a sweep nor parts prepare it.
+pub(crate) fn plain_act(
+    progress: &mut Progress,
+    alloc: Global,
+    cpu: CpuNo,
+    call: CurrentCall,
+) -> Result<(), NoMemory>
+    ghost conf: { Config }
+    requires stands { Stands (with_call progress.old cpu.0 (Some call)) (taken conf cpu.0) }
+    requires next { ActsNext conf cpu.0 (current_of call) }
+    requires unswept { sweeps call.given.call ≡ false }
+    requires other { is_revoke call.given.call ≡ false }
+    ensures { OnOk result (Stands progress.new (after_all conf (act cpu.0 conf))) }
+{
+    judged_act(progress, alloc, cpu, call)
+}
+
+/// The act of a call in progress, where neither a sweep nor parts prepare it.
+pub(crate) fn plain_act_item(
+    progress: &mut Progress,
+    alloc: Global,
+    cpu: CpuNo,
+    call: CurrentCall,
+) -> Result<(), NoMemory>
+    ghost conf: { Config }
+    requires stands { Stands (with_call progress.old cpu.0 (Some call)) conf }
+    requires next { ActsNext conf cpu.0 (current_of call) }
+    requires acts { call.stage ≡ AtAct }
+    requires unswept { sweeps call.given.call ≡ false }
+    requires other { is_revoke call.given.call ≡ false }
+    ensures { OnOk result (Stands progress.new (after_all conf (act cpu.0 conf))) }
+{
+    plain_act(progress, alloc, cpu, call)
+}
