@@ -27,7 +27,7 @@ fn begun(given: GivenCall, section: u64) -> CurrentCall
 }
 
 /// The CPU is given its next call, and opens its section.
-pub(crate) fn enter(progress: &mut Progress, cpu: CpuNo, given: GivenCall)
+pub fn enter(progress: &mut Progress, cpu: CpuNo, given: GivenCall)
     ghost conf: { Config }
     requires stands { Stands progress.old conf }
     requires calls { HasCalls conf }

@@ -57,7 +57,7 @@ fn end_frame(
 }
 
 /// The CPU is given a call whose frame is refused, which ends it.
-pub(crate) fn refuse_frame(
+pub fn refuse_frame(
     progress: &mut Progress,
     cpu: CpuNo,
     number: u32,

@@ -9,7 +9,10 @@ mod judge;
 mod leave_item;
 mod look_item;
 mod progress;
-mod section_item;
+mod section;
 mod stage_items;
 
+pub use call_items::enter;
+pub use frame_item::refuse_frame;
 pub use progress::{Progress, Seat};
+pub use section::section_item;

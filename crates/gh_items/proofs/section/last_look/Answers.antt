@@ -3,7 +3,7 @@ use Rattle.std.proofs.Common.{◌∙◌, List, ap, length, slice_get}
 use Rattle.std.proofs.Common.{◌-◌}
 use Rattle.gh_core.specs.declared.current.SeenLook.{SeenLook}
 use Rattle.gh_items.proofs.SeatLemmas.{last_get}
-use Rattle.gh_items.proofs.section_item.last_look.Goals as goal
+use Rattle.gh_items.proofs.section.last_look.Goals as goal
 
 pub returns : goal.returns
 returns c =

@@ -7,7 +7,7 @@ use Rattle.gh_items.specs.Stands.{Stands}
 use Rattle.gh_items.specs.declared.progress.Progress.{Progress}
 use Rattle.gh_items.proofs.ItemLemmas.{last_seen, pins_next, pins_nothing}
 use Rattle.gh_items.proofs.SeatLemmas.{current_is}
-use Rattle.gh_items.proofs.section_item.pin_last.Goals as goal
+use Rattle.gh_items.proofs.section.pin_last.Goals as goal
 
 pub pin-requires : goal.pin-requires
 pin-requires g c = (

@@ -1,5 +1,5 @@
 -- Both items begin in the configuration at hand.
-use Rattle.gh_items.proofs.section_item.read.Given as goal
+use Rattle.gh_items.proofs.section.read.Given as goal
 
 abbrev pub ghost-look : goal.ghost-look
 ghost-look g a = g.conf

@@ -7,7 +7,7 @@ use Rattle.gh_core.specs.Trace.{after_all}
 use Rattle.gh_items.specs.Stands.{Stands}
 use Rattle.gh_items.proofs.ItemLemmas.{ends_failed, ends_undone}
 use Rattle.gh_items.proofs.SeatLemmas.{current_is, if_ok}
-use Rattle.gh_items.proofs.section_item.end_of_section.Goals as goal
+use Rattle.gh_items.proofs.section.end_of_section.Goals as goal
 
 pub returns : goal.returns
 returns g c =

@@ -1,5 +1,5 @@
 -- Each item begins in the configuration at hand.
-use Rattle.gh_items.proofs.section_item.undo_last.Given as goal
+use Rattle.gh_items.proofs.section.undo_last.Given as goal
 
 abbrev pub ghost-undo : goal.ghost-undo
 ghost-undo g a = g.conf

@@ -1,5 +1,5 @@
 -- Each item begins in the configuration at hand.
-use Rattle.gh_items.proofs.section_item.pin_last.Given as goal
+use Rattle.gh_items.proofs.section.pin_last.Given as goal
 
 abbrev pub ghost-pin : goal.ghost-pin
 ghost-pin g a = g.conf

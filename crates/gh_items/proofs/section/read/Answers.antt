@@ -7,7 +7,7 @@ use Rattle.gh_core.proofs.FewPins.{few_needs}
 use Rattle.gh_items.specs.Stands.{Stands}
 use Rattle.gh_items.proofs.ItemLemmas.{leaves_granted, leaves_refused, looks_next, wants_more}
 use Rattle.gh_items.proofs.SeatLemmas.{current_is}
-use Rattle.gh_items.proofs.section_item.read.Goals as goal
+use Rattle.gh_items.proofs.section.read.Goals as goal
 use Rattle.gh_model.specs.Marks.{word_of}
 use Rattle.gh_model.specs.Registers.{needs_of}
 

@@ -105,7 +105,7 @@ fn end_of_section(progress: &mut Progress, cpu: CpuNo, call: CurrentCall) -> Res
 }
 
 /// The next item of a call that isn't at its act.
-pub(crate) fn section_item(
+pub fn section_item(
     progress: &mut Progress,
     cpu: CpuNo,
     call: CurrentCall,

@@ -1,5 +1,5 @@
 -- Each item begins in the configuration at hand.
-use Rattle.gh_items.proofs.section_item.section_item.Given as goal
+use Rattle.gh_items.proofs.section.section_item.Given as goal
 
 abbrev pub ghost-read : goal.ghost-read
 ghost-read g a = g.conf

@@ -7,7 +7,7 @@ use Rattle.gh_items.specs.Stands.{Stands}
 use Rattle.gh_items.specs.declared.progress.Progress.{Progress}
 use Rattle.gh_items.proofs.ItemLemmas.{last_seen, undoes_next, undoes_nothing}
 use Rattle.gh_items.proofs.SeatLemmas.{current_is}
-use Rattle.gh_items.proofs.section_item.undo_last.Goals as goal
+use Rattle.gh_items.proofs.section.undo_last.Goals as goal
 
 pub returns-in-None : goal.returns-in-None
 returns-in-None g c =
