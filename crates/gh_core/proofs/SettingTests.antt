@@ -228,3 +228,19 @@ module _ (running : Running) (at : ℕ) (entry : Entry) (space slot : ℕ) (word
   set_is = setting_by (stands_for running) entry is.call (holder_of is.own) space slot word ((stands_for running).cpu at).current (event_of next.logged) (later_of running next word) (numbers no_number all)
       is.current (ap (option_map holder_of) is.turn) is.event
       (later_is running next.state word ∙ ap (λ (s : State). index_after (stands_for running) s word) is.state) owed_same
+
+-- an event, and then the indices and the word of a slot
+pub set_put : (old mid new : Config) (event : history.Event) (first mids later laters slice : List Written) (turn : Option Turn) (here now state : State)
+    (owed : List Written) (space slot : ℕ) (word : CapWord)
+    → new ≡ with_slot mid (index_in mids later) space slot word
+    → mid ≡ with_event old event (numbers no_number owed)
+    → mids ≡ first → later ≡ laters → owed ≡ owing_of turn here state old.index (index_in first slice) → slice ≡ later → here ≡ now
+    → new ≡ with_slot (with_event old event (numbers no_number (owing_of turn now state old.index (index_in first laters)))) (index_in first laters) space slot word
+set_put old mid new event first mids later laters slice turn here now state owed space slot word news mid_is firsts later_same owed_is slices heres =
+    news
+    ∙ (ap (λ (c : Config). with_slot c (index_in mids later) space slot word) mid_is
+    ∙ (ap (λ (f : List Written). with_slot (with_event old event (numbers no_number owed)) (index_in f later) space slot word) firsts
+    ∙ (ap (λ (l : List Written). with_slot (with_event old event (numbers no_number owed)) (index_in first l) space slot word) later_same
+    ∙ ap (λ (o : List Written). with_slot (with_event old event (numbers no_number o)) (index_in first laters) space slot word)
+    (owed_is ∙ (ap (λ (s : List Written). owing_of turn here state old.index (index_in first s)) (slices ∙ later_same)
+    ∙ ap (λ (h : State). owing_of turn h state old.index (index_in first laters)) heres)))))

@@ -8,7 +8,7 @@ ghost use Rattle.gh_core.specs.Entries.{is_that_index, makes_object as makes_obj
 ghost use Rattle.gh_core.specs.Entries.{slot_set as slot_set_of};
 ghost use Rattle.gh_core.specs.Owing.{later_indices as later_indices_of, owing_covers, owing_of};
 ghost use Rattle.gh_core.specs.Owing.{revived_for as revived_for_of, setting_goes as setting_goes_of};
-ghost use Rattle.gh_core.specs.Owing.{slot_shows as slot_shows_of, with_slot};
+ghost use Rattle.gh_core.specs.Owing.{later_of, slot_shows as slot_shows_of, with_event, with_slot};
 ghost use Rattle.gh_core.specs.Running.{IsKept, boot_of, event_of, has_index, holder_of, index_in};
 ghost use Rattle.gh_core.specs.Running.{is_made, no_number, slot_of, stands_for};
 ghost use Rattle.gh_core.specs.Tables.{numbers};
@@ -201,4 +201,99 @@ fn put_setting(
         slot: setting.slot as u64,
         word: setting.word,
     })
+}
+
+/// The indices behind the entry that is ready.
+fn later_here(
+    alloc: Global,
+    running: &Running,
+    present: &State,
+    next: &Next,
+    word: CapWord,
+) -> Result<Sequence<Written>, NoMemory>
+    requires kept { IsKept running.now }
+    requires present { present.now ≡ present_of (stands_for running.now) }
+    ensures later { IfOk result (λ later. later ≡ later_indices_of running.now.given
+        (present_of (stands_for running.now)) next.now.state word) }
+    ensures within { IfOk result (λ later. list_all has_index later ≡ true) }
+{
+    let given = running.given.as_slice();
+    later_indices(alloc, given, present, next.state.state(), word)
+}
+
+/// An entry that is allowed sets its slot, where it may and no owed amount falls below 0.
+fn set_ready(
+    alloc: Global,
+    running: &mut Running,
+    present: &State,
+    next: Next,
+    setting: Setting,
+) -> Result<bool, NoMemory>
+    requires kept { IsKept running.old }
+    requires present { present.now ≡ present_of (stands_for running.old) }
+    requires made { is_made (present_of (stands_for running.old)) (event_of next.logged) ≡ true }
+    ensures no { IfOk result (λ made. made ≡ false
+        → setting_goes_of (stands_for running.old) (event_of next.logged) next.state
+        (later_of running.old next setting.word) setting.space.0 setting.slot setting.word ≡ true
+        → owing_covers running.old.turn (present_of (stands_for running.old)) next.state
+        (stands_for running.old).index (later_of running.old next setting.word) → ⊥) }
+    ensures goes { IfOk result (λ made. made ≡ true
+        → setting_goes_of (stands_for running.old) (event_of next.logged) next.state
+        (later_of running.old next setting.word) setting.space.0 setting.slot setting.word
+        ≡ true) }
+    ensures covers { IfOk result (λ made. made ≡ true → owing_covers running.old.turn
+        (present_of (stands_for running.old)) next.state (stands_for running.old).index
+        (later_of running.old next setting.word)) }
+    ensures then { IfOk result (λ made. made ≡ true → stands_for running.new ≡ with_slot
+        (with_event (stands_for running.old) (event_of next.logged) (numbers no_number (owing_of
+        running.old.turn (present_of (stands_for running.old)) next.state
+        (stands_for running.old).index (later_of running.old next setting.word))))
+        (later_of running.old next setting.word) setting.space.0 setting.slot setting.word) }
+    ensures kept { OnOk result (IsKept running.new) }
+{
+    let later = later_here(alloc, running, present, &next, setting.word)?;
+    if !setting_goes(alloc, running, present, &next, later.as_slice(), setting)? {
+        return Ok(false);
+    }
+    match owing_later(alloc, running, present, &next.state, later.as_slice())? {
+        None => Ok(false),
+        Some(owed) => {
+            put_event(running, next.logged, owed)?;
+            put_setting(running, later, setting)?;
+            Ok(true)
+        }
+    }
+}
+
+/// The holder commits an entry that sets a slot.
+pub(crate) fn set_cap(
+    alloc: Global,
+    running: &mut Running,
+    boot: &State,
+    present: &State,
+    cpu: CpuNo,
+    entry: Entry,
+    setting: Setting,
+) -> Result<bool, NoMemory>
+    requires kept { IsKept running.old }
+    requires boot { boot.now ≡ boot_of running.old }
+    requires present { present.now ≡ present_of (stands_for running.old) }
+    ensures no { IfOk result (λ made. made ≡ false → MaySetCap (stands_for running.old) cpu.0
+        entry setting.space.0 setting.slot setting.word → ⊥) }
+    ensures may { IfOk result (λ made. made ≡ true → MaySetCap (stands_for running.old) cpu.0
+        entry setting.space.0 setting.slot setting.word) }
+    ensures then { IfOk result (λ made. made ≡ true → stands_for running.new ≡ set_cap_of
+        (stands_for running.old) cpu.0 entry setting.space.0 setting.slot setting.word) }
+    ensures kept { OnOk result (IsKept running.new) }
+{
+    if !is_cpu(cpu) {
+        return Ok(false);
+    }
+    if !is_index(setting.space) {
+        return Ok(false);
+    }
+    match ready_entry(alloc, running, boot, present, cpu, entry, 1)? {
+        None => Ok(false),
+        Some(next) => set_ready(alloc, running, present, next, setting),
+    }
 }
