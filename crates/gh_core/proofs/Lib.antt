@@ -4,6 +4,7 @@ pub mod ActItems
 pub mod Acting
 pub mod Blocks
 pub mod BlocksStay
+pub mod BootBlocks
 pub mod BoundKeeps
 pub mod Boxes
 pub mod CallEffects

@@ -7,7 +7,7 @@ ghost use Rattle.gh_core.specs.Config.{Config, Current, Holder, IsBetween, prese
 ghost use Rattle.gh_core.specs.Indices.{HasBlocks, boot_index};
 ghost use Rattle.gh_core.specs.Items.{IsSteady, act, item};
 ghost use Rattle.gh_core.specs.Sound.{IsSound};
-ghost use Rattle.gh_core.specs.Start.{AreIndices};
+ghost use Rattle.gh_core.specs.Start.{AreIndices, start};
 ghost use Rattle.gh_core.specs.Sweep.{HasNotBegun, KeepsNine, sweep};
 ghost use Rattle.gh_core.specs.Trace.{AreDone, after_all};
 ghost use Rattle.gh_core.specs.TurnEvents.{has_causes, ready};
@@ -77,4 +77,10 @@ pub fn items_are_possible()
 pub fn boot_objects_have_indices()
     ensures { (lines : List BootLine) → IsTrue (boot_fits lines)
         → AreIndices (boot_state lines) (boot_index (boot_state lines)) }
+{}
+
+/// The start of each boot file is steady with these indices.
+pub fn starts_are_steady()
+    ensures { (lines : List BootLine) → IsTrue (boot_fits lines)
+        → IsSteady (start (boot_state lines) (boot_index (boot_state lines))) }
 {}
