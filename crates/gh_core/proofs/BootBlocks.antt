@@ -5,6 +5,7 @@ use Rattle.std.specs.List.{list_all}
 use Rattle.std.proofs.lemmas.Bool.{and_from, and_parts, eqb-true}
 use Rattle.std.proofs.lemmas.Bool.Decides.{nat_tests}
 use Rattle.gh_base.specs.Kind.{kind_number}
+use Rattle.gh_base.specs.declared.frame.Frame.{Frame}
 use Rattle.gh_base.specs.declared.kind.Kind.{Kind}
 use Rattle.gh_base.specs.declared.kind.Kind.TheVariants as kind
 use Rattle.gh_base.specs.declared.limits.TheConstants.{MACHINE_PAGES, PARTITION_PLACES}
@@ -19,13 +20,14 @@ use Rattle.gh_model.specs.declared.state.State.{State}
 use Rattle.gh_invariant.specs.Valid.{IsValid}
 use Rattle.gh_invariant.proofs.BootValid.{boot_valid}
 use Rattle.gh_invariant.proofs.Counting.{all_by, all_push, count_cons, found_all, one_false}
+use Rattle.gh_core.specs.Config.{Config}
 use Rattle.gh_core.specs.Indices.{InBlocks, boot_index, boot_place, is_earlier_in, is_partition_kind, place_of, row_index}
 use Rattle.gh_core.specs.Items.{IsSteady}
 use Rattle.gh_core.specs.References.{IsRow}
-use Rattle.gh_core.specs.Start.{start}
+use Rattle.gh_core.specs.Start.{MayGive, given, start}
 use Rattle.gh_core.proofs.Finding.{found_passes}
 use Rattle.gh_core.proofs.Ranks.{HomeOf, boot_indices, home_of, index_of, rank_few}
-use Rattle.gh_core.proofs.SoundEvents.{start_is_sound}
+use Rattle.gh_core.proofs.SoundEvents.{given_keeps_sound, start_is_sound}
 
 -- a partition of the boot lives in itself, and no object is older than its partition
 abbrev is_rooted : ObjectRow → Bool
@@ -184,4 +186,14 @@ start_is_steady lines fits = record {
   nine = λ n event seen is. absurd (let never : ⊥ = cc in never);
   blocks = rooted_blocks (boot_state lines) (boot_valid lines fits) (boot_rooted lines fits);
   free = refl;
+}
+
+-- and a call that a CPU is given keeps it so
+pub given_steady : (conf : Config) (at number : ℕ) (frame : Frame) → IsSteady conf → MayGive conf at number
+    → IsSteady (given conf at number frame)
+given_steady conf at number frame steady may = record {
+  sound = given_keeps_sound conf at number frame steady.sound may;
+  nine = steady.nine;
+  blocks = record { partitions = steady.blocks.partitions; others = steady.blocks.others };
+  free = steady.free;
 }

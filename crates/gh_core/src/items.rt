@@ -2,12 +2,13 @@
 //! clauses are laws.
 
 ghost use Rattle.std.specs.Prelude.{◌≡◌, ◌<◌, ℕ, List, Some, None, IsTrue, true};
+ghost use Rattle.gh_base.specs.declared.frame.Frame.{Frame};
 ghost use Rattle.gh_base.specs.declared.limits.TheConstants.{CPUS};
 ghost use Rattle.gh_core.specs.Config.{Config, Current, Holder, IsBetween, present};
 ghost use Rattle.gh_core.specs.Indices.{HasBlocks, boot_index};
 ghost use Rattle.gh_core.specs.Items.{IsSteady, act, item};
 ghost use Rattle.gh_core.specs.Sound.{IsSound};
-ghost use Rattle.gh_core.specs.Start.{AreIndices, start};
+ghost use Rattle.gh_core.specs.Start.{AreIndices, MayGive, given, start};
 ghost use Rattle.gh_core.specs.Sweep.{HasNotBegun, KeepsNine, sweep};
 ghost use Rattle.gh_core.specs.Trace.{AreDone, after_all};
 ghost use Rattle.gh_core.specs.TurnEvents.{has_causes, ready};
@@ -83,4 +84,10 @@ pub fn boot_objects_have_indices()
 pub fn starts_are_steady()
     ensures { (lines : List BootLine) → IsTrue (boot_fits lines)
         → IsSteady (start (boot_state lines) (boot_index (boot_state lines))) }
+{}
+
+/// A call that a CPU is given leaves a steady configuration.
+pub fn given_call_keeps_steady()
+    ensures { (conf : Config) (at number : ℕ) (frame : Frame) → IsSteady conf
+        → MayGive conf at number → IsSteady (given conf at number frame) }
 {}
