@@ -78,6 +78,7 @@ pub mod LookRoom
 pub mod NoPins
 pub mod OweKeeps
 pub mod Owing
+pub mod OwnEvents
 pub mod PartCalls
 pub mod PartItems
 pub mod PinCalls

@@ -1,7 +1,7 @@
 //! The items of a call: each is possible where its turn comes. The functions do nothing; their
 //! clauses are laws.
 
-ghost use Rattle.std.specs.Prelude.{◌≡◌, ◌<◌, ℕ, List, Some, None, IsTrue, true};
+ghost use Rattle.std.specs.Prelude.{◌≡◌, ◌==◌, ◌<◌, ℕ, List, Some, None, IsTrue, false, true};
 ghost use Rattle.gh_base.specs.declared.frame.Frame.{Frame};
 ghost use Rattle.gh_base.specs.declared.limits.TheConstants.{CPUS};
 ghost use Rattle.gh_core.specs.Config.{Config, Current, Holder, IsBetween, present};
@@ -65,12 +65,15 @@ pub fn acts_are_possible()
         → ready (conf.cpu at) ≡ Some call → (after_all conf (act at conf)).turn ≡ None }
 {}
 
-/// So the next item of every CPU is possible in a steady configuration, and leaves a steady one.
+/// So the next item of every CPU is possible in a steady configuration, and leaves a steady one. The
+/// other CPUs are as they were.
 pub fn items_are_possible()
     ensures possible { (conf : Config) (at : ℕ) → IsSteady conf → at < CPUS
         → AreDone conf (item conf at) }
     ensures steady { (conf : Config) (at : ℕ) → IsSteady conf → at < CPUS
         → IsSteady (after_all conf (item conf at)) }
+    ensures others { (conf : Config) (at cpu : ℕ) → (cpu == at) ≡ false
+        → (after_all conf (item conf at)).cpu cpu ≡ conf.cpu cpu }
 {}
 
 /// The objects of each boot file have indices, each its own: 128 times the place of its partition
