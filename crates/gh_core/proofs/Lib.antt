@@ -5,6 +5,7 @@ pub mod Acting
 pub mod AllowTests
 pub mod Blocks
 pub mod BlocksStay
+pub mod BootBlocks
 pub mod BootTables
 pub mod BoundKeeps
 pub mod Boxes
@@ -86,7 +87,9 @@ pub mod LookRoom
 pub mod NoPins
 pub mod OweKeeps
 pub mod OwedLemmas
+pub mod Owing
 pub mod OwingSteps
+pub mod OwnEvents
 pub mod PartCalls
 pub mod PartItems
 pub mod PinCalls

@@ -203,7 +203,7 @@ module _ (s : State) (valid : IsValid s) where
         rank_below in_partition s.objects its_home.home its_home.is_row its_home.is_partition in
         subst (λ (n : ℕ). rank in_partition s.objects n < PARTITIONS) its_home.that (omega (arith, less, few_partitions))
 
-    rank_few : rank (lives_in row.partition.0) s.objects row.serial.0 < PARTITION_PLACES
+    pub rank_few : rank (lives_in row.partition.0) s.objects row.serial.0 < PARTITION_PLACES
     rank_few =
         let alive : lives s.objects its_home.home.serial.0 ≡ true = ap is_some its_home.is_row in
         let some : 0 < row.partition.0 = subst (λ (n : ℕ). 0 < n) its_home.that (lives_some s valid its_home.home.serial.0 alive) in
@@ -233,7 +233,7 @@ module _ (s : State) (valid : IsValid s) where
       subst (λ (n : ℕ). rank (lives_in n) s.objects row.serial.0 ≡ rank (lives_in other.partition.0) s.objects other.serial.0) one_home both.1 in
       same_rank (lives_in other.partition.0) s.objects row other is also (subst (λ (n : ℕ). (row.partition.0 == n) ≡ true) one_home (same_number row.partition.0)) (same_number other.partition.0) ranks
 
-  index_of : (row : ObjectRow) → IsRow s row → boot_index s row.serial.0 ≡ row_index s row
+  pub index_of : (row : ObjectRow) → IsRow s row → boot_index s row.serial.0 ≡ row_index s row
   index_of row is = ap (λ (found : Option ObjectRow). option_map_or (row_index s) found 0) is
 
   -- every object that lives has an index that there is, its own

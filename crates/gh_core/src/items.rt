@@ -1,13 +1,14 @@
 //! The items of a call: each is possible where its turn comes. The functions do nothing; their
 //! clauses are laws.
 
-ghost use Rattle.std.specs.Prelude.{◌≡◌, ◌<◌, ℕ, List, Some, None, IsTrue, true};
+ghost use Rattle.std.specs.Prelude.{◌≡◌, ◌==◌, ◌<◌, ℕ, List, Some, None, IsTrue, false, true};
+ghost use Rattle.gh_base.specs.declared.frame.Frame.{Frame};
 ghost use Rattle.gh_base.specs.declared.limits.TheConstants.{CPUS};
 ghost use Rattle.gh_core.specs.Config.{Config, Current, Holder, IsBetween, present};
 ghost use Rattle.gh_core.specs.Indices.{HasBlocks, boot_index};
 ghost use Rattle.gh_core.specs.Items.{IsSteady, act, item};
 ghost use Rattle.gh_core.specs.Sound.{IsSound};
-ghost use Rattle.gh_core.specs.Start.{AreIndices};
+ghost use Rattle.gh_core.specs.Start.{AreIndices, MayGive, given, start};
 ghost use Rattle.gh_core.specs.Sweep.{HasNotBegun, KeepsNine, sweep};
 ghost use Rattle.gh_core.specs.Trace.{AreDone, after_all};
 ghost use Rattle.gh_core.specs.TurnEvents.{has_causes, ready};
@@ -64,12 +65,15 @@ pub fn acts_are_possible()
         → ready (conf.cpu at) ≡ Some call → (after_all conf (act at conf)).turn ≡ None }
 {}
 
-/// So the next item of every CPU is possible in a steady configuration, and leaves a steady one.
+/// So the next item of every CPU is possible in a steady configuration, and leaves a steady one. The
+/// other CPUs are as they were.
 pub fn items_are_possible()
     ensures possible { (conf : Config) (at : ℕ) → IsSteady conf → at < CPUS
         → AreDone conf (item conf at) }
     ensures steady { (conf : Config) (at : ℕ) → IsSteady conf → at < CPUS
         → IsSteady (after_all conf (item conf at)) }
+    ensures others { (conf : Config) (at cpu : ℕ) → (cpu == at) ≡ false
+        → (after_all conf (item conf at)).cpu cpu ≡ conf.cpu cpu }
 {}
 
 /// The objects of each boot file have indices, each its own: 128 times the place of its partition
@@ -77,4 +81,16 @@ pub fn items_are_possible()
 pub fn boot_objects_have_indices()
     ensures { (lines : List BootLine) → IsTrue (boot_fits lines)
         → AreIndices (boot_state lines) (boot_index (boot_state lines)) }
+{}
+
+/// The start of each boot file is steady with these indices.
+pub fn starts_are_steady()
+    ensures { (lines : List BootLine) → IsTrue (boot_fits lines)
+        → IsSteady (start (boot_state lines) (boot_index (boot_state lines))) }
+{}
+
+/// A call that a CPU is given leaves a steady configuration.
+pub fn given_call_keeps_steady()
+    ensures { (conf : Config) (at number : ℕ) (frame : Frame) → IsSteady conf
+        → MayGive conf at number → IsSteady (given conf at number frame) }
 {}

@@ -57,8 +57,8 @@ pub use grace::{
     undo_keeps_grace, unpin_keeps_grace,
 };
 pub use items::{
-    acts_are_possible, boot_objects_have_indices, call_items_are_possible, items_are_possible,
-    sweeps_are_possible, traces_keep_sound,
+    acts_are_possible, boot_objects_have_indices, call_items_are_possible, given_call_keeps_steady,
+    items_are_possible, starts_are_steady, sweeps_are_possible, traces_keep_sound,
 };
 pub use references::{
     end_keeps_references, enter_keeps_references, given_call_keeps_references,

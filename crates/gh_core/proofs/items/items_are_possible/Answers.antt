@@ -1,5 +1,6 @@
 -- The laws are the lemma.
 use Rattle.gh_core.proofs.ItemsLaw.{item_leads, item_steady}
+use Rattle.gh_core.proofs.OwnEvents.{item_leaves}
 use Rattle.gh_core.proofs.items.items_are_possible.Goals as goal
 
 pub returns-clause-possible : goal.returns-clause-possible
@@ -7,3 +8,6 @@ returns-clause-possible c = λ conf at steady is_cpu. (item_leads conf at steady
 
 pub returns-clause-steady : goal.returns-clause-steady
 returns-clause-steady c = λ conf at steady is_cpu. item_steady conf at steady.sound steady.nine is_cpu steady.free steady.blocks
+
+pub returns-clause-others : goal.returns-clause-others
+returns-clause-others c = λ conf at cpu apart. item_leaves conf at cpu apart
