@@ -1,18 +1,20 @@
 //! What the parts tell of the rows that they stand for. No read takes memory.
 
-ghost use Rattle.std.specs.Prelude.{◌≡◌, find, length};
-ghost use Rattle.gh_model.specs.Rows.{cpu_row as cpu_row_of, is_bell};
+ghost use Rattle.std.specs.Prelude.{◌≡◌, ◌<◌, find, length};
+ghost use Rattle.gh_invariant.specs.Valid.{IsValidWithin};
+ghost use Rattle.gh_model.specs.Rows.{cpu_row as cpu_row_of, is_bell, object_row as object_row_of};
 ghost use Rattle.gh_model.specs.Units.{free_units as free_units_of};
 ghost use Rattle.gh_model.specs.declared.state.State.{State};
 ghost use Rattle.gh_state.specs.Bodies.{bell_in};
+ghost use Rattle.gh_state.specs.ObjectReads.{object_row_at};
 ghost use Rattle.gh_state.specs.Stands.{Stands};
 
 use crate::body::Body;
 use crate::cpus::cpu_row;
 use crate::parts::Parts;
 use crate::units::free_in;
-use gh_base::{CpuNo, Serial};
-use gh_model::{BellRow, CpuRow};
+use gh_base::{CpuNo, OBJECT_INDICES, ObjIndex, Serial};
+use gh_model::{BellRow, CpuRow, ObjectRow};
 
 /// The row of a doorbell's body; none of any other.
 fn bell_row(body: &Body, bell: Serial) -> Option<BellRow>
@@ -33,6 +35,38 @@ fn bell_row(body: &Body, bell: Serial) -> Option<BellRow>
 }
 
 impl Parts {
+    /// The row of the object at an index.
+    fn object_at(&self, index: ObjIndex) -> Option<ObjectRow>
+        requires index { index.0 < OBJECT_INDICES }
+        requires room { length self.now.journal.retirements ≡ OBJECT_INDICES }
+        ensures { result ≡ object_row_at self.now index.0 }
+    {
+        match self.table.get(index) {
+            None => None,
+            Some(header) => Some(ObjectRow {
+                serial: header.serial,
+                kind: header.kind,
+                partition: self.serial_at(header.partition),
+                stage: header.stage,
+                cost: self.shares.cost(index),
+                retired: self.journal.retirements.as_slice()[index.0 as usize],
+            }),
+        }
+    }
+
+    /// The row of an object, by a binary search.
+    pub fn object(&self, object: Serial) -> Option<ObjectRow>
+        ghost s: { State }
+        requires stands { Stands self.now s }
+        requires valid { IsValidWithin s }
+        ensures { result ≡ object_row_of s object.0 }
+    {
+        match self.index(object) {
+            None => None,
+            Some(index) => self.object_at(index),
+        }
+    }
+
     /// The row of a doorbell, by a binary search.
     pub fn bell(&self, bell: Serial) -> Option<BellRow>
         ghost s: { State }
