@@ -1,7 +1,10 @@
 //! What the parts tell of the rows that they stand for. No read takes memory.
 
 ghost use Rattle.std.specs.Prelude.{◌≡◌, ◌<◌, find, length};
+ghost use Rattle.std.specs.List.{list_any};
 ghost use Rattle.gh_invariant.specs.Valid.{IsValidWithin};
+ghost use Rattle.gh_model.specs.ManagerCalls.{is_link_for, is_linked};
+ghost use Rattle.gh_model.specs.QueueCalls.{is_request_queue, is_requests};
 ghost use Rattle.gh_model.specs.Rows.{cpu_row as cpu_row_of, is_bell, object_row as object_row_of};
 ghost use Rattle.gh_model.specs.Units.{free_units as free_units_of};
 ghost use Rattle.gh_model.specs.declared.state.State.{State};
@@ -14,7 +17,7 @@ use crate::cpus::cpu_row;
 use crate::parts::Parts;
 use crate::units::free_in;
 use gh_base::{CpuNo, OBJECT_INDICES, ObjIndex, Serial};
-use gh_model::{BellRow, CpuRow, ObjectRow};
+use gh_model::{BellRow, CpuRow, LinkRow, ObjectRow};
 
 /// The row of a doorbell's body; none of any other.
 fn bell_row(body: &Body, bell: Serial) -> Option<BellRow>
@@ -32,6 +35,20 @@ fn bell_row(body: &Body, bell: Serial) -> Option<BellRow>
         }
         _ => None,
     }
+}
+
+/// Whether a link has this request queue.
+fn requests(all: &[LinkRow], queue: Serial) -> bool
+    ensures { result ≡ list_any (is_requests queue.0) all.now }
+{
+    all.iter().any(|link| link.request == queue)
+}
+
+/// Whether a link is the VM's.
+fn links(all: &[LinkRow], vm: u64) -> bool
+    ensures { result ≡ list_any (is_link_for vm) all.now }
+{
+    all.iter().any(|link| link.vm.0 as u64 == vm)
 }
 
 impl Parts {
@@ -122,5 +139,23 @@ impl Parts {
         ensures { result ≡ s.rings }
     {
         self.journal.rings
+    }
+
+    /// Whether it is the request queue of a link.
+    pub fn is_request_queue(&self, queue: Serial) -> bool
+        ghost s: { State }
+        requires { Stands self.now s }
+        ensures { result ≡ is_request_queue s queue }
+    {
+        requests(self.journal.links.as_slice(), queue)
+    }
+
+    /// Whether the VM is linked.
+    pub fn is_linked(&self, vm: u64) -> bool
+        ghost s: { State }
+        requires { Stands self.now s }
+        ensures { result ≡ is_linked s vm }
+    {
+        links(self.journal.links.as_slice(), vm)
     }
 }
