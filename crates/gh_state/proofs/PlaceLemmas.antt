@@ -1,5 +1,6 @@
 -- What is at each index once what is at one of them is another.
-use Rattle.std.proofs.Common.{◌≡◌, ◌≢◌, ◌<◌, ◌≤◌, ◌∙◌, ◌/◌, ◌%◌, ◌*◌, ◌+◌, ℕ, List, [], Option, None, refl, sym, ap, subst, arith, inl, inr, length}
+use Rattle.std.proofs.Common.{◌≡◌, ◌≢◌, ◌<◌, ◌≤◌, ◌∙◌, ◌/◌, ◌%◌, ◌*◌, ◌+◌, ℕ, List, [], Option, None, refl, sym, ap, subst, arith}
+use Rattle.std.proofs.Common.{inl, inr, length}
 use Rattle.std.proofs.Common.{set, get_or}
 use Rattle.std.specs.Prelude.{All}
 use Rattle.std.proofs.lemmas.Bool.{cases_lt, cases_eq}

@@ -1,20 +1,30 @@
 -- What the parts tell of bells and units is what the rows say.
-use Rattle.std.proofs.Common.{◌≡◌, ◌∙◌, ◌-◌, ℕ, Option, Some, None, refl, sym, ap, arith, find}
-use Rattle.std.specs.Option.{option_map}
+use Rattle.std.proofs.Common.{◌≡◌, ◌∙◌, ◌-◌, ℕ, true, List, Option, Some, None, refl, sym, ap, arith, find}
+use Rattle.std.specs.Prelude.{slice_index_or}
+use Rattle.std.specs.Option.{option_map, option_map_or}
+use Rattle.std.proofs.lemmas.List.{get_or_past}
 use Rattle.std.proofs.lemmas.Bool.{eqb-true}
 use Rattle.gh_base.specs.declared.ids.ObjIndex.{ObjIndex}
-use Rattle.gh_invariant.proofs.Counting.{found_passes}
-use Rattle.gh_model.specs.Rows.{is_bell, is_partition}
+use Rattle.gh_base.specs.declared.ids.Serial.{Serial}
+use Rattle.gh_base.specs.declared.kind.Kind.TheVariants as kind
+use Rattle.gh_invariant.proofs.Counting.{found_all, found_passes}
+use Rattle.gh_invariant.specs.Lives.{is_housed}
+use Rattle.gh_invariant.specs.Valid.{IsValidWithin}
+use Rattle.gh_model.specs.Rows.{is_bell, is_object, is_partition}
 use Rattle.gh_model.specs.Units.{free_units, given_by, row_quota, used_by}
+use Rattle.gh_model.specs.declared.rows.ObjectRow.{ObjectRow}
 use Rattle.gh_model.specs.declared.rows.PartitionRow.{PartitionRow}
 use Rattle.gh_model.specs.declared.state.State.{State}
 use Rattle.gh_state.specs.Accounts.{free_of}
 use Rattle.gh_state.specs.Bodies.{bell_in}
-use Rattle.gh_state.specs.Index.{found_index, index_of}
-use Rattle.gh_state.specs.Shares.{body_at}
-use Rattle.gh_state.specs.Stands.{Stands, account_of, is_account}
+use Rattle.gh_state.specs.Index.{found_index, index_of, serial_at}
+use Rattle.gh_state.specs.ObjectReads.{object_row_at, row_of_header}
+use Rattle.gh_objects.specs.declared.header.Header.{Header}
+use Rattle.gh_state.specs.Shares.{body_at, place_at}
+use Rattle.gh_state.specs.Stands.{Stands, account_of, header_of, is_account}
 use Rattle.gh_state.specs.declared.parts.Parts.{Parts}
 use Rattle.gh_state.proofs.BodyLemmas.{body_none}
+use Rattle.gh_state.proofs.Living.{There, kind_there}
 use Rattle.gh_state.proofs.IndexLemmas.{found_at, unfound_past}
 
 module _ (parts : Parts) (s : State) (stand : Stands parts s) where
@@ -46,3 +56,56 @@ module _ (parts : Parts) (s : State) (stand : Stands parts s) where
   pub free_told : (serial : ℕ) → free_of (find (is_account serial) parts.journal.accounts) ≡ free_units s serial
   free_told serial =
       ap free_of (stand.units serial) ∙ free_by serial (find (is_partition serial) s.partitions) refl
+
+  -- an object's row
+  module _ (valid : IsValidWithin s) where
+    partition_serial : (row : ObjectRow) → is_housed s.objects row ≡ true
+        → serial_at parts.table.headers (index_of parts.table.headers row.partition.0) ≡ row.partition
+    partition_serial row housed =
+        let home : There (find (is_object row.partition.0) s.objects) =
+        kind_there kind.Partition (find (is_object row.partition.0) s.objects) housed in
+        ap (λ (header : Option Header). option_map_or (λ (h : Header). h.serial) header (record { 0 = 0 }))
+        (stand.objects.each row.partition.0 ∙ ap (option_map (header_of parts.table.headers)) home.is)
+        ∙ ap (λ (n : ℕ). record { 0 = n })
+        (eqb-true home.it.serial.0 row.partition.0 (found_passes (is_object row.partition.0) s.objects home.it home.is))
+
+    row_told : (serial : ℕ) (row : ObjectRow) → find (is_object serial) s.objects ≡ Some row
+        → row_of_header parts (index_of parts.table.headers serial) (header_of parts.table.headers row) ≡ row
+    row_told serial row is =
+        ap (λ (partition : Serial). record row {
+          partition = partition;
+          cost = (place_at parts.shares (index_of parts.table.headers serial)).cost;
+          retired = slice_index_or parts.journal.retirements (index_of parts.table.headers serial) None;
+        })
+        (partition_serial row (found_all (is_object serial) (is_housed s.objects) s.objects row valid.objects.housed is))
+        ∙ ap (λ (cost : ℕ). record row {
+          cost = cost;
+          retired = slice_index_or parts.journal.retirements (index_of parts.table.headers serial) None;
+        })
+        (stand.objects.costs serial row is)
+        ∙ ap (λ (retired : Option (List ℕ)). record row { retired = retired }) (stand.objects.retired serial row is)
+
+    object_by : (serial : ℕ) (found : Option ObjectRow) → find (is_object serial) s.objects ≡ found
+        → option_map (row_of_header parts (index_of parts.table.headers serial))
+        (option_map (header_of parts.table.headers) found) ≡ found
+    object_by serial None is = refl
+    object_by serial (Some row) is = ap Some (row_told serial row is)
+
+    pub object_told : (serial : ℕ)
+        → object_row_at parts (index_of parts.table.headers serial) ≡ find (is_object serial) s.objects
+    object_told serial =
+        ap (option_map (row_of_header parts (index_of parts.table.headers serial))) (stand.objects.each serial)
+        ∙ object_by serial (find (is_object serial) s.objects) refl
+
+    pub object_found : (serial : ℕ) (index : ObjIndex) → Some index ≡ found_index parts.table.headers serial
+        → object_row_at parts index.0 ≡ find (is_object serial) s.objects
+    object_found serial index found =
+        ap (object_row_at parts) (sym (found_at parts.table.headers serial index (sym found))) ∙ object_told serial
+
+    pub object_unfound : (serial : ℕ) → None ≡ found_index parts.table.headers serial
+        → None ≡ find (is_object serial) s.objects
+    object_unfound serial none =
+        ap (option_map (row_of_header parts (index_of parts.table.headers serial)))
+        (sym (get_or_past parts.table.headers (index_of parts.table.headers serial) None
+        (unfound_past parts.table.headers serial (sym none))))
+        ∙ object_told serial

@@ -7,6 +7,7 @@ pub mod Making
 pub mod MappingChanges
 pub mod MemoryChanges
 pub mod NumberChanges
+pub mod ObjectReads
 pub mod Owing
 pub mod Shares
 pub mod SlotChanges

@@ -44,7 +44,7 @@ impl Parts {
     }
 
     /// The serial of the object at an index; 0 where there is none.
-    fn serial_at(&self, index: ObjIndex) -> Serial
+    pub(crate) fn serial_at(&self, index: ObjIndex) -> Serial
         ensures { result ≡ serial_at self.now.table.headers index.0 }
     {
         match self.table.get(index) {

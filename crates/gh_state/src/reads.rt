@@ -1,18 +1,23 @@
 //! What the parts tell of the rows that they stand for. No read takes memory.
 
-ghost use Rattle.std.specs.Prelude.{◌≡◌, find, length};
-ghost use Rattle.gh_model.specs.Rows.{cpu_row as cpu_row_of, is_bell};
+ghost use Rattle.std.specs.Prelude.{◌≡◌, ◌<◌, find, length};
+ghost use Rattle.std.specs.List.{list_any};
+ghost use Rattle.gh_invariant.specs.Valid.{IsValidWithin};
+ghost use Rattle.gh_model.specs.ManagerCalls.{is_link_for, is_linked};
+ghost use Rattle.gh_model.specs.QueueCalls.{is_request_queue, is_requests};
+ghost use Rattle.gh_model.specs.Rows.{cpu_row as cpu_row_of, is_bell, object_row as object_row_of};
 ghost use Rattle.gh_model.specs.Units.{free_units as free_units_of};
 ghost use Rattle.gh_model.specs.declared.state.State.{State};
 ghost use Rattle.gh_state.specs.Bodies.{bell_in};
+ghost use Rattle.gh_state.specs.ObjectReads.{object_row_at};
 ghost use Rattle.gh_state.specs.Stands.{Stands};
 
 use crate::body::Body;
 use crate::cpus::cpu_row;
 use crate::parts::Parts;
 use crate::units::free_in;
-use gh_base::{CpuNo, Serial};
-use gh_model::{BellRow, CpuRow};
+use gh_base::{CpuNo, OBJECT_INDICES, ObjIndex, Serial};
+use gh_model::{BellRow, CpuRow, LinkRow, ObjectRow};
 
 /// The row of a doorbell's body; none of any other.
 fn bell_row(body: &Body, bell: Serial) -> Option<BellRow>
@@ -32,7 +37,53 @@ fn bell_row(body: &Body, bell: Serial) -> Option<BellRow>
     }
 }
 
+/// Whether a link has this request queue.
+fn requests(all: &[LinkRow], queue: Serial) -> bool
+    ensures { result ≡ list_any (is_requests queue.0) all.now }
+{
+    all.iter().any(|link| link.request == queue)
+}
+
+/// Whether a link is the VM's.
+fn links(all: &[LinkRow], vm: u64) -> bool
+    ensures { result ≡ list_any (is_link_for vm) all.now }
+{
+    all.iter().any(|link| link.vm.0 as u64 == vm)
+}
+
 impl Parts {
+    /// The row of the object at an index.
+    fn object_at(&self, index: ObjIndex) -> Option<ObjectRow>
+        requires index { index.0 < OBJECT_INDICES }
+        requires room { length self.now.journal.retirements ≡ OBJECT_INDICES }
+        ensures { result ≡ object_row_at self.now index.0 }
+    {
+        match self.table.get(index) {
+            None => None,
+            Some(header) => Some(ObjectRow {
+                serial: header.serial,
+                kind: header.kind,
+                partition: self.serial_at(header.partition),
+                stage: header.stage,
+                cost: self.shares.cost(index),
+                retired: self.journal.retirements.as_slice()[index.0 as usize],
+            }),
+        }
+    }
+
+    /// The row of an object, by a binary search.
+    pub fn object(&self, object: Serial) -> Option<ObjectRow>
+        ghost s: { State }
+        requires stands { Stands self.now s }
+        requires valid { IsValidWithin s }
+        ensures { result ≡ object_row_of s object.0 }
+    {
+        match self.index(object) {
+            None => None,
+            Some(index) => self.object_at(index),
+        }
+    }
+
     /// The row of a doorbell, by a binary search.
     pub fn bell(&self, bell: Serial) -> Option<BellRow>
         ghost s: { State }
@@ -88,5 +139,23 @@ impl Parts {
         ensures { result ≡ s.rings }
     {
         self.journal.rings
+    }
+
+    /// Whether it is the request queue of a link.
+    pub fn is_request_queue(&self, queue: Serial) -> bool
+        ghost s: { State }
+        requires { Stands self.now s }
+        ensures { result ≡ is_request_queue s queue }
+    {
+        requests(self.journal.links.as_slice(), queue)
+    }
+
+    /// Whether the VM is linked.
+    pub fn is_linked(&self, vm: u64) -> bool
+        ghost s: { State }
+        requires { Stands self.now s }
+        ensures { result ≡ is_linked s vm }
+    {
+        links(self.journal.links.as_slice(), vm)
     }
 }

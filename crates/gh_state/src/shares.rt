@@ -1,7 +1,8 @@
 //! The shares of the partition places: what the objects of each have beside their headers.
 
 ghost use Rattle.std.specs.Prelude.{◌≡◌, ◌<◌, IfOk, length, replicate};
-ghost use Rattle.gh_state.specs.Shares.{AreShares, no_place, no_shares, body_at, place_in};
+ghost use Rattle.gh_state.specs.Shares.{AreShares, no_place, no_shares, body_at, place_at};
+ghost use Rattle.gh_state.specs.Shares.{place_in};
 ghost use Rattle.gh_state.specs.Shares.{with_body, with_body_in, with_cost_at, with_cost_in};
 
 use crate::body::Body;
@@ -75,6 +76,14 @@ impl Share {
         mem::replace(&mut self.places[at].body, body)
     }
 
+    /// The units that the object at a place costs.
+    fn cost(&self, at: usize) -> u16
+        requires { at < length self.now }
+        ensures { result ≡ (place_in self.now at).cost }
+    {
+        self.places[at].cost
+    }
+
     /// The body at a place.
     fn body(&self, at: usize) -> &Body
         requires { at < length self.now }
@@ -120,6 +129,15 @@ impl Shares {
     {
         let index = index.0 as usize;
         self.shares[index / PARTITION_PLACES].exchange(index % PARTITION_PLACES, body)
+    }
+
+    /// The units that the object at an index costs.
+    pub fn cost(&self, index: ObjIndex) -> u16
+        requires { index.0 < OBJECT_INDICES }
+        ensures { result ≡ (place_at self.now index.0).cost }
+    {
+        let index = index.0 as usize;
+        self.shares[index / PARTITION_PLACES].cost(index % PARTITION_PLACES)
     }
 
     /// The body at an index.

@@ -1,0 +1,13 @@
+-- What is at the object's index is its row.
+use Rattle.std.proofs.Common.{◌∙◌}
+use Rattle.gh_state.proofs.ReadLemmas.{object_found, object_unfound}
+use Rattle.gh_state.proofs.parts.Parts.object.Goals as goal
+
+pub returns-in-None : goal.returns-in-None
+returns-in-None g c =
+    object_unfound c.args.self.now g.s c.requires.0 c.requires.1 c.args.object.0 c.in-None.ensures.found
+
+pub returns-in-Some : goal.returns-in-Some
+returns-in-Some g c =
+    c.object_at.ensures
+    ∙ object_found c.args.self.now g.s c.requires.0 c.requires.1 c.args.object.0 c.in-Some.index c.in-Some.ensures.found
