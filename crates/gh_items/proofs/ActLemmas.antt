@@ -9,7 +9,7 @@ use Rattle.gh_core.specs.Committing.{cpu_no}
 use Rattle.gh_core.specs.Config.{AtAct, Config, Cpu, Current, Stage, judged, present, put}
 use Rattle.gh_core.specs.Entries.{logged}
 use Rattle.gh_core.specs.HolderEvents.{is_create}
-use Rattle.gh_core.specs.Items.{act, acting, freeing, judged_in, object_revoked, parts, plain_caps, preparing, prepares, sweeps, taking, unpins}
+use Rattle.gh_core.specs.Items.{act, acting, freeing, object_revoked, parts, plain_caps, preparing, prepares, sweeps, taking, unpins}
 use Rattle.gh_core.specs.Running.{current_of}
 use Rattle.gh_core.specs.Sound.{IsSound}
 use Rattle.gh_core.specs.Sweep.{HasNotBegun, sweep}
@@ -30,7 +30,7 @@ use Rattle.gh_core.proofs.SweepSteps.{IsSweeping}
 use Rattle.gh_core.proofs.TraceLaws.{Leads, after_append}
 use Rattle.gh_core.proofs.TurnItems.{may_take, take_begins}
 use Rattle.gh_core.proofs.ValidEntries.{event_fits}
-use Rattle.gh_items.specs.Acts.{ActsNext, act_entry, after_judged, in_state, with_judged}
+use Rattle.gh_items.specs.Acts.{ActsNext, act_entry, after_judged, judged_in, in_state, with_judged}
 use Rattle.gh_items.specs.Stands.{Stands, with_call}
 use Rattle.gh_items.specs.declared.progress.Progress.{Progress}
 use Rattle.gh_items.specs.declared.progress.Seat.{Seat}
@@ -52,10 +52,10 @@ module _ (conf : Config) (at : ℕ) (call : Current) (next : ActsNext conf at ca
   Taken = taken conf at
 
   taken_sound : IsSound (taken conf at)
-  taken_sound = event_keeps_sound conf (Take (cpu_no at)) next.sound (may_take conf at next.sound next.is_cpu next.free call next.is_ready)
+  taken_sound = event_keeps_sound conf (Take (cpu_no at)) next.steady.sound (may_take conf at next.steady.sound next.is_cpu next.steady.free call next.is_ready)
 
   begins : HasNotBegun (taken conf at) at
-  begins = take_begins conf at next.sound next.is_cpu next.free call next.is_ready
+  begins = take_begins conf at next.steady.sound next.is_cpu next.steady.free call next.is_ready
 
   its_call : begins.call ≡ call
   its_call =
@@ -64,12 +64,12 @@ module _ (conf : Config) (at : ℕ) (call : Current) (next : ActsNext conf at ca
       cc
 
   sweeping : IsSweeping (taken conf at) at begins.call
-  sweeping = is_sweeping (taken conf at) at taken_sound next.few next.is_cpu begins
+  sweeping = is_sweeping (taken conf at) at taken_sound next.is_cpu (record { partitions = next.steady.blocks.partitions; others = next.steady.blocks.others }) begins
 
   -- the configuration in which the act is judged
   pub prepared : IsPrepared (judged_in conf at) at call
   unfolding and_then taking
-  prepared = subst (IsPrepared (after_all (taken conf at) (preparing at (taken conf at))) at) its_call (preparing_leads at begins.call (taken conf at) sweeping next.nine).behind
+  prepared = subst (IsPrepared (after_all (taken conf at) (preparing at (taken conf at))) at) its_call (preparing_leads at begins.call (taken conf at) sweeping next.steady.nine).behind
 
   -- the item leads on from it
   pub act_is : after_all conf (act at conf) ≡ after_judged (judged_in conf at) at

@@ -2,9 +2,9 @@
 use Rattle.std.specs.Prelude.{◌≡◌, ◌<◌, ℕ, List, [], ◌∷◌, ◌++◌, Option, Some, None}
 use Rattle.gh_base.specs.declared.limits.TheConstants.{CPUS}
 use Rattle.gh_base.specs.declared.mark.End.TheVariants as ends
-use Rattle.gh_core.specs.Committing.{HasFewReferences, cpu_no}
+use Rattle.gh_core.specs.Committing.{cpu_no}
 use Rattle.gh_core.specs.Config.{Config, Current}
-use Rattle.gh_core.specs.Items.{HasFreeIndex, acting, freeing, judged_in, unpins}
+use Rattle.gh_core.specs.Items.{IsSteady, acting, freeing, preparing, taking, unpins}
 use Rattle.gh_core.specs.Sound.{IsSound}
 use Rattle.gh_core.specs.Sweep.{KeepsNine}
 use Rattle.gh_core.specs.Trace.{after_all, and_then}
@@ -44,13 +44,12 @@ abbrev pub after_judged : Config → ℕ → Config
 after_judged conf at =
     after_all conf (and_then (acting at) (and_then (freeing at) (unpins at)) conf)
 
--- a CPU's call is at its act in a sound configuration with a free turn; an object that it makes has
--- a free index
+-- the configuration in which the act is judged: the turn is taken, and the sweep or the parts are made
+abbrev pub judged_in : Config → ℕ → Config
+judged_in conf at = after_all conf (and_then (taking at) (preparing at) conf)
+
+-- a CPU's call is at its act in a steady configuration
 pub record ActsNext (conf : Config) (at : ℕ) (call : Current) : Type 0 where
-  pub sound : IsSound conf
-  pub few : HasFewReferences conf.boot
-  pub nine : KeepsNine conf.history
+  pub steady : IsSteady conf
   pub is_cpu : at < CPUS
-  pub free : conf.turn ≡ None
   pub is_ready : ready (conf.cpu at) ≡ Some call
-  pub has_index : HasFreeIndex (judged_in conf at) at

@@ -2,12 +2,12 @@
 
 ghost use Rattle.std.specs.Prelude.{◌≡◌, ◌+◌, ◌<◌, length, false, OnOk, Some};
 ghost use Rattle.gh_core.specs.Config.{Config};
-ghost use Rattle.gh_core.specs.Items.{act, judged_in, sweeps};
+ghost use Rattle.gh_core.specs.Items.{act, sweeps};
 ghost use Rattle.gh_core.specs.Running.{current_of};
 ghost use Rattle.gh_core.specs.Trace.{after_all};
 ghost use Rattle.gh_core.specs.TurnEvents.{taken};
 ghost use Rattle.gh_core.specs.declared.current.CallStage.TheVariants.{AtAct};
-ghost use Rattle.gh_items.specs.Acts.{ActsNext, with_judged};
+ghost use Rattle.gh_items.specs.Acts.{judged_in, ActsNext, with_judged};
 ghost use Rattle.gh_items.specs.Stands.{Stands, with_call};
 ghost use Rattle.gh_model.specs.Legal.{is_revoke};
 

@@ -1,9 +1,9 @@
 -- The seat has room for the call, and the call ends as its act was judged.
 use Rattle.std.proofs.Common.{◌∙◌, ap, subst, sym}
-use Rattle.gh_core.specs.Items.{act, judged_in}
+use Rattle.gh_core.specs.Items.{act}
 use Rattle.gh_core.specs.Running.{current_of}
 use Rattle.gh_core.specs.Trace.{after_all}
-use Rattle.gh_items.specs.Acts.{with_judged}
+use Rattle.gh_items.specs.Acts.{judged_in, with_judged}
 use Rattle.gh_items.specs.Stands.{Stands}
 use Rattle.gh_items.specs.declared.progress.Progress.{Progress}
 use Rattle.gh_items.proofs.ActLemmas.{entries_few, judged_stands, prepared}
