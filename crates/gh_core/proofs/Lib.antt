@@ -87,7 +87,6 @@ pub mod LookRoom
 pub mod NoPins
 pub mod OweKeeps
 pub mod OwedLemmas
-pub mod Owing
 pub mod OwingSteps
 pub mod OwnEvents
 pub mod PartCalls
