@@ -1,6 +1,6 @@
 -- The whole act of a call is possible in a sound configuration with a free turn.
-use Rattle.std.proofs.Common.{◌≡◌, ◌==◌, ◌<◌, ◌∙◌, ◌⊎◌, inl, inr, ℕ, Bool, true, false, not, List, [], ◌∷◌, ◌++◌, refl, subst, sym, ap, length, map, Option, Some, None, is_some, if◌then◌else◌}
-use Rattle.std.specs.Prelude.{◌&&◌, ◌||◌, slice_index}
+use Rattle.std.proofs.Common.{◌≡◌, ◌==◌, ◌<◌, ◌∙◌, ℕ, Bool, true, false, not, [], ◌∷◌, refl, subst, sym, ap, length, map, Option, Some, None, is_some, if◌then◌else◌}
+use Rattle.std.specs.Prelude.{◌&&◌}
 use Rattle.gh_base.specs.Errno.{errno_number}
 use Rattle.gh_base.specs.Reply.{refusal}
 use Rattle.gh_base.specs.declared.call.Call.{Call}
@@ -9,21 +9,20 @@ use Rattle.gh_base.specs.declared.errno.Errno.{Errno}
 use Rattle.gh_base.specs.declared.errno.Errno.TheVariants as errno
 use Rattle.gh_base.specs.declared.frame.Reply.{Reply}
 use Rattle.gh_base.specs.declared.limits.TheConstants.{CPUS}
-use Rattle.gh_model.specs.Act.{Verdict, Done, Refused, grants_of}
+use Rattle.gh_model.specs.Act.{Refused, grants_of}
 use Rattle.gh_model.specs.Decide.{decision, has_moved, verdict}
 use Rattle.gh_model.specs.Legal.{is_revoke, is_short}
 use Rattle.gh_model.specs.Marks.{word_of}
 use Rattle.gh_model.specs.declared.change.Decision.{Decision}
 use Rattle.gh_model.specs.declared.change.Decision.TheVariants.{Refuse, Unfinished, Make}
 use Rattle.gh_model.specs.declared.entry.Entry.TheVariants.{Acted}
-use Rattle.gh_model.specs.declared.rows.ObjectRow.{ObjectRow}
 use Rattle.gh_model.specs.declared.state.State.{State}
 use Rattle.gh_invariant.specs.Events.{EventFits}
 use Rattle.gh_invariant.specs.Premises.{MayChangeAll}
 use Rattle.gh_invariant.proofs.EventWords.{event_may}
 use Rattle.gh_model.specs.ObjectCalls.{new_master, new_object}
 use Rattle.gh_model.specs.declared.change.Change.TheVariants.{AddObject, PutCapability}
-use Rattle.gh_core.specs.Committing.{committing, cpu_no}
+use Rattle.gh_core.specs.Committing.{cpu_no}
 use Rattle.gh_core.specs.Config.{Config, Current, Holder, entries, has_acted, has_part, judged, present}
 use Rattle.gh_core.specs.Entries.{logged}
 use Rattle.gh_core.specs.HolderEvents.{is_done}
@@ -35,7 +34,7 @@ use Rattle.gh_core.specs.Calls.{stands_open}
 use Rattle.gh_core.specs.Items.{act, acting, freeing, object_revoked, parts, plain_caps, preparing, prepares, sweeps, taking, unpins}
 use Rattle.gh_core.specs.Sound.{IsSound}
 use Rattle.gh_core.specs.Sweep.{HasNotBegun, KeepsNine, sweep}
-use Rattle.gh_core.specs.Trace.{AreDone, after_all, and_then}
+use Rattle.gh_core.specs.Trace.{after_all, and_then}
 use Rattle.gh_core.specs.TurnEvents.{Ending, ending, has_causes, ready, refused_ending, short_ending, taken}
 use Rattle.gh_core.specs.declared.event.Event.TheVariants.{Take}
 use Rattle.gh_core.proofs.Acting.{IsDone, IsJudged, acted_allows, acting_leads}
@@ -52,7 +51,7 @@ use Rattle.gh_core.proofs.SoundEvents.{event_keeps_sound}
 use Rattle.gh_core.proofs.SweepLaw.{is_sweeping}
 use Rattle.gh_core.proofs.SweepRounds.{IsSwept, sweep_leads}
 use Rattle.gh_core.proofs.SweepSteps.{IsScanned, IsSweeping}
-use Rattle.gh_core.proofs.TraceLaws.{Leads, after_append, leads_none, leads_so, leads_then}
+use Rattle.gh_core.proofs.TraceLaws.{Leads, leads_none, leads_so, leads_then}
 use Rattle.gh_core.proofs.TraceSound.{trace_nine}
 use Rattle.gh_core.proofs.TurnItems.{HasActed, HasEnded, free_leads, may_take, take_begins, take_leads}
 

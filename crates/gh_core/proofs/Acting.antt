@@ -1,10 +1,9 @@
 -- The act's entry: where the act is done in the present state it is committed, and where it is
 -- refused the call ends without one.
-use Rattle.std.proofs.Common.{◌≡◌, ◌==◌, ◌+◌, ◌-◌, ◌<◌, ◌≤◌, ◌∙◌, ◌⊎◌, inl, inr, ℕ, Bool, true, false, not, List, [], ◌∷◌, ◌++◌, refl, subst, sym, ap, arith, length, length-append, map, Option, Some, None, find, is_some, if◌then◌else◌}
-use Rattle.std.specs.Prelude.{◌&&◌, ◌||◌, take}
+use Rattle.std.proofs.Common.{◌≡◌, ◌==◌, ◌+◌, ◌-◌, ◌<◌, ◌∙◌, ◌⊎◌, inl, inr, ℕ, Bool, true, false, List, [], ◌∷◌, ◌++◌, refl, subst, sym, ap, arith, length, length-append, map, Option, Some, None, find, is_some, if◌then◌else◌}
+use Rattle.std.specs.Prelude.{◌&&◌, ◌||◌}
 use Rattle.std.specs.List.{list_any}
 use Rattle.std.proofs.lemmas.Bool.{and_from}
-use Rattle.std.proofs.lemmas.Bool.Decides.{nat_tests}
 use Rattle.std.proofs.lemmas.List.{take-append-le}
 use Rattle.std.proofs.lemmas.List.Folds.{list_any-append}
 use Rattle.std.proofs.lemmas.List.Sums.{fold-append}
@@ -12,7 +11,7 @@ use Rattle.gh_base.specs.declared.cap_word.CapWord.{CapWord}
 use Rattle.gh_base.specs.declared.frame.Reply.{Reply}
 use Rattle.gh_model.specs.Act.{Verdict, Done, Refused}
 use Rattle.gh_model.specs.History as history
-use Rattle.gh_model.specs.Marks.{Grants, word_of}
+use Rattle.gh_model.specs.Marks.{word_of}
 use Rattle.gh_model.specs.Registers.{needs_of}
 use Rattle.gh_model.specs.Rows.{cpu_row, is_object}
 use Rattle.gh_model.specs.declared.entry.Entry.{Entry}
@@ -21,11 +20,10 @@ use Rattle.gh_model.specs.declared.rows.CpuRow.{CpuRow}
 use Rattle.gh_model.specs.declared.state.State.{State}
 use Rattle.gh_model.proofs.Looks.{grants_are}
 use Rattle.gh_model.proofs.RunLists.{take_all}
-use Rattle.gh_invariant.specs.Events.{changes_of}
 use Rattle.gh_invariant.specs.Grants.{is_running}
 use Rattle.gh_invariant.specs.Lives.{lives}
 use Rattle.gh_core.specs.Committing.{committing, cpu_no}
-use Rattle.gh_core.specs.Config.{AtAct, Config, Cpu, Current, HasTurn, Holder, IsIn, entries, has_acted, is_acted, judged, present, some_killed}
+use Rattle.gh_core.specs.Config.{Config, Current, Holder, entries, has_acted, is_acted, judged, present}
 use Rattle.gh_core.specs.Entries.{Allows, logged}
 use Rattle.gh_core.specs.HolderEvents.{is_done}
 use Rattle.gh_core.specs.Indices.{InBlocks}

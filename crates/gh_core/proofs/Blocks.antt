@@ -1,6 +1,6 @@
 -- A new object finds a free index: its partition's block has more indices than the partition can pay
 -- objects, and there are more blocks than partitions.
-use Rattle.std.proofs.Common.{◌≡◌, ◌==◌, ◌+◌, ◌-◌, ◌*◌, ◌/◌, ◌%◌, ◌<◌, ◌≤◌, ◌∙◌, ◌⊎◌, inl, inr, ℕ, zero, suc, Bool, true, false, not, List, [], ◌∷◌, refl, subst, sym, ap, arith, IsTrue, filter, map, slice_get, Option, Some, None, find, is_some, if◌then◌else◌}
+use Rattle.std.proofs.Common.{◌≡◌, ◌==◌, ◌+◌, ◌*◌, ◌%◌, ◌<◌, ◌≤◌, ◌∙◌, inl, inr, ℕ, zero, suc, Bool, true, false, not, List, [], ◌∷◌, refl, subst, sym, ap, arith, filter, map, Option, Some, None, find, is_some, if◌then◌else◌}
 use Rattle.std.specs.Prelude.{◌&&◌, ◌||◌, count_by, nat_le, nat_lt, sum_by}
 use Rattle.std.specs.List.{list_any, range_with_len}
 use Rattle.std.specs.Option.{option_map_or, unwrap_or}
@@ -9,7 +9,7 @@ use Rattle.std.proofs.lemmas.Bool.Decides.{eqb_tells, nat_tests}
 use Rattle.std.proofs.lemmas.List.Sums.{sum_by-cons}
 use Rattle.gh_base.specs.declared.kind.Kind.{Kind}
 use Rattle.gh_base.specs.declared.kind.Kind.TheVariants as kind
-use Rattle.gh_base.specs.declared.limits.TheConstants.{OBJECT_INDICES, PARTITION_PLACES, PARTITION_UNITS, PARTITIONS}
+use Rattle.gh_base.specs.declared.limits.TheConstants.{OBJECT_INDICES, PARTITION_UNITS}
 use Rattle.gh_base.specs.Kind.{kind_number}
 use Rattle.gh_model.specs.Boot.{is_of_kind}
 use Rattle.gh_model.specs.ObjectCalls.{is_full}
@@ -22,7 +22,7 @@ use Rattle.gh_model.specs.declared.state.State.{State}
 use Rattle.gh_invariant.specs.Lives.{cost_fits, giver, lives_under, quota_fits}
 use Rattle.gh_invariant.specs.Premises.{MayAdd}
 use Rattle.gh_invariant.specs.Valid.{IsValid}
-use Rattle.gh_invariant.proofs.Counting.{count_cons, found_all, found_one, one_false, one_true}
+use Rattle.gh_invariant.proofs.Counting.{count_cons, found_all, found_one, one_true}
 use Rattle.gh_invariant.proofs.Referred.{found_counted}
 use Rattle.gh_core.specs.Config.{is_at, object_at}
 use Rattle.gh_core.specs.Indices.{InBlocks, block_at, free_index, free_place, has_place, is_free, is_free_place, is_partition_kind, new_index, place_of}
@@ -31,7 +31,7 @@ use Rattle.gh_core.specs.Start.{AreIndices}
 use Rattle.gh_core.proofs.Boxes.{Each, more_pass}
 use Rattle.gh_core.proofs.CausesHeld.{stands_found}
 use Rattle.gh_core.proofs.EntryBalance.{lives_some}
-use Rattle.gh_core.proofs.EntryMoves.{there_index, there_lives}
+use Rattle.gh_core.proofs.EntryMoves.{there_index}
 use Rattle.gh_core.proofs.Finding.{found_passes, same_number}
 use Rattle.gh_core.proofs.GraceTurn.{found_fails}
 use Rattle.gh_core.proofs.KilledNone.{own_row}

@@ -1,5 +1,5 @@
 -- Objects stay in the blocks of their partitions: no entry changes an object's kind or partition.
-use Rattle.std.proofs.Common.{◌≡◌, ◌==◌, ◌+◌, ◌%◌, ◌<◌, ◌∙◌, ◌⊎◌, inl, inr, ℕ, Bool, true, false, List, [], ◌∷◌, refl, subst, sym, ap, arith, IsTrue, Option, Some, None, find, is_some, if◌then◌else◌}
+use Rattle.std.proofs.Common.{◌≡◌, ◌%◌, ◌∙◌, inl, inr, ℕ, Bool, true, false, List, [], ◌∷◌, refl, subst, sym, ap, IsTrue, Option, Some, None, find, is_some, if◌then◌else◌}
 use Rattle.std.specs.Prelude.{◌&&◌, option_map}
 use Rattle.std.specs.List.{list_all}
 use Rattle.std.proofs.lemmas.Bool.{and_parts, eqb-true}
@@ -20,8 +20,7 @@ use Rattle.gh_model.specs.declared.entry.Entry.{Entry}
 use Rattle.gh_model.specs.declared.entry.Entry.TheVariants.{Acted, Part, Retired, Reclaimed}
 use Rattle.gh_model.specs.declared.rows.ObjectRow.{ObjectRow}
 use Rattle.gh_model.specs.declared.state.State.{State}
-use Rattle.gh_invariant.specs.Events.{changes_of, entry_changes, judged_by, made_by}
-use Rattle.gh_invariant.specs.Lives.{lives}
+use Rattle.gh_invariant.specs.Events.{entry_changes, judged_by, made_by}
 use Rattle.gh_invariant.proofs.ChangedRow.{find_change_seen}
 use Rattle.gh_invariant.proofs.SetsOne.{keeps_objects}
 use Rattle.gh_core.specs.Committing.{added}

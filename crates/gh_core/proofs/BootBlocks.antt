@@ -1,18 +1,14 @@
 -- The objects of each boot file lie in the blocks of their partitions.
-use Rattle.std.proofs.Common.{◌≡◌, ◌==◌, ◌+◌, ◌*◌, ◌/◌, ◌%◌, ◌<◌, ◌≤◌, ◌∙◌, ◌++◌, ℕ, Bool, true, false, not, List, [], ◌∷◌, refl, subst, sym, ap, arith, fold, IsTrue, Option, Some, None, find}
+use Rattle.std.proofs.Common.{◌≡◌, ◌==◌, ◌+◌, ◌*◌, ◌<◌, ◌≤◌, ◌∙◌, ◌++◌, ℕ, Bool, true, false, not, List, [], ◌∷◌, refl, subst, sym, ap, arith, fold, IsTrue, Option, Some, None, find}
 use Rattle.std.specs.Prelude.{◌&&◌, ◌||◌, count_by, nat_le, nat_lt}
 use Rattle.std.specs.List.{list_all}
-use Rattle.std.proofs.lemmas.Bool.{and_from, and_parts, eqb-true}
+use Rattle.std.proofs.lemmas.Bool.{and_parts, eqb-true}
 use Rattle.std.proofs.lemmas.Bool.Decides.{nat_tests}
-use Rattle.gh_base.specs.Kind.{kind_number}
 use Rattle.gh_base.specs.declared.frame.Frame.{Frame}
-use Rattle.gh_base.specs.declared.kind.Kind.{Kind}
 use Rattle.gh_base.specs.declared.kind.Kind.TheVariants as kind
 use Rattle.gh_base.specs.declared.limits.TheConstants.{MACHINE_PAGES, PARTITION_PLACES}
-use Rattle.gh_model.specs.Boot.{after_line, boot_fits, boot_object, boot_state, empty_state, has_units, is_complete, is_kind, is_of_kind, line_fits, lines_fit, queue_cost, serial_of}
-use Rattle.gh_model.specs.QueueCalls.{one_if}
+use Rattle.gh_model.specs.Boot.{after_line, boot_fits, boot_state, empty_state, has_units, is_complete, is_kind, is_of_kind, line_fits, lines_fit, queue_cost}
 use Rattle.gh_model.specs.Rows.{is_object, object_row}
-use Rattle.gh_model.specs.Units.{lives_in}
 use Rattle.gh_model.specs.declared.boot_line.BootLine.{BootLine}
 use Rattle.gh_model.specs.declared.boot_line.BootLine.TheVariants.{Pages, Partition, Cspace, Addrspace, Doorbell, RootExtent, Extent, Msgqueue, Map, Cap, Vm, Rm, Link}
 use Rattle.gh_model.specs.declared.rows.ObjectRow.{ObjectRow}

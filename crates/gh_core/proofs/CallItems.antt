@@ -1,18 +1,15 @@
 -- The items of a call outside its act are possible.
-use Rattle.std.proofs.Common.{◌≡◌, ◌==◌, ◌<◌, ◌∙◌, ◌⊎◌, inl, inr, ℕ, zero, suc, Bool, true, false, List, [], ◌∷◌, ◌++◌, refl, subst, sym, ap, arith, length, Option, Some, None, is_some, map, slice_get, if◌then◌else◌}
-use Rattle.std.specs.Prelude.{nat_lt}
+use Rattle.std.proofs.Common.{◌≡◌, ◌==◌, ◌<◌, ◌∙◌, ◌⊎◌, inl, inr, ℕ, suc, Bool, true, false, List, [], ◌∷◌, refl, subst, sym, ap, Option, Some, None, is_some, map, slice_get, if◌then◌else◌}
 use Rattle.std.specs.List.{last_or, list_any}
-use Rattle.std.proofs.lemmas.Bool.{eqb-true}
 use Rattle.gh_base.specs.declared.limits.TheConstants.{CPUS, OBJECT_INDICES}
 use Rattle.gh_model.specs.Marks.{Fails, Grants, Made, Outcome, Seen, Wants}
 use Rattle.gh_core.specs.Calls.{CurrentIs, came_fits}
-use Rattle.gh_core.specs.CallEvents.{IsLastAt, MayLeave, MayUnpin, after_leave, begun, end_of_looks, finished, has_grants, has_needs, leaves_from, left, reply_of_looks, unpinned, with_end, with_left, without_pin}
-use Rattle.gh_core.specs.Config.{AtAct, Config, Cpu, Current, DeadPin, Failed, Given, Holder, IsBetween, Looked, Pin, Reading, Stage, Undone, came_to, is_pin_at, present, put, seen_index}
+use Rattle.gh_core.specs.CallEvents.{MayLeave, MayUnpin, after_leave, begun, end_of_looks, finished, has_grants, has_needs, leaves_from, left, reply_of_looks, unpinned, with_end, with_left, without_pin}
+use Rattle.gh_core.specs.Config.{AtAct, Config, Cpu, Current, DeadPin, Failed, Given, Holder, IsBetween, Looked, Pin, Reading, Stage, Undone, came_to, is_pin_at, present}
 use Rattle.gh_core.specs.Committing.{cpu_no}
 use Rattle.gh_core.specs.Items.{act, begins, item, item_between, item_in, item_of, leave, leave_ended, pins_last, reads, undoes_last, unpin, unpins}
 use Rattle.gh_core.specs.References.{IsPinned}
 use Rattle.gh_core.specs.Sound.{IsSound}
-use Rattle.gh_core.specs.Trace.{AreDone, after_all, and_then}
 use Rattle.gh_core.specs.TurnEvents.{call_at_act, if_at_act, if_lookless, ready}
 use Rattle.gh_core.specs.declared.event.Event.{Event}
 use Rattle.gh_core.specs.declared.event.Event.TheVariants.{Enter}

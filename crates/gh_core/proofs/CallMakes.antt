@@ -28,7 +28,7 @@ use Rattle.gh_model.specs.QueueCalls as queues
 use Rattle.gh_model.specs.Registers.{user_access}
 use Rattle.gh_model.specs.Units.{free_units}
 use Rattle.gh_model.specs.declared.change.Change.{Change}
-use Rattle.gh_model.specs.declared.change.Change.TheVariants.{AddCpu, AddLink, AddObject, AddPartition, AddRoot, Exit, FillSlot, PutCapability, PutMessage, Reclaim, Retire, SetPages, SetRoom}
+use Rattle.gh_model.specs.declared.change.Change.TheVariants.{AddObject, PutCapability, PutMessage}
 use Rattle.gh_model.specs.declared.change.Decision.{Decision}
 use Rattle.gh_model.specs.declared.change.Decision.TheVariants.{Refuse, Unfinished, Make}
 use Rattle.gh_model.specs.declared.rows.BellRow.{BellRow}

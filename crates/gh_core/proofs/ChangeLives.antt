@@ -1,14 +1,12 @@
 -- What a change gives a reference, and what it takes one from, lives in the state before it.
-use Rattle.std.proofs.Common.{◌≡◌, ◌==◌, ◌+◌, ◌<◌, ◌≤◌, ◌∙◌, ◌⊎◌, inl, inr, ℕ, Bool, true, false, not, List, [], ◌∷◌, ◌++◌, refl, subst, sym, ap, arith, length, IsTrue, Option, Some, None, find, is_some, if◌then◌else◌}
+use Rattle.std.proofs.Common.{◌≡◌, ◌==◌, ◌≤◌, inl, inr, ℕ, Bool, true, false, not, List, [], ◌∷◌, ◌++◌, refl, subst, sym, ap, arith, length, IsTrue, Option, Some, None, find, is_some, if◌then◌else◌}
 use Rattle.std.specs.Prelude.{◌&&◌, ◌||◌, count_by}
 use Rattle.std.specs.List.{list_all}
 use Rattle.std.proofs.lemmas.Bool.{and_from, and_parts, eqb-true, or_cases}
 use Rattle.std.proofs.lemmas.Bool.Decides.{nat_tests}
 use Rattle.gh_base.specs.declared.ids.Serial.{Serial}
-use Rattle.gh_base.specs.declared.kind.Kind.{Kind}
 use Rattle.gh_base.specs.declared.kind.Kind.TheVariants as kind
-use Rattle.gh_model.specs.Boot.{is_kind}
-use Rattle.gh_model.specs.Changes.{changed, is_mapping}
+use Rattle.gh_model.specs.Changes.{is_mapping}
 use Rattle.gh_model.specs.QueueCalls.{one_if}
 use Rattle.gh_model.specs.Rows.{cpu_row, fills, is_cpu, is_extent, is_object, object_row}
 use Rattle.gh_model.specs.declared.change.Change.{Change}
@@ -19,10 +17,10 @@ use Rattle.gh_model.specs.declared.rows.ExtentRow.{ExtentRow}
 use Rattle.gh_model.specs.declared.rows.MappingRow.{MappingRow}
 use Rattle.gh_model.specs.declared.rows.ObjectRow.{ObjectRow}
 use Rattle.gh_model.specs.declared.state.State.{State}
-use Rattle.gh_invariant.specs.Effects.{attachments, gains, home_named, home_of, losses, object_named, object_of, parent_named, parent_of, sets, slot_names}
+use Rattle.gh_invariant.specs.Effects.{attachments, gains, home_named, losses, object_named, object_of, parent_named, sets, slot_names}
 use Rattle.gh_invariant.specs.Lives.{cpu_fits, is_housed, is_part_of, is_root, lives, lives_as, mapping_stands, slot_fits, span_fits}
 use Rattle.gh_invariant.specs.Premises.{MayChange}
-use Rattle.gh_invariant.specs.Valid.{HasOneAtMost, IsValidTo}
+use Rattle.gh_invariant.specs.Valid.{IsValidTo}
 use Rattle.gh_invariant.proofs.Counting.{found_all, found_one}
 use Rattle.gh_invariant.proofs.SetsOne.{is_of_calls}
 use Rattle.gh_invariant.proofs.SlotsFit.{SlotParts, slot_parts}

@@ -1,32 +1,28 @@
 -- At each index, the references behind an entry and the losses there are together as much as the
 -- references before it and the gains there: so what is owed by gains and settled by losses is even.
 use Rattle.std.proofs.Common.{◌≡◌, ◌==◌, ◌+◌, ◌<◌, ◌≤◌, ◌∙◌, ◌⊎◌, inl, inr, ℕ, Bool, true, false, not, List, [], ◌∷◌, refl, subst, sym, ap, arith, IsTrue, Option, Some, None, filter, find, is_some, if◌then◌else◌}
-use Rattle.std.specs.Prelude.{◌&&◌, ◌||◌, count_by, nat_lt}
+use Rattle.std.specs.Prelude.{◌||◌, count_by}
 use Rattle.std.specs.List.{list_all}
 use Rattle.std.specs.Option.{option_map_or}
 use Rattle.std.proofs.lemmas.Bool.{and_from, and_parts, eqb-true}
 use Rattle.std.proofs.lemmas.Bool.Decides.{eqb_tells, nat_tests}
 use Rattle.gh_base.specs.declared.ids.Serial.{Serial}
 use Rattle.gh_base.specs.declared.limits.TheConstants.{OBJECT_INDICES}
-use Rattle.gh_model.specs.History.{Event, after_event}
 use Rattle.gh_model.specs.QueueCalls.{one_if}
 use Rattle.gh_model.specs.References.{references}
 use Rattle.gh_model.specs.Rows.{is_object}
 use Rattle.gh_model.specs.declared.rows.ObjectRow.{ObjectRow}
 use Rattle.gh_model.specs.declared.state.State.{State}
-use Rattle.gh_invariant.specs.Effects.{gained, is_that, lost, times}
-use Rattle.gh_invariant.specs.Events.{EventFits, changes_of}
+use Rattle.gh_invariant.specs.Effects.{is_that, times}
 use Rattle.gh_invariant.specs.Lives.{lives}
 use Rattle.gh_invariant.specs.Valid.{IsValid}
 use Rattle.gh_invariant.proofs.Counting.{count_cons, found_one, one_false}
 use Rattle.gh_invariant.proofs.NotLiving.{not_living}
 use Rattle.gh_core.specs.Committing.{is_made}
 use Rattle.gh_core.specs.Config.{object_at, references_at}
-use Rattle.gh_core.specs.References.{IsRow}
 use Rattle.gh_core.specs.Start.{AreIndices}
 use Rattle.gh_core.proofs.ChangeLives.{AllLive, lives_here}
-use Rattle.gh_core.proofs.EntryMoves.{RowOf, lives_there, nothing, row_lives, row_of, there_index, there_lives}
-use Rattle.gh_core.proofs.EntryReferences.{event_moved}
+use Rattle.gh_core.proofs.EntryMoves.{RowOf, lives_there, nothing, row_of, there_index, there_lives}
 use Rattle.gh_core.proofs.StartSound.{counted_there}
 
 -- how many of these objects have this index

@@ -1,10 +1,9 @@
 -- What an event of the history does to references: they move by its gains and losses, and what gains
 -- or loses one lives before the event, or is the object that it makes.
-use Rattle.std.proofs.Common.{◌≡◌, ◌==◌, ◌+◌, ◌<◌, ◌≤◌, ◌∙◌, ◌⊎◌, inl, inr, ℕ, Bool, true, false, not, List, [], ◌∷◌, ◌++◌, refl, subst, sym, ap, arith, IsTrue, Option, Some, None, filter, find, if◌then◌else◌}
-use Rattle.std.specs.Prelude.{◌&&◌, ◌||◌}
+use Rattle.std.proofs.Common.{◌≡◌, ◌+◌, ◌<◌, ◌≤◌, ◌∙◌, ◌⊎◌, inl, inr, ℕ, Bool, true, false, List, [], ◌∷◌, refl, subst, sym, arith, IsTrue, Option, Some, None, find, if◌then◌else◌}
+use Rattle.std.specs.Prelude.{◌&&◌}
 use Rattle.std.specs.List.{list_all}
-use Rattle.std.proofs.lemmas.Bool.{and_from, and_parts, or_cases}
-use Rattle.std.proofs.lemmas.Bool.Decides.{nat_tests}
+use Rattle.std.proofs.lemmas.Bool.{and_from, and_parts}
 use Rattle.gh_base.specs.declared.ids.Serial.{Serial}
 use Rattle.gh_model.specs.Act.{counted, grants_of}
 use Rattle.gh_model.specs.Changes.{changed, changed_all}
@@ -34,7 +33,7 @@ use Rattle.gh_invariant.proofs.EventWords.{entry_of_calls, event_may}
 use Rattle.gh_invariant.proofs.SetsOne.{is_of_calls, keeps_objects}
 use Rattle.gh_invariant.proofs.ValidKept.{valid_kept}
 use Rattle.gh_model.proofs.RoomLemmas.{change_counts}
-use Rattle.gh_core.specs.Committing.{added, adds, is_made}
+use Rattle.gh_core.specs.Committing.{added, adds}
 use Rattle.gh_core.specs.Config.{is_acted}
 use Rattle.gh_core.specs.Entries.{or_else, slot_set}
 use Rattle.gh_core.specs.HolderEvents.{is_create}

@@ -1,15 +1,14 @@
 -- The law of items: a CPU's next item is possible, and leaves the turn free.
-use Rattle.std.proofs.Common.{◌≡◌, ◌<◌, ◌∙◌, ℕ, Bool, true, false, List, [], ◌∷◌, refl, subst, sym, ap, Option, Some, None, if◌then◌else◌}
+use Rattle.std.proofs.Common.{◌≡◌, ◌<◌, ◌∙◌, ℕ, Bool, true, false, List, [], ◌∷◌, refl, subst, sym, Option, Some, None, if◌then◌else◌}
 use Rattle.gh_base.specs.declared.limits.TheConstants.{CPUS}
-use Rattle.gh_model.specs.Marks.{Fails, Grants, Outcome, Seen, Wants}
 use Rattle.gh_core.specs.CallEvents.{begun, has_needs}
 use Rattle.gh_core.specs.Committing.{cpu_no}
-use Rattle.gh_core.specs.Config.{AtAct, Config, Current, DeadPin, Failed, Given, IsBetween, Looked, Pin, Reading, Stage, Undone, came_to, present}
+use Rattle.gh_core.specs.Config.{AtAct, Config, Current, DeadPin, Failed, Given, IsBetween, Looked, Pin, Reading, Stage, Undone}
 use Rattle.gh_core.specs.Items.{IsSteady, act, begins, item, item_between, item_in, item_of}
 use Rattle.gh_core.specs.Indices.{HasBlocks}
 use Rattle.gh_core.specs.Sound.{IsSound}
 use Rattle.gh_core.specs.Sweep.{KeepsNine}
-use Rattle.gh_core.specs.Trace.{AreDone, after_all}
+use Rattle.gh_core.specs.Trace.{after_all}
 use Rattle.gh_core.specs.TurnEvents.{call_at_act, if_at_act, if_lookless, ready}
 use Rattle.gh_core.specs.declared.event.Event.{Event}
 use Rattle.gh_core.specs.declared.event.Event.TheVariants.{Enter}

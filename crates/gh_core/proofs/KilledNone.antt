@@ -1,11 +1,10 @@
 -- No object is killed and not retired: as a test of all rows, and of each object; and what leaves it
 -- so.
-use Rattle.std.proofs.Common.{◌≡◌, ◌==◌, ◌+◌, ◌<◌, ◌≤◌, ◌∙◌, ◌⊎◌, inl, inr, ℕ, Bool, true, false, List, [], ◌∷◌, refl, subst, sym, ap, arith, IsTrue, Option, Some, None, find, is_some, if◌then◌else◌}
-use Rattle.std.specs.Prelude.{◌&&◌, ◌||◌, count_by, option_map}
+use Rattle.std.proofs.Common.{◌≡◌, ◌≤◌, ◌∙◌, ℕ, Bool, true, false, List, [], ◌∷◌, refl, sym, ap, arith, Option, Some, None, find, is_some, if◌then◌else◌}
+use Rattle.std.specs.Prelude.{◌||◌, count_by, option_map}
 use Rattle.std.specs.List.{list_any}
 use Rattle.std.specs.Option.{option_map_or}
 use Rattle.std.proofs.lemmas.Bool.{eqb-true}
-use Rattle.std.proofs.lemmas.Bool.Decides.{nat_tests}
 use Rattle.gh_model.specs.QueueCalls.{one_if}
 use Rattle.gh_model.specs.Rows.{is_object, object_row}
 use Rattle.gh_model.specs.declared.rows.ObjectRow.{ObjectRow}
@@ -14,7 +13,7 @@ use Rattle.gh_invariant.specs.Valid.{IsValid}
 use Rattle.gh_invariant.proofs.Counting.{count_cons, found_one, one_true}
 use Rattle.gh_core.specs.Config.{is_killed}
 use Rattle.gh_core.proofs.EventObjects.{counters_of, life}
-use Rattle.gh_core.proofs.Finding.{finds, found_passes, same_number}
+use Rattle.gh_core.proofs.Finding.{found_passes, same_number}
 use Rattle.gh_core.proofs.GraceTurn.{found_fails}
 
 -- the object of this serial is killed and not retired

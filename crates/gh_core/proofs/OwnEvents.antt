@@ -1,11 +1,10 @@
 -- Each event of an item is of the item's CPU, so the item leaves every other CPU as it is.
 use Rattle.std.proofs.Common.{◌≡◌, ◌==◌, ◌+◌, ◌∙◌, ◌++◌, ℕ, zero, suc, Bool, true, false, List, [], ◌∷◌, refl, subst, sym, ap, map, filter, Option, Some, None, if◌then◌else◌}
-use Rattle.std.specs.Prelude.{◌&&◌, ◌*◌, length, not}
+use Rattle.std.specs.Prelude.{◌*◌, length}
 use Rattle.std.specs.List.{last_or, list_all}
 use Rattle.std.proofs.lemmas.Bool.{and_from, and_parts, eq-eqb, eqb-true}
 use Rattle.std.proofs.lemmas.List.Folds.{list_all-append}
 use Rattle.gh_base.specs.declared.ids.Serial.{Serial}
-use Rattle.gh_base.specs.declared.call.Call.{Call}
 use Rattle.gh_model.specs.Legal.{is_revoke}
 use Rattle.gh_model.specs.Marks.{Fails, Grants, Outcome, Seen, Wants}
 use Rattle.gh_model.specs.declared.change.Change.{Change}

@@ -1,8 +1,8 @@
 -- The parts of a revoke are possible, and behind them the revoke is done or refused.
-use Rattle.std.proofs.Common.{◌≡◌, ◌==◌, ◌+◌, ◌<◌, ◌≤◌, ◌∙◌, ◌⊎◌, inl, inr, ℕ, zero, suc, Bool, true, false, not, List, [], ◌∷◌, ◌++◌, refl, subst, sym, ap, arith, length, length-append, filter, map, Option, Some, None, find, is_some, if◌then◌else◌}
-use Rattle.std.specs.Prelude.{◌&&◌, ◌||◌, count_by, slice_index}
+use Rattle.std.proofs.Common.{◌≡◌, ◌==◌, ◌+◌, ◌≤◌, ◌∙◌, ℕ, zero, suc, Bool, true, false, not, List, [], ◌∷◌, ◌++◌, refl, subst, sym, ap, arith, length, length-append, filter, map, Option, Some, None, find, is_some, if◌then◌else◌}
+use Rattle.std.specs.Prelude.{◌&&◌, ◌||◌, count_by}
 use Rattle.std.specs.List.{list_any}
-use Rattle.std.proofs.lemmas.Bool.{and_from, and_parts, eqb-true}
+use Rattle.std.proofs.lemmas.Bool.{and_parts}
 use Rattle.std.proofs.lemmas.Bool.Decides.{nat_tests}
 use Rattle.std.proofs.lemmas.List.Sums.{fold-append}
 use Rattle.gh_base.specs.Reply.{refusal}
@@ -11,24 +11,22 @@ use Rattle.gh_base.specs.declared.call.Call.TheVariants as calls
 use Rattle.gh_base.specs.declared.cap_word.CapWord.{CapWord}
 use Rattle.gh_base.specs.declared.errno.Errno.TheVariants.{CapRevoked}
 use Rattle.gh_base.specs.declared.ids.Serial.{Serial}
-use Rattle.gh_model.specs.Act.{Verdict, Done, Refused, any_doomed, grants_of}
+use Rattle.gh_model.specs.Act.{Refused, any_doomed, grants_of}
 use Rattle.gh_model.specs.CapabilityCalls.{caps_revoke, is_finished}
 use Rattle.gh_model.specs.Decide.{verdict}
 use Rattle.gh_model.specs.Decisions.{done, done_with, grant_at}
 use Rattle.gh_model.specs.History as history
-use Rattle.gh_model.specs.Legal.{is_part, is_revoke, revoked_object, row_names}
+use Rattle.gh_model.specs.Legal.{is_revoke, revoked_object, row_names}
 use Rattle.gh_model.specs.Marks.{Grants, Seen, outcome, word_of}
-use Rattle.gh_model.specs.QueueCalls.{one_if}
 use Rattle.gh_model.specs.Registers.{needs_of}
 use Rattle.gh_model.specs.Rows.{fills}
-use Rattle.gh_model.specs.declared.change.Decision.{Decision}
 use Rattle.gh_model.specs.declared.change.Decision.TheVariants.{Refuse, Unfinished, Make}
 use Rattle.gh_model.specs.declared.entry.Entry.{Entry}
 use Rattle.gh_model.specs.declared.rows.CapabilityRow.{CapabilityRow}
 use Rattle.gh_model.specs.declared.state.State.{State}
-use Rattle.gh_invariant.proofs.Counting.{count_cons, found_one, one_false, one_true}
+use Rattle.gh_invariant.proofs.Counting.{count_cons, one_false, one_true}
 use Rattle.gh_core.specs.Committing.{committing}
-use Rattle.gh_core.specs.Config.{AtAct, Config, Current, Holder, came_to, has_acted, has_part, is_acted, judged, present}
+use Rattle.gh_core.specs.Config.{Config, Current, Holder, has_part, is_acted, judged, present}
 use Rattle.gh_core.specs.Entries.{Allows, is_least, is_plain_of, logged}
 use Rattle.gh_core.specs.HolderEvents.{is_done}
 use Rattle.gh_core.specs.Items.{goes_on, next_part, object_revoked, part, part_at, part_by, part_of, parts, plain_caps}
@@ -37,9 +35,9 @@ use Rattle.gh_core.specs.Sound.{IsSound}
 use Rattle.gh_core.specs.Trace.{and_then}
 use Rattle.gh_core.specs.declared.event.Event.{Event}
 use Rattle.gh_core.proofs.Acting.{IsJudged}
-use Rattle.gh_core.proofs.Commits.{IsActive, IsCommitted, entered_by, plain_commits}
+use Rattle.gh_core.proofs.Commits.{IsCommitted, entered_by, plain_commits}
 use Rattle.gh_core.proofs.KilledNone.{NoneKilled, none_some}
-use Rattle.gh_core.proofs.Revokes.{AreTaken, InCaps, NextPart, Parted, next_is, one_fewer, parted_is, revoke_decision, slot_of, some_next, taken_more, unfinished_left}
+use Rattle.gh_core.proofs.Revokes.{AreTaken, NextPart, Parted, next_is, one_fewer, parted_is, revoke_decision, slot_of, some_next, taken_more, unfinished_left}
 use Rattle.gh_core.proofs.SweepSteps.{no_object, none_acted}
 use Rattle.gh_core.proofs.TraceLaws.{Leads, leads_none, leads_so, leads_then}
 

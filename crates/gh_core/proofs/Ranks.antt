@@ -1,6 +1,6 @@
 -- Ranks of objects by their serials: how many earlier ones a list has; and the indices of the boot,
 -- each object's its own.
-use Rattle.std.proofs.Common.{◌≡◌, ◌==◌, ◌+◌, ◌-◌, ◌*◌, ◌/◌, ◌%◌, ◌<◌, ◌≤◌, ◌∙◌, ◌⊎◌, inl, inr, ℕ, Bool, true, false, not, List, [], ◌∷◌, refl, subst, sym, ap, arith, IsTrue, filter, map, Option, Some, None, find, is_some, if◌then◌else◌}
+use Rattle.std.proofs.Common.{◌≡◌, ◌==◌, ◌+◌, ◌-◌, ◌*◌, ◌<◌, ◌≤◌, ◌∙◌, ◌⊎◌, inl, inr, ℕ, Bool, true, false, not, List, [], ◌∷◌, refl, subst, sym, ap, arith, IsTrue, filter, map, Option, Some, None, find, is_some, if◌then◌else◌}
 use Rattle.std.specs.Prelude.{◌&&◌, count_by, nat_le, nat_lt, sum_by}
 use Rattle.std.specs.List.{list_all}
 use Rattle.std.specs.Option.{option_map_or}
@@ -19,12 +19,12 @@ use Rattle.gh_model.specs.declared.boot_line.BootLine.{BootLine}
 use Rattle.gh_model.specs.declared.rows.ObjectRow.{ObjectRow}
 use Rattle.gh_model.specs.declared.rows.PartitionRow.{PartitionRow}
 use Rattle.gh_model.specs.declared.state.State.{State}
-use Rattle.gh_invariant.specs.Lives.{cost_fits, is_housed, lives, lives_as, quota_fits}
+use Rattle.gh_invariant.specs.Lives.{cost_fits, is_housed, lives, quota_fits}
 use Rattle.gh_invariant.specs.Valid.{IsValid}
 use Rattle.gh_invariant.proofs.BootValid.{boot_valid}
 use Rattle.gh_invariant.proofs.Counting.{count_cons, found_all, one_false, one_true}
 use Rattle.gh_invariant.proofs.Referred.{found_counted}
-use Rattle.gh_core.specs.Indices.{block_at, boot_index, boot_place, is_earlier_in, is_earlier_partition, is_partition_kind, place_of, row_index}
+use Rattle.gh_core.specs.Indices.{boot_index, boot_place, is_partition_kind, row_index}
 use Rattle.gh_core.specs.References.{IsRow}
 use Rattle.gh_core.specs.Start.{AreIndices}
 use Rattle.gh_core.proofs.EntryBalance.{lives_some}

@@ -1,10 +1,9 @@
 -- A revoke of all capabilities of an object takes one slot after another, the least first.
-use Rattle.std.proofs.Common.{◌≡◌, ◌==◌, ◌+◌, ◌<◌, ◌≤◌, ◌∙◌, ◌⊎◌, inl, inr, ℕ, zero, suc, Bool, true, false, not, List, [], ◌∷◌, ◌++◌, refl, subst, sym, ap, arith, IsTrue, length, filter, map, slice_get, Option, Some, None, find, is_some, if◌then◌else◌}
-use Rattle.std.specs.Prelude.{◌&&◌, ◌||◌, count_by, nat_le, nat_lt, option_map, slice_index, take}
+use Rattle.std.proofs.Common.{◌≡◌, ◌==◌, ◌+◌, ◌∙◌, ◌⊎◌, inl, inr, ℕ, zero, suc, Bool, true, false, not, List, [], ◌∷◌, ◌++◌, refl, subst, sym, ap, arith, length, filter, slice_get, Option, Some, None, find, is_some, if◌then◌else◌}
+use Rattle.std.specs.Prelude.{◌&&◌, ◌||◌, count_by, nat_le, nat_lt, option_map}
 use Rattle.std.specs.List.{list_all, list_any}
-use Rattle.std.specs.Option.{option_map_or}
 use Rattle.std.proofs.lemmas.Bool.{and_from, and_parts, eqb-true}
-use Rattle.std.proofs.lemmas.Bool.Decides.{eqb_tells, nat_tests}
+use Rattle.std.proofs.lemmas.Bool.Decides.{nat_tests}
 use Rattle.gh_base.specs.declared.call.Call.{Call}
 use Rattle.gh_base.specs.declared.call.Call.TheVariants as calls
 use Rattle.gh_base.specs.declared.errno.Errno.TheVariants.{CapRevoked}
@@ -22,8 +21,7 @@ use Rattle.gh_model.specs.Decisions.{grant_at}
 use Rattle.gh_model.specs.History as history
 use Rattle.gh_model.specs.Legal.{is_revoke}
 use Rattle.gh_model.specs.Rows.{change_row, fills}
-use Rattle.gh_model.specs.declared.change.Decision.{Decision}
-use Rattle.gh_model.specs.declared.change.Decision.TheVariants.{Refuse, Unfinished, Make}
+use Rattle.gh_model.specs.declared.change.Decision.TheVariants.{Refuse}
 use Rattle.gh_model.specs.declared.rows.CapabilityRow.{CapabilityRow}
 use Rattle.gh_model.specs.declared.rows.TakenSlot.{TakenSlot}
 use Rattle.gh_model.specs.declared.state.State.{State}
@@ -33,8 +31,7 @@ use Rattle.gh_core.specs.Entries.{is_before, is_least, is_plain_of}
 use Rattle.gh_core.specs.Items.{least, lesser, next_part, plain_caps}
 use Rattle.gh_invariant.specs.Valid.{IsValid}
 use Rattle.gh_core.proofs.CausesHeld.{stands_found}
-use Rattle.gh_core.proofs.Finding.{found_passes, same_number}
-use Rattle.gh_core.proofs.KilledNone.{any_found, own_found}
+use Rattle.gh_core.proofs.Finding.{same_number}
 
 -- the least of some slots
 

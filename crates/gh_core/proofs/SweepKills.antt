@@ -1,6 +1,6 @@
 -- The steps of the sweep: an object without references is killed where its word counts nothing, and
 -- then retired.
-use Rattle.std.proofs.Common.{◌≡◌, ◌==◌, ◌+◌, ◌<◌, ◌≤◌, ◌∙◌, ◌⊎◌, inl, inr, ℕ, Bool, true, false, not, List, [], ◌∷◌, ◌++◌, refl, subst, sym, ap, arith, IsTrue, Option, Some, None, find, is_some, if◌then◌else◌}
+use Rattle.std.proofs.Common.{◌≡◌, ◌==◌, ◌∙◌, inl, inr, ℕ, Bool, true, false, not, List, [], ◌∷◌, refl, subst, sym, ap, arith, Option, Some, None, is_some, if◌then◌else◌}
 use Rattle.std.specs.Prelude.{⊤, ◌&&◌, option_map}
 use Rattle.std.specs.Option.{option_map_or}
 use Rattle.std.proofs.lemmas.Bool.{and_from, and_parts, eqb-true}
@@ -19,21 +19,20 @@ use Rattle.gh_model.specs.declared.state.State.{State}
 use Rattle.gh_model.proofs.ChangedRows.{find_changed}
 use Rattle.gh_invariant.specs.Lives.{lives}
 use Rattle.gh_core.specs.Committing.{committing}
-use Rattle.gh_core.specs.Config.{Config, Current, Holder, has_acted, has_part, is_at, is_killed, object_at, present, put, some_killed}
+use Rattle.gh_core.specs.Config.{Config, Current, Holder, has_acted, has_part, is_at, is_killed, object_at, present, put}
 use Rattle.gh_core.specs.Entries.{Allows, logged}
-use Rattle.gh_core.specs.Events.{after}
 use Rattle.gh_core.specs.Grace.{objects_of}
 use Rattle.gh_core.specs.HolderEvents.{MayKill, kill_failed, killed, with_failed, with_turn, without_scans}
 use Rattle.gh_core.specs.Sound.{IsSound}
 use Rattle.gh_core.specs.Sweep.{counters, kill, killing, kills, may_kill, may_reclaim, reclaiming, retired_now, retires_dead, retiring, scans}
-use Rattle.gh_core.specs.Trace.{after_all, and_then}
+use Rattle.gh_core.specs.Trace.{and_then}
 use Rattle.gh_core.proofs.Commits.{IsActive, IsCommitted, plain_commits}
 use Rattle.gh_core.proofs.EntryMoves.{indices_of, lives_there, there_index, there_lives}
 use Rattle.gh_core.proofs.EntryReferences.{MakesNone}
 use Rattle.gh_core.proofs.Finding.{found_passes, put_here, put_other}
 use Rattle.gh_core.proofs.GraceReclaim.{Changed, Kept, RowBehind, retire_row}
 use Rattle.gh_core.proofs.KilledNone.{NoneKilled, killed_in, none_some, own_row}
-use Rattle.gh_core.proofs.Scanning.{HasScans, ScansTo, are_scans, at_scans, scans_lead, with_scans}
+use Rattle.gh_core.proofs.Scanning.{HasScans, ScansTo, are_scans, scans_lead, with_scans}
 use Rattle.gh_core.proofs.SoundEvents.{event_keeps_sound}
 use Rattle.gh_core.proofs.SweepSteps.{Grew, IsScanned, IsStill, IsSweeping, Steps, failed_of, grew, no_object, reclaiming_leads, swept}
 use Rattle.gh_core.proofs.TraceLaws.{Leads, leads_none, leads_so, leads_then}

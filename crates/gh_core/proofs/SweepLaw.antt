@@ -1,5 +1,5 @@
 -- The law of the sweep.
-use Rattle.std.proofs.Common.{◌≡◌, ◌<◌, ◌∙◌, ℕ, true, refl, subst, sym, ap, Option, Some}
+use Rattle.std.proofs.Common.{◌≡◌, ◌<◌, ◌∙◌, ℕ, true, subst, sym, Option, Some}
 use Rattle.gh_base.specs.declared.limits.TheConstants.{CPUS}
 use Rattle.gh_core.specs.Config.{Config, Holder, present}
 use Rattle.gh_core.specs.Indices.{InBlocks}

@@ -1,16 +1,16 @@
 -- Rounds of the sweep, until one adds no entry: then each object that is retired or without
 -- references has what holds it.
-use Rattle.std.proofs.Common.{◌≡◌, ◌==◌, ◌+◌, ◌*◌, ◌<◌, ◌≤◌, ◌∙◌, ◌⊎◌, inl, inr, ℕ, zero, suc, Bool, true, false, not, List, [], ◌∷◌, ◌++◌, refl, subst, sym, ap, arith, IsTrue, length, filter, map, slice_get, Option, Some, None, find, is_some, if◌then◌else◌}
+use Rattle.std.proofs.Common.{◌≡◌, ◌==◌, ◌+◌, ◌*◌, ◌<◌, ◌≤◌, ◌∙◌, inl, inr, ℕ, zero, suc, Bool, true, false, not, List, [], ◌∷◌, refl, subst, sym, ap, arith, length, filter, map, slice_get, Option, Some, None, is_some, if◌then◌else◌}
 use Rattle.std.specs.Prelude.{⊤, ◌&&◌, ◌||◌, count_by, nat_lt, option_map, slice_index}
 use Rattle.std.specs.List.{list_all, range_with_len}
-use Rattle.std.specs.Option.{option_map_or, unwrap_or}
-use Rattle.std.proofs.lemmas.Bool.{and_from, and_parts, eqb-true}
-use Rattle.std.proofs.lemmas.Bool.Decides.{eqb_tells, nat_tests}
+use Rattle.std.specs.Option.{unwrap_or}
+use Rattle.std.proofs.lemmas.Bool.{and_from}
+use Rattle.std.proofs.lemmas.Bool.Decides.{nat_tests}
 use Rattle.gh_base.specs.Counters.{is_odd}
 use Rattle.gh_base.specs.declared.ids.Serial.{Serial}
 use Rattle.gh_base.specs.declared.limits.TheConstants.{CPUS}
 use Rattle.gh_model.specs.Graced.{retirement}
-use Rattle.gh_model.specs.Held.{held_rows, is_held}
+use Rattle.gh_model.specs.Held.{is_held}
 use Rattle.gh_model.specs.History as history
 use Rattle.gh_model.specs.QueueCalls.{one_if}
 use Rattle.gh_model.specs.References.{is_doomed, references}
@@ -19,7 +19,7 @@ use Rattle.gh_model.specs.declared.rows.ObjectRow.{ObjectRow}
 use Rattle.gh_model.specs.declared.state.State.{State}
 use Rattle.gh_invariant.proofs.Counting.{count_cons}
 use Rattle.gh_core.specs.Config.{Config, Current, Holder, entries, present}
-use Rattle.gh_core.specs.Grace.{IsKept, objects_of, scan_of}
+use Rattle.gh_core.specs.Grace.{IsKept, scan_of}
 use Rattle.gh_core.specs.Length.{is_leaving, is_staying}
 use Rattle.gh_core.specs.Sweep.{KeepsNine, adds_entry, counters, doomed_objects, all_cpus, has_left, have_left, is_doomed_row, is_left, is_retired_row, killing, kills_all, may_kill, may_reclaim, reclaiming, reclaims_all, retired_objects, round, rounds, scanned_of, scans, serial_of, sweep}
 use Rattle.gh_core.specs.Trace.{after_all, and_then, for_each}
@@ -27,7 +27,7 @@ use Rattle.gh_core.specs.TurnEvents.{cause, cause_of, first_reader, has_causes, 
 use Rattle.gh_core.specs.declared.event.Event.{Event}
 use Rattle.gh_core.proofs.CausesHeld.{stands_found}
 use Rattle.gh_core.proofs.Finding.{same_number}
-use Rattle.gh_core.proofs.Scanning.{HasScans, ScansTo, counter_at, nine_counters, scans_lead}
+use Rattle.gh_core.proofs.Scanning.{ScansTo, counter_at, nine_counters, scans_lead}
 use Rattle.gh_core.proofs.SweepKills.{grew_on, killing_leads, scanned_on, still_grew, still_on, still_still}
 use Rattle.gh_core.proofs.SweepSteps.{Grew, IsScanned, IsStill, IsSweeping, Steps, failed_of, reclaiming_leads, to_go}
 use Rattle.gh_core.proofs.TraceLaws.{Leads, leads_append, leads_none, leads_so, leads_then}

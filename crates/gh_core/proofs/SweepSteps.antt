@@ -1,55 +1,44 @@
 -- The steps of the sweep: a retired object is reclaimed, and one without references is killed and
 -- retired.
-use Rattle.std.proofs.Common.{◌≡◌, ◌==◌, ◌+◌, ◌*◌, ◌<◌, ◌≤◌, ◌∙◌, ◌⊎◌, inl, inr, ℕ, Bool, true, false, not, List, [], ◌∷◌, ◌++◌, refl, subst, sym, ap, arith, IsTrue, length, length-append, Option, Some, None, find, is_some, if◌then◌else◌}
+use Rattle.std.proofs.Common.{◌≡◌, ◌+◌, ◌*◌, ◌<◌, ◌∙◌, ◌⊎◌, inl, inr, ℕ, Bool, true, false, not, List, [], ◌∷◌, ◌++◌, refl, subst, sym, ap, arith, IsTrue, length, length-append, Option, Some, None, is_some, if◌then◌else◌}
 use Rattle.std.specs.Prelude.{◌&&◌, ◌||◌, IfSome, count_by, nat_lt}
 use Rattle.std.specs.List.{list_any}
 use Rattle.std.specs.Option.{option_map_or}
-use Rattle.std.proofs.lemmas.Bool.{and_from, and_parts, eqb-true}
-use Rattle.std.proofs.lemmas.Bool.Decides.{eqb_tells, nat_tests}
+use Rattle.std.proofs.lemmas.Bool.{and_parts}
+use Rattle.std.proofs.lemmas.Bool.Decides.{nat_tests}
 use Rattle.std.proofs.lemmas.List.Folds.{list_any-append}
 use Rattle.std.proofs.lemmas.List.Sums.{fold-append}
 use Rattle.gh_base.specs.Counters.{HaveLeft, is_odd}
 use Rattle.gh_base.specs.declared.cap_word.CapWord.{CapWord}
 use Rattle.gh_base.specs.declared.ids.Serial.{Serial}
-use Rattle.gh_base.specs.declared.limits.TheConstants.{CPUS, OBJECT_INDICES}
-use Rattle.gh_model.specs.Changes.{reclaim_object, retire_object, with_counters}
+use Rattle.gh_model.specs.Changes.{reclaim_object}
 use Rattle.gh_model.specs.Act.{counted}
 use Rattle.gh_model.specs.Graced.{retirement}
 use Rattle.gh_model.specs.History as history
 use Rattle.gh_model.specs.Legal.{is_part}
-use Rattle.gh_model.specs.References.{is_doomed, references}
-use Rattle.gh_model.specs.Rows.{is_object, object_row}
+use Rattle.gh_model.specs.References.{is_doomed}
+use Rattle.gh_model.specs.Rows.{object_row}
 use Rattle.gh_model.specs.declared.entry.Entry.{Entry}
-use Rattle.gh_model.specs.declared.entry.Entry.TheVariants.{Retired, Reclaimed}
+use Rattle.gh_model.specs.declared.entry.Entry.TheVariants.{Reclaimed}
 use Rattle.gh_model.specs.declared.rows.ObjectRow.{ObjectRow}
 use Rattle.gh_model.specs.declared.state.State.{State}
-use Rattle.gh_invariant.specs.Events.{changes_of}
-use Rattle.gh_invariant.specs.Lives.{lives}
 use Rattle.gh_invariant.proofs.Counting.{count_append, count_one, one_false}
 use Rattle.gh_model.specs.QueueCalls.{one_if}
-use Rattle.gh_core.specs.Committing.{committing, cpu_no, index_no}
-use Rattle.gh_core.specs.Config.{AtAct, Config, Current, HasTurn, Holder, IsIn, OwesNothing, entries, has_acted, has_part, is_acted, is_killed, object_at, present, put, some_killed}
-use Rattle.gh_core.specs.Entries.{Allows, AreScans, KindAllows, logged}
-use Rattle.gh_core.specs.Events.{Possible, after}
-use Rattle.gh_core.specs.HolderEvents.{MayKill, is_create, kill_failed, killed, with_failed, with_turn, without_scans}
+use Rattle.gh_core.specs.Committing.{committing}
+use Rattle.gh_core.specs.Config.{Config, Current, Holder, entries, has_acted, has_part, is_acted, is_killed, present}
+use Rattle.gh_core.specs.Entries.{Allows, logged}
+use Rattle.gh_core.specs.HolderEvents.{is_create}
 use Rattle.gh_core.specs.Length.{EntriesCount, is_leaving, is_staying, makes_one, reclaims_one, retires_one}
 use Rattle.gh_core.specs.Indices.{InBlocks}
 use Rattle.gh_core.specs.Sound.{IsSound}
-use Rattle.gh_core.specs.Sweep.{counters, have_left, has_left, is_left, kill, killing, kills, may_kill, may_reclaim, reclaiming, retired_now, retires_dead, retiring, scans}
-use Rattle.gh_core.specs.Trace.{AreDone, after_all, and_then}
-use Rattle.gh_core.specs.declared.event.Event.{Event}
-use Rattle.gh_core.specs.declared.event.Event.TheVariants.{Kill}
+use Rattle.gh_core.specs.Sweep.{counters, have_left, has_left, is_left, may_reclaim, reclaiming}
 use Rattle.gh_core.proofs.BlocksStay.{plain_blocks}
 use Rattle.gh_core.proofs.Commits.{IsActive, IsCommitted, entered_by, plain_commits}
-use Rattle.gh_core.proofs.EntryMoves.{RowOf, row_of}
-use Rattle.gh_core.proofs.EntryReferences.{MakesNone, MakesOne, Objects, event_objects}
-use Rattle.gh_core.proofs.EventObjects.{Goes, entry_goes, event_goes}
-use Rattle.gh_core.proofs.Finding.{found_passes}
-use Rattle.gh_core.proofs.GraceReclaim.{Changed, Kept, RowBehind, killed_no_more, reclaim_row, retire_row}
-use Rattle.gh_core.proofs.KilledNone.{NoneKilled, killed_in, none_each, none_some, own_row}
-use Rattle.gh_core.proofs.Scanning.{HasScans, ScansTo, are_scans, at_scans, scans_lead, with_scans}
-use Rattle.gh_core.proofs.SoundEvents.{event_keeps_sound}
-use Rattle.gh_core.proofs.TraceLaws.{Leads, leads_cons, leads_none, leads_so, leads_then}
+use Rattle.gh_core.proofs.EntryReferences.{MakesNone, Objects, event_objects}
+use Rattle.gh_core.proofs.GraceReclaim.{Changed, Kept, RowBehind, reclaim_row}
+use Rattle.gh_core.proofs.KilledNone.{NoneKilled, killed_in}
+use Rattle.gh_core.proofs.Scanning.{HasScans, are_scans}
+use Rattle.gh_core.proofs.TraceLaws.{Leads, leads_none, leads_so}
 use Rattle.gh_core.proofs.ValidEntries.{event_fits}
 
 -- the holder committed nothing of its act so far, and no object is killed

@@ -1,5 +1,5 @@
 -- Events one after the other: what is done behind what.
-use Rattle.std.proofs.Common.{◌≡◌, ◌∙◌, List, [], ◌∷◌, ◌++◌, refl, subst, sym}
+use Rattle.std.proofs.Common.{◌≡◌, List, [], ◌∷◌, ◌++◌, subst, sym}
 use Rattle.std.proofs.lemmas.List.Sums.{fold-append}
 use Rattle.gh_core.specs.Config.{Config}
 use Rattle.gh_core.specs.Events.{after}

@@ -1,16 +1,14 @@
 -- The turn of an act: it is taken in a sound configuration, and given back with the call's end.
-use Rattle.std.proofs.Common.{◌≡◌, ◌==◌, ◌+◌, ◌-◌, ◌<◌, ◌≤◌, ◌∙◌, ◌⊎◌, inl, inr, ℕ, zero, suc, Bool, true, false, List, [], ◌∷◌, ◌++◌, refl, subst, sym, ap, arith, length, length-append, map, slice_get, Option, Some, None, is_some, if◌then◌else◌}
+use Rattle.std.proofs.Common.{◌≡◌, ◌<◌, ◌∙◌, ℕ, Bool, true, false, List, [], ◌∷◌, refl, subst, sym, ap, arith, length, map, Option, Some, None, is_some, if◌then◌else◌}
 use Rattle.std.specs.Prelude.{nat_lt}
-use Rattle.std.specs.Option.{option_map_or}
 use Rattle.std.proofs.lemmas.Bool.Decides.{nat_tests}
 use Rattle.gh_base.specs.declared.cap_word.Need.{Need}
-use Rattle.gh_base.specs.declared.limits.TheConstants.{CPUS, OBJECT_INDICES}
+use Rattle.gh_base.specs.declared.limits.TheConstants.{CPUS}
 use Rattle.gh_model.specs.Marks.{Fails, Grants, Outcome, Wants, outcome}
 use Rattle.gh_model.specs.Registers.{needs_of}
-use Rattle.gh_core.specs.CallEvents.{begun, finished, has_grants, has_needs, with_end}
+use Rattle.gh_core.specs.CallEvents.{begun, has_grants, has_needs}
 use Rattle.gh_core.specs.Calls.{CurrentIs, came_fits, pinned_looks}
-use Rattle.gh_core.specs.Config.{AtAct, Config, Cpu, Current, DeadPin, Failed, Given, HasTurn, Holder, IsIn, Looked, OwesNothing, Pin, Reading, Stage, Undone, came_to, pin_of, present, put}
-use Rattle.gh_core.specs.Grace.{objects_of}
+use Rattle.gh_core.specs.Config.{AtAct, Config, Cpu, Current, DeadPin, Failed, Given, HasTurn, Holder, IsIn, Looked, OwesNothing, Pin, Reading, Stage, Undone, came_to, pin_of, present}
 use Rattle.gh_core.specs.Indices.{HasBlocks}
 use Rattle.gh_core.specs.Items.{freeing, taking, unpins}
 use Rattle.std.specs.List.{list_all}
