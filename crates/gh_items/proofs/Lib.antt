@@ -2,11 +2,13 @@ pub mod ActLemmas
 pub mod EndLemmas
 pub mod EnterLemmas
 pub mod EntryLemmas
+pub mod FrameLemmas
 pub mod FreeLemmas
 pub mod ItemLemmas
 pub mod LeaveLemmas
 pub mod LikeLemmas
 pub mod LookLemmas
+pub mod PartLemmas
 pub mod SeatLemmas
 pub mod SerialLemmas
 pub mod StageLemmas

@@ -7,6 +7,7 @@ mod end;
 mod judge;
 mod leave_item;
 mod look_item;
+mod parts;
 mod progress;
 mod section_item;
 mod stage_items;
