@@ -9,6 +9,7 @@ pub mod LeaveLemmas
 pub mod LikeLemmas
 pub mod LookLemmas
 pub mod PartLemmas
+pub mod RevokeLemmas
 pub mod SeatLemmas
 pub mod SerialLemmas
 pub mod StageLemmas

@@ -1,6 +1,6 @@
 //! The item of a call that is its act.
 
-ghost use Rattle.std.specs.Prelude.{◌≡◌, ◌+◌, ◌<◌, length, false, OnOk, Some};
+ghost use Rattle.std.specs.Prelude.{◌≡◌, ◌+◌, ◌<◌, length, false, true, OnOk, Some};
 ghost use Rattle.gh_core.specs.Config.{Config};
 ghost use Rattle.gh_core.specs.Items.{act, judged_in, sweeps};
 ghost use Rattle.gh_core.specs.Running.{current_of};
@@ -13,6 +13,7 @@ ghost use Rattle.gh_model.specs.Legal.{is_revoke};
 
 use crate::end::end_call;
 use crate::judge::judge;
+use crate::parts::make_all_parts;
 use crate::progress::{Progress, Seat, seat_of};
 use gh_base::{CpuNo, End, NoMemory};
 use gh_core::CurrentCall;
@@ -101,4 +102,22 @@ pub(crate) fn plain_act_item(
     ensures { OnOk result (Stands progress.new (after_all conf (act cpu.0 conf))) }
 {
     plain_act(progress, alloc, cpu, call)
+}
+
+/// The act of a call that revokes the capabilities of an object, one slot after another. It begins
+/// with its turn.
+pub(crate) fn revoke_act(
+    progress: &mut Progress,
+    alloc: Global,
+    cpu: CpuNo,
+    call: CurrentCall,
+) -> Result<(), NoMemory>
+    ghost conf: { Config }
+    requires stands { Stands (with_call progress.old cpu.0 (Some call)) (taken conf cpu.0) }
+    requires next { ActsNext conf cpu.0 (current_of call) }
+    requires revokes { is_revoke call.given.call ≡ true }
+    ensures { OnOk result (Stands progress.new (after_all conf (act cpu.0 conf))) }
+{
+    make_all_parts(progress, alloc, cpu, &call)?;
+    judged_act(progress, alloc, cpu, call)
 }

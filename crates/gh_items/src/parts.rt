@@ -1,14 +1,14 @@
 //! The parts of a call that revokes the capabilities of an object one slot after another.
 
-ghost use Rattle.std.specs.Prelude.{◌≡◌, ◌<◌, drop, filter, find, if◌then◌else◌, map, true, false, IfOk, OnOk, Some, None};
+ghost use Rattle.std.specs.Prelude.{◌≡◌, ◌<◌, length, drop, filter, find, if◌then◌else◌, map, true, false, IfOk, OnOk, Some, None};
 ghost use Rattle.gh_base.specs.declared.limits.TheConstants.{CPUS, HISTORY_ENTRIES};
 ghost use Rattle.gh_core.specs.Config.{Config, judged};
 ghost use Rattle.gh_core.specs.Entries.{is_before, is_plain_of};
-ghost use Rattle.gh_core.specs.Items.{goes_on, least, lesser, object_revoked, part};
+ghost use Rattle.gh_core.specs.Items.{goes_on, least, lesser, object_revoked, part, parts};
 ghost use Rattle.gh_core.specs.Running.{current_of};
 ghost use Rattle.gh_core.specs.Sound.{IsSound};
-ghost use Rattle.gh_core.specs.Trace.{after_all};
-ghost use Rattle.gh_items.specs.Parts.{is_unfinished, part_row, with_part};
+ghost use Rattle.gh_core.specs.Trace.{AreDone, after_all};
+ghost use Rattle.gh_items.specs.Parts.{StandsSoundly, all_parts, is_unfinished, part_row, with_part};
 ghost use Rattle.gh_items.specs.Stands.{Stands, with_call};
 ghost use Rattle.gh_model.specs.History.{may_part};
 ghost use Rattle.gh_model.specs.Legal.{is_revoke};
@@ -180,16 +180,67 @@ fn part(
     cpu: CpuNo,
     call: &CurrentCall,
 ) -> Result<(), NoMemory>
-    ghost conf: { Config }
-    requires stands { Stands (with_call progress.old cpu.0 (Some call.now)) conf }
-    requires sound { IsSound conf }
+    requires stands { StandsSoundly (with_call progress.old cpu.0 (Some call.now)) }
     requires within { cpu.0 < CPUS }
     requires revokes { is_revoke call.now.given.call ≡ true }
-    ensures { OnOk result (Stands (with_call progress.new cpu.0 (Some call.now))
-        (after_all conf (part cpu.0 conf))) }
+    ensures { (conf : Config) → Stands (with_call progress.old cpu.0 (Some call.now)) conf
+        → IsSound conf → OnOk result
+        (Stands (with_call progress.new cpu.0 (Some call.now)) (after_all conf (part cpu.0 conf))) }
 {
     match part_row(progress, alloc, cpu, call)? {
         None => Ok(()),
         Some(row) => make_part(progress, cpu, call.given.number, row),
     }
+}
+
+/// The valid capabilities of the object without master mark, counted.
+#[tactic(auto, using(crate::proofs::RevokeLemmas::counted_plain))]
+fn plain_count(caps: &[CapabilityRow], object: Serial) -> usize
+    ensures { result ≡ length (filter (is_plain_of object.0) caps.now) }
+{
+    caps.iter().filter(|row| is_plain_of(object, row)).count()
+}
+
+/// So many parts at most, each while the revoke goes on.
+fn make_parts(
+    progress: &mut Progress,
+    alloc: Global,
+    cpu: CpuNo,
+    call: &CurrentCall,
+    count: usize,
+) -> Result<(), NoMemory>
+    ghost conf: { Config }
+    requires stands { Stands (with_call progress.old cpu.0 (Some call.now)) conf }
+    requires sound { IsSound conf }
+    requires within { cpu.0 < CPUS }
+    requires revokes { is_revoke call.now.given.call ≡ true }
+    requires done { AreDone conf (parts cpu.0 count conf) }
+    ensures { OnOk result (Stands (with_call progress.new cpu.0 (Some call.now))
+        (after_all conf (parts cpu.0 count conf))) }
+{
+    for made in 0..count {
+        part(progress, alloc, cpu, call)?;
+    }
+    Ok(())
+}
+
+/// The parts of the revoke, at most one for each capability that it may revoke.
+pub(crate) fn make_all_parts(
+    progress: &mut Progress,
+    alloc: Global,
+    cpu: CpuNo,
+    call: &CurrentCall,
+) -> Result<(), NoMemory>
+    ghost conf: { Config }
+    requires stands { Stands (with_call progress.old cpu.0 (Some call.now)) conf }
+    requires sound { IsSound conf }
+    requires within { cpu.0 < CPUS }
+    requires revokes { is_revoke call.now.given.call ≡ true }
+    requires done { AreDone conf (all_parts cpu.0 (current_of call.now) conf) }
+    ensures { OnOk result (Stands (with_call progress.new cpu.0 (Some call.now))
+        (after_all conf (all_parts cpu.0 (current_of call.now) conf))) }
+{
+    let state = progress.plain.state();
+    let count = plain_count(state.caps.as_slice(), object_revoked(call));
+    make_parts(progress, alloc, cpu, call, count)
 }
