@@ -15,7 +15,7 @@ use crate::end::end_call;
 use crate::judge::judge;
 use crate::parts::make_all_parts;
 use crate::progress::{Progress, Seat, seat_of};
-use gh_base::{CpuNo, End, NoMemory};
+use gh_base::{Call, CpuNo, End, NoMemory};
 use gh_core::CurrentCall;
 use gh_model::{Entry, Judged};
 use std::alloc::Global;
@@ -70,7 +70,7 @@ fn judged_act(
 }
 
 /// The act of a call that begins with its turn, where neither a sweep nor parts prepare it.
-pub(crate) fn plain_act(
+fn plain_act(
     progress: &mut Progress,
     alloc: Global,
     cpu: CpuNo,
@@ -86,27 +86,9 @@ pub(crate) fn plain_act(
     judged_act(progress, alloc, cpu, call)
 }
 
-/// The act of a call in progress, where neither a sweep nor parts prepare it.
-pub(crate) fn plain_act_item(
-    progress: &mut Progress,
-    alloc: Global,
-    cpu: CpuNo,
-    call: CurrentCall,
-) -> Result<(), NoMemory>
-    ghost conf: { Config }
-    requires stands { Stands (with_call progress.old cpu.0 (Some call)) conf }
-    requires next { ActsNext conf cpu.0 (current_of call) }
-    requires acts { call.stage ≡ AtAct }
-    requires unswept { sweeps call.given.call ≡ false }
-    requires other { is_revoke call.given.call ≡ false }
-    ensures { OnOk result (Stands progress.new (after_all conf (act cpu.0 conf))) }
-{
-    plain_act(progress, alloc, cpu, call)
-}
-
 /// The act of a call that revokes the capabilities of an object, one slot after another. It begins
 /// with its turn.
-pub(crate) fn revoke_act(
+fn revoke_act(
     progress: &mut Progress,
     alloc: Global,
     cpu: CpuNo,
@@ -120,4 +102,48 @@ pub(crate) fn revoke_act(
 {
     make_all_parts(progress, alloc, cpu, &call)?;
     judged_act(progress, alloc, cpu, call)
+}
+
+/// Whether the call revokes the capabilities of an object, one slot after another.
+fn is_revoke(call: &Call) -> bool
+    ensures { result ≡ is_revoke call.now }
+{
+    matches!(call, Call::CapsRevoke { .. })
+}
+
+/// The act of a call that doesn't sweep, and begins with its turn.
+pub(crate) fn unswept_act(
+    progress: &mut Progress,
+    alloc: Global,
+    cpu: CpuNo,
+    call: CurrentCall,
+) -> Result<(), NoMemory>
+    ghost conf: { Config }
+    requires stands { Stands (with_call progress.old cpu.0 (Some call)) (taken conf cpu.0) }
+    requires next { ActsNext conf cpu.0 (current_of call) }
+    requires unswept { sweeps call.given.call ≡ false }
+    ensures { OnOk result (Stands progress.new (after_all conf (act cpu.0 conf))) }
+{
+    if is_revoke(&call.given.call) {
+        revoke_act(progress, alloc, cpu, call)
+    } else {
+        plain_act(progress, alloc, cpu, call)
+    }
+}
+
+/// The act of a call in progress that doesn't sweep.
+pub(crate) fn unswept_act_item(
+    progress: &mut Progress,
+    alloc: Global,
+    cpu: CpuNo,
+    call: CurrentCall,
+) -> Result<(), NoMemory>
+    ghost conf: { Config }
+    requires stands { Stands (with_call progress.old cpu.0 (Some call)) conf }
+    requires next { ActsNext conf cpu.0 (current_of call) }
+    requires acts { call.stage ≡ AtAct }
+    requires unswept { sweeps call.given.call ≡ false }
+    ensures { OnOk result (Stands progress.new (after_all conf (act cpu.0 conf))) }
+{
+    unswept_act(progress, alloc, cpu, call)
 }
