@@ -13,7 +13,7 @@ use Rattle.gh_core.specs.Items.{act, acting, freeing, object_revoked, parts, pla
 use Rattle.gh_core.specs.Running.{current_of}
 use Rattle.gh_core.specs.Sound.{IsSound}
 use Rattle.gh_core.specs.Sweep.{HasNotBegun, sweep}
-use Rattle.gh_core.specs.Trace.{after_all, and_then}
+use Rattle.gh_core.specs.Trace.{AreDone, after_all, and_then}
 use Rattle.gh_core.specs.TurnEvents.{call_at_act, if_at_act, ready, taken}
 use Rattle.gh_core.specs.declared.current.CurrentCall.{CurrentCall}
 use Rattle.gh_core.specs.declared.event.Event.{Event}
@@ -51,8 +51,13 @@ module _ (conf : Config) (at : ℕ) (call : Current) (next : ActsNext conf at ca
   abbrev Taken : Config
   Taken = taken conf at
 
+<<<<<<< HEAD
   taken_sound : IsSound (taken conf at)
   taken_sound = event_keeps_sound conf (Take (cpu_no at)) next.steady.sound (may_take conf at next.steady.sound next.is_cpu next.steady.free call next.is_ready)
+=======
+  pub taken_sound : IsSound (taken conf at)
+  taken_sound = event_keeps_sound conf (Take (cpu_no at)) next.sound (may_take conf at next.sound next.is_cpu next.free call next.is_ready)
+>>>>>>> dec1f37cb5929372b98ec550c3e2bae3e5d27b1a
 
   begins : HasNotBegun (taken conf at) at
   begins = take_begins conf at next.steady.sound next.is_cpu next.steady.free call next.is_ready
@@ -65,6 +70,13 @@ module _ (conf : Config) (at : ℕ) (call : Current) (next : ActsNext conf at ca
 
   sweeping : IsSweeping (taken conf at) at begins.call
   sweeping = is_sweeping (taken conf at) at taken_sound next.is_cpu (record { partitions = next.steady.blocks.partitions; others = next.steady.blocks.others }) begins
+
+  pub taken_now : ((taken conf at).cpu at).current ≡ Some call
+  taken_now = ap (λ (cpu : Cpu). cpu.current) (put_here conf.cpu at _) ∙ next.is_ready
+
+  -- what prepares it is possible
+  pub prepares_done : AreDone (taken conf at) (preparing at (taken conf at))
+  prepares_done = (preparing_leads at begins.call (taken conf at) sweeping next.nine).done
 
   -- the configuration in which the act is judged
   pub prepared : IsPrepared (judged_in conf at) at call

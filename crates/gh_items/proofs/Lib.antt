@@ -8,6 +8,9 @@ pub mod ItemLemmas
 pub mod LeaveLemmas
 pub mod LikeLemmas
 pub mod LookLemmas
+pub mod LooklessLemmas
+pub mod PartLemmas
+pub mod RevokeLemmas
 pub mod SeatLemmas
 pub mod SerialLemmas
 pub mod StageLemmas

@@ -9,7 +9,9 @@ use Rattle.gh_core.specs.Sound.{IsSound}
 use Rattle.gh_core.specs.Sweep.{KeepsNine}
 use Rattle.gh_core.specs.Trace.{after_all, and_then}
 use Rattle.gh_core.specs.TurnEvents.{ready}
+use Rattle.gh_core.specs.declared.current.CallStage.TheVariants as stages
 use Rattle.gh_core.specs.declared.current.CurrentCall.{CurrentCall}
+use Rattle.gh_core.specs.declared.current.GivenCall.{GivenCall}
 use Rattle.gh_items.specs.Stands.{with_end}
 use Rattle.gh_items.specs.declared.progress.Progress.{Progress}
 use Rattle.gh_items.specs.declared.progress.Seat.{Seat}
@@ -30,6 +32,10 @@ with_entry progress entry = record progress { entries = progress.entries ++ entr
 -- the entry of a call's act
 abbrev pub act_entry : ℕ → CurrentCall → Entry
 act_entry at call = Acted (cpu_no at) call.given.number
+
+-- a call that looks up no capability is at its act from its begin
+abbrev pub lookless_call : GivenCall → CurrentCall
+lookless_call call = record { given = call; section = 0; seen = []; stage = stages.AtAct }
 
 -- an act that is done is the call's entry, and one that is refused ends the call where it was judged
 abbrev pub with_judged : Progress → ℕ → Seat → CurrentCall → Judged → Progress

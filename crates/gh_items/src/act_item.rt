@@ -1,21 +1,34 @@
 //! The item of a call that is its act.
 
-ghost use Rattle.std.specs.Prelude.{◌≡◌, ◌+◌, ◌<◌, length, false, OnOk, Some};
+ghost use Rattle.std.specs.Prelude.{◌≡◌, ◌+◌, ◌<◌, length, false, true, Ok, OnOk, Some};
+ghost use Rattle.gh_core.specs.CallEvents.{has_needs};
 ghost use Rattle.gh_core.specs.Config.{Config};
+<<<<<<< HEAD
 ghost use Rattle.gh_core.specs.Items.{act, sweeps};
 ghost use Rattle.gh_core.specs.Running.{current_of};
 ghost use Rattle.gh_core.specs.Trace.{after_all};
 ghost use Rattle.gh_core.specs.TurnEvents.{taken};
 ghost use Rattle.gh_core.specs.declared.current.CallStage.TheVariants.{AtAct};
 ghost use Rattle.gh_items.specs.Acts.{judged_in, ActsNext, with_judged};
+=======
+ghost use Rattle.gh_core.specs.Items.{act, judged_in, sweeps};
+ghost use Rattle.gh_core.specs.Running.{current_of, given_of};
+ghost use Rattle.gh_core.specs.Start.{MayGive, given as given_next};
+ghost use Rattle.gh_core.specs.Trace.{after_all};
+ghost use Rattle.gh_core.specs.TurnEvents.{taken};
+ghost use Rattle.gh_core.specs.declared.current.CallStage.TheVariants.{AtAct};
+ghost use Rattle.gh_items.specs.Acts.{ActsNext, lookless_call, with_judged};
+>>>>>>> dec1f37cb5929372b98ec550c3e2bae3e5d27b1a
 ghost use Rattle.gh_items.specs.Stands.{Stands, with_call};
 ghost use Rattle.gh_model.specs.Legal.{is_revoke};
+ghost use Rattle.gh_model.specs.Registers.{call_of};
 
 use crate::end::end_call;
 use crate::judge::judge;
+use crate::parts::make_all_parts;
 use crate::progress::{Progress, Seat, seat_of};
-use gh_base::{CpuNo, End, NoMemory};
-use gh_core::CurrentCall;
+use gh_base::{BoundedSequence, Call, CpuNo, End, NoMemory};
+use gh_core::{CallStage, CurrentCall, GivenCall};
 use gh_model::{Entry, Judged};
 use std::alloc::Global;
 
@@ -69,7 +82,7 @@ fn judged_act(
 }
 
 /// The act of a call that begins with its turn, where neither a sweep nor parts prepare it.
-pub(crate) fn plain_act(
+fn plain_act(
     progress: &mut Progress,
     alloc: Global,
     cpu: CpuNo,
@@ -85,8 +98,53 @@ pub(crate) fn plain_act(
     judged_act(progress, alloc, cpu, call)
 }
 
-/// The act of a call in progress, where neither a sweep nor parts prepare it.
-pub(crate) fn plain_act_item(
+/// The act of a call that revokes the capabilities of an object, one slot after another. It begins
+/// with its turn.
+fn revoke_act(
+    progress: &mut Progress,
+    alloc: Global,
+    cpu: CpuNo,
+    call: CurrentCall,
+) -> Result<(), NoMemory>
+    ghost conf: { Config }
+    requires stands { Stands (with_call progress.old cpu.0 (Some call)) (taken conf cpu.0) }
+    requires next { ActsNext conf cpu.0 (current_of call) }
+    requires revokes { is_revoke call.given.call ≡ true }
+    ensures { OnOk result (Stands progress.new (after_all conf (act cpu.0 conf))) }
+{
+    make_all_parts(progress, alloc, cpu, &call)?;
+    judged_act(progress, alloc, cpu, call)
+}
+
+/// Whether the call revokes the capabilities of an object, one slot after another.
+fn is_revoke(call: &Call) -> bool
+    ensures { result ≡ is_revoke call.now }
+{
+    matches!(call, Call::CapsRevoke { .. })
+}
+
+/// The act of a call that doesn't sweep, and begins with its turn.
+pub(crate) fn unswept_act(
+    progress: &mut Progress,
+    alloc: Global,
+    cpu: CpuNo,
+    call: CurrentCall,
+) -> Result<(), NoMemory>
+    ghost conf: { Config }
+    requires stands { Stands (with_call progress.old cpu.0 (Some call)) (taken conf cpu.0) }
+    requires next { ActsNext conf cpu.0 (current_of call) }
+    requires unswept { sweeps call.given.call ≡ false }
+    ensures { OnOk result (Stands progress.new (after_all conf (act cpu.0 conf))) }
+{
+    if is_revoke(&call.given.call) {
+        revoke_act(progress, alloc, cpu, call)
+    } else {
+        plain_act(progress, alloc, cpu, call)
+    }
+}
+
+/// The act of a call in progress that doesn't sweep.
+pub(crate) fn unswept_act_item(
     progress: &mut Progress,
     alloc: Global,
     cpu: CpuNo,
@@ -97,8 +155,41 @@ pub(crate) fn plain_act_item(
     requires next { ActsNext conf cpu.0 (current_of call) }
     requires acts { call.stage ≡ AtAct }
     requires unswept { sweeps call.given.call ≡ false }
-    requires other { is_revoke call.given.call ≡ false }
     ensures { OnOk result (Stands progress.new (after_all conf (act cpu.0 conf))) }
 {
-    plain_act(progress, alloc, cpu, call)
+    unswept_act(progress, alloc, cpu, call)
+}
+
+/// A call without looks at its begin.
+fn lookless_call(given: GivenCall) -> CurrentCall
+    ensures { result ≡ lookless_call given }
+{
+    CurrentCall {
+        given,
+        section: 0,
+        seen: BoundedSequence::new(),
+        stage: CallStage::AtAct,
+    }
+}
+
+/// The CPU is given a call that looks up no capability, and makes its act.
+pub(crate) fn lookless_act(
+    progress: &mut Progress,
+    alloc: Global,
+    cpu: CpuNo,
+    given: GivenCall,
+) -> Result<(), NoMemory>
+    ghost conf: { Config }
+    requires stands { Stands progress.old conf }
+    requires may { MayGive conf cpu.0 given.number }
+    requires of_frame { call_of given.frame ≡ Ok given.call }
+    requires lookless { has_needs (given_of given) ≡ false }
+    requires next { ActsNext (given_next conf cpu.0 given.number given.frame) cpu.0
+        (current_of (lookless_call given)) }
+    ensures { OnOk result (Stands progress.new
+        (after_all (given_next conf cpu.0 given.number given.frame)
+        (act cpu.0 (given_next conf cpu.0 given.number given.frame)))) }
+{
+    let call = lookless_call(given);
+    unswept_act(progress, alloc, cpu, call)
 }

@@ -29,7 +29,7 @@ fn words_in(seen: &[SeenLook]) -> BoundedSequence<Word, 2>
 }
 
 /// The words that the looks of a call found.
-fn words_of(seen: &BoundedSequence<SeenLook, 2>) -> BoundedSequence<Word, 2>
+pub(crate) fn words_of(seen: &BoundedSequence<SeenLook, 2>) -> BoundedSequence<Word, 2>
     ensures { result ≡ map word_of (map seen_of seen.now) }
 {
     let count = seen.len();
@@ -39,7 +39,7 @@ fn words_of(seen: &BoundedSequence<SeenLook, 2>) -> BoundedSequence<Word, 2>
 }
 
 /// The objects that a call is granted, one for each of its needs.
-fn grants(alloc: Global, call: &Call, words: &[Word]) -> Result<Vec<Serial>, NoMemory>
+pub(crate) fn grants(alloc: Global, call: &Call, words: &[Word]) -> Result<Vec<Serial>, NoMemory>
     ensures { IfOk result (λ grants. grants.items ≡ grants_of call.now words.now) }
 {
     let grants: Vec<Serial> = words

@@ -8,6 +8,7 @@ mod frame_item;
 mod judge;
 mod leave_item;
 mod look_item;
+mod parts;
 mod progress;
 mod section;
 mod stage_items;

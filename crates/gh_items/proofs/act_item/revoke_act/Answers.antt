@@ -1,0 +1,23 @@
+-- The parts are possible where the turn is taken, and the act is judged behind them.
+use Rattle.std.proofs.Common.{Some, subst, sym}
+use Rattle.gh_core.specs.Running.{current_of}
+use Rattle.gh_items.specs.Stands.{Stands, with_call}
+use Rattle.gh_items.proofs.ActLemmas.{taken_sound}
+use Rattle.gh_items.proofs.RevokeLemmas.{parts_done, parts_judged, revoke_unswept}
+use Rattle.gh_items.proofs.act_item.revoke_act.Goals as goal
+
+pub make_all_parts-requires : goal.make_all_parts-requires
+make_all_parts-requires g c = (
+  c.requires.0,
+  (
+    taken_sound g.conf c.args.cpu.0 (current_of c.args.call) c.requires.1.0,
+    (c.requires.1.0.is_cpu, (c.requires.1.1, parts_done g.conf c.args.cpu.0 (current_of c.args.call) c.requires.1.0 c.requires.1.1)),
+  ),
+)
+
+pub judged_act-requires : goal.judged_act-requires
+judged_act-requires g c = (
+  subst (Stands (with_call c.make_all_parts.new.progress c.args.cpu.0 (Some c.args.call)))
+      (sym (parts_judged g.conf c.args.cpu.0 (current_of c.args.call) c.requires.1.0 c.requires.1.1)) c.in_ok-make_all_parts.ensures,
+  (c.requires.1.0, revoke_unswept c.args.call.given.call c.requires.1.1),
+)
