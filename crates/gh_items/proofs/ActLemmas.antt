@@ -51,13 +51,8 @@ module _ (conf : Config) (at : ℕ) (call : Current) (next : ActsNext conf at ca
   abbrev Taken : Config
   Taken = taken conf at
 
-<<<<<<< HEAD
-  taken_sound : IsSound (taken conf at)
-  taken_sound = event_keeps_sound conf (Take (cpu_no at)) next.steady.sound (may_take conf at next.steady.sound next.is_cpu next.steady.free call next.is_ready)
-=======
   pub taken_sound : IsSound (taken conf at)
-  taken_sound = event_keeps_sound conf (Take (cpu_no at)) next.sound (may_take conf at next.sound next.is_cpu next.free call next.is_ready)
->>>>>>> dec1f37cb5929372b98ec550c3e2bae3e5d27b1a
+  taken_sound = event_keeps_sound conf (Take (cpu_no at)) next.steady.sound (may_take conf at next.steady.sound next.is_cpu next.steady.free call next.is_ready)
 
   begins : HasNotBegun (taken conf at) at
   begins = take_begins conf at next.steady.sound next.is_cpu next.steady.free call next.is_ready
@@ -76,7 +71,7 @@ module _ (conf : Config) (at : ℕ) (call : Current) (next : ActsNext conf at ca
 
   -- what prepares it is possible
   pub prepares_done : AreDone (taken conf at) (preparing at (taken conf at))
-  prepares_done = (preparing_leads at begins.call (taken conf at) sweeping next.nine).done
+  prepares_done = (preparing_leads at begins.call (taken conf at) sweeping next.steady.nine).done
 
   -- the configuration in which the act is judged
   pub prepared : IsPrepared (judged_in conf at) at call

@@ -2,6 +2,7 @@ pub mod ActLemmas
 pub mod EndLemmas
 pub mod EnterLemmas
 pub mod EntryLemmas
+pub mod EntrySteps
 pub mod FrameLemmas
 pub mod FreeLemmas
 pub mod ItemLemmas

@@ -27,7 +27,7 @@ use Rattle.gh_invariant.specs.Lives.{lives}
 use Rattle.gh_items.specs.Parts.{is_unfinished, part_row, with_part}
 use Rattle.gh_items.specs.Stands.{Stands, with_call}
 use Rattle.gh_items.specs.declared.progress.Progress.{Progress}
-use Rattle.gh_items.proofs.FrameLemmas.{committed_stands}
+use Rattle.gh_items.proofs.EntrySteps.{committed_stands}
 use Rattle.gh_items.proofs.SeatLemmas.{current_is}
 use Rattle.gh_model.specs.Act.{granted, grants_of}
 use Rattle.gh_model.specs.Decide.{decision, has_moved, verdict}

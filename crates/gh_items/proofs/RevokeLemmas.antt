@@ -4,7 +4,7 @@ use Rattle.std.specs.Prelude.{count_by}
 use Rattle.gh_base.specs.declared.call.Call.{Call}
 use Rattle.gh_base.specs.declared.call.Call.TheVariants as calls
 use Rattle.gh_core.specs.Config.{Config, Current, present}
-use Rattle.gh_core.specs.Items.{judged_in, object_revoked, part, parts, plain_caps, preparing, prepares, sweeps, taking}
+use Rattle.gh_core.specs.Items.{object_revoked, part, parts, plain_caps, preparing, prepares, sweeps, taking}
 use Rattle.gh_core.specs.Sound.{IsSound}
 use Rattle.gh_core.specs.Sweep.{sweep}
 use Rattle.gh_core.specs.Trace.{AreDone, after_all, and_then}
@@ -14,7 +14,7 @@ use Rattle.gh_core.specs.declared.event.Event.{Event}
 use Rattle.gh_core.proofs.TraceLaws.{after_append, done_append}
 use Rattle.gh_core.proofs.TraceSound.{trace_keeps_sound}
 use Rattle.gh_invariant.proofs.Counting.{count_cons, one_false, one_true}
-use Rattle.gh_items.specs.Acts.{ActsNext}
+use Rattle.gh_items.specs.Acts.{ActsNext, judged_in}
 use Rattle.gh_items.specs.Parts.{all_parts}
 use Rattle.gh_items.proofs.ActLemmas.{prepares_done, taken_now}
 use Rattle.gh_model.specs.Legal.{is_revoke}

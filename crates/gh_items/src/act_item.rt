@@ -3,22 +3,13 @@
 ghost use Rattle.std.specs.Prelude.{◌≡◌, ◌+◌, ◌<◌, length, false, true, Ok, OnOk, Some};
 ghost use Rattle.gh_core.specs.CallEvents.{has_needs};
 ghost use Rattle.gh_core.specs.Config.{Config};
-<<<<<<< HEAD
 ghost use Rattle.gh_core.specs.Items.{act, sweeps};
-ghost use Rattle.gh_core.specs.Running.{current_of};
-ghost use Rattle.gh_core.specs.Trace.{after_all};
-ghost use Rattle.gh_core.specs.TurnEvents.{taken};
-ghost use Rattle.gh_core.specs.declared.current.CallStage.TheVariants.{AtAct};
-ghost use Rattle.gh_items.specs.Acts.{judged_in, ActsNext, with_judged};
-=======
-ghost use Rattle.gh_core.specs.Items.{act, judged_in, sweeps};
 ghost use Rattle.gh_core.specs.Running.{current_of, given_of};
 ghost use Rattle.gh_core.specs.Start.{MayGive, given as given_next};
 ghost use Rattle.gh_core.specs.Trace.{after_all};
 ghost use Rattle.gh_core.specs.TurnEvents.{taken};
 ghost use Rattle.gh_core.specs.declared.current.CallStage.TheVariants.{AtAct};
-ghost use Rattle.gh_items.specs.Acts.{ActsNext, lookless_call, with_judged};
->>>>>>> dec1f37cb5929372b98ec550c3e2bae3e5d27b1a
+ghost use Rattle.gh_items.specs.Acts.{ActsNext, judged_in, lookless_call, with_judged};
 ghost use Rattle.gh_items.specs.Stands.{Stands, with_call};
 ghost use Rattle.gh_model.specs.Legal.{is_revoke};
 ghost use Rattle.gh_model.specs.Registers.{call_of};
