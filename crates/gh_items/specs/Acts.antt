@@ -1,5 +1,5 @@
 -- What the act of a call does to a run's progress: an entry of the history, and the call's end.
-use Rattle.std.specs.Prelude.{◌≡◌, ◌<◌, ℕ, List, [], ◌∷◌, ◌++◌, Option, Some, None}
+use Rattle.std.specs.Prelude.{◌≡◌, ◌<◌, ℕ, [], ◌∷◌, ◌++◌, Some, None}
 use Rattle.gh_base.specs.declared.limits.TheConstants.{CPUS}
 use Rattle.gh_base.specs.declared.mark.End.TheVariants as ends
 use Rattle.gh_core.specs.Committing.{HasFewReferences, cpu_no}
