@@ -92,7 +92,8 @@ module _ (conf : Config) (at : ℕ) (call : Current) (next : ActsNext conf at ca
       let taken_now : ((taken conf at).cpu at).current ≡ Some call = ap (λ (cpu : Cpu). cpu.current) (put_here conf.cpu at _) ∙ next.is_ready in
       ap (λ (current : Option Current). after_all (taken conf at) (prepares at (taken conf at) current)) taken_now
       ∙ ap (after_all (taken conf at))
-      (none (sweep at (taken conf at)) (parts at (length (plain_caps (present (taken conf at)) (object_revoked call))) (taken conf at)) (sweeps call.given.call) (is_revoke call.given.call) unswept other)
+      (none (sweep at (taken conf at)) (parts at (length (plain_caps (present (taken conf at)) (object_revoked call))) (taken conf at))
+      (sweeps call.given.call) (is_revoke call.given.call) unswept other)
     where
       none : (first second : List Event) (swept revokes : Bool) → swept ≡ false → revokes ≡ false
           → (if swept then first else (if revokes then second else [])) ≡ []

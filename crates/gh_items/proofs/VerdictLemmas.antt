@@ -193,4 +193,5 @@ module _ (progress : Progress) (conf : Config) (at : ℕ) (call : CurrentCall) (
         subst (λ (place : ℕ). Stands (with_end (with_entry (in_state progress new) entry) at seat call (ends.Entry place) reply) (after_judged conf at)) (sym number_is)
         (subst (λ (events : List Event). Stands (with_end (with_entry (in_state progress new) entry) at seat call its.end reply)
         (after_all conf (events ++ and_then (freeing at) (unpins at) (after_all conf events)))) (sym one_acts)
-        (subst (Stands (with_end (with_entry (in_state progress new) entry) at seat call its.end reply)) (sym (after_append conf (committing at entry conf) (and_then (freeing at) (unpins at) behind))) ended))
+        (subst (Stands (with_end (with_entry (in_state progress new) entry) at seat call its.end reply))
+        (sym (after_append conf (committing at entry conf) (and_then (freeing at) (unpins at) behind))) ended))
