@@ -1,12 +1,12 @@
 -- The act of a call behind what prepares it, as one item.
-use Rattle.std.proofs.Common.{◌≡◌, ◌==◌, ◌+◌, ◌<◌, ◌∙◌, ◌⊎◌, inl, inr, ℕ, Bool, true, false, List, [], ◌∷◌, ◌++◌, length, refl, subst, sym, ap, arith, Option, Some, None, is_some, slice_get, if◌then◌else◌}
+use Rattle.std.proofs.Common.{◌≡◌, ◌==◌, ◌+◌, ◌<◌, ◌∙◌, inl, inr, ℕ, Bool, true, false, List, [], length, refl, subst, sym, ap, arith, Option, Some, None, is_some, slice_get, if◌then◌else◌}
 use Rattle.std.proofs.lemmas.Bool.{eqb-true}
 use Rattle.gh_base.specs.declared.call.Call.{Call}
 use Rattle.gh_base.specs.declared.call.Call.TheVariants as calls
 use Rattle.gh_base.specs.declared.frame.Reply.{Reply}
-use Rattle.gh_base.specs.declared.limits.TheConstants.{CPUS, HISTORY_ENTRIES}
+use Rattle.gh_base.specs.declared.limits.TheConstants.{HISTORY_ENTRIES}
 use Rattle.gh_core.specs.Committing.{cpu_no}
-use Rattle.gh_core.specs.Config.{AtAct, Config, Cpu, Current, Stage, judged, present, put}
+use Rattle.gh_core.specs.Config.{AtAct, Config, Cpu, Current, Stage, judged, present}
 use Rattle.gh_core.specs.Entries.{logged}
 use Rattle.gh_core.specs.HolderEvents.{is_create}
 use Rattle.gh_core.specs.Items.{act, acting, freeing, object_revoked, parts, plain_caps, preparing, prepares, sweeps, taking, unpins}
@@ -20,23 +20,23 @@ use Rattle.gh_core.specs.declared.event.Event.{Event}
 use Rattle.gh_core.specs.declared.event.Event.TheVariants.{Take}
 use Rattle.gh_core.proofs.Acting.{IsDone, acted_allows}
 use Rattle.gh_core.proofs.ActItems.{IsPrepared, preparing_leads}
-use Rattle.gh_core.proofs.EntryReferences.{MakesNone, MakesOne, Objects, event_objects}
+use Rattle.gh_core.proofs.EntryReferences.{MakesNone, Objects, event_objects}
 use Rattle.gh_core.proofs.Finding.{put_here, put_other}
 use Rattle.gh_core.proofs.LengthBound.{history_is_short}
 use Rattle.gh_core.proofs.LookCalls.{entries_all}
 use Rattle.gh_core.proofs.SoundEvents.{event_keeps_sound}
 use Rattle.gh_core.proofs.SweepLaw.{is_sweeping}
 use Rattle.gh_core.proofs.SweepSteps.{IsSweeping}
-use Rattle.gh_core.proofs.TraceLaws.{Leads, after_append}
+use Rattle.gh_core.proofs.TraceLaws.{after_append}
 use Rattle.gh_core.proofs.TurnItems.{may_take, take_begins}
 use Rattle.gh_core.proofs.ValidEntries.{event_fits}
 use Rattle.gh_items.specs.Acts.{ActsNext, act_entry, after_judged, judged_in, in_state, with_judged}
 use Rattle.gh_items.specs.Stands.{Stands, with_call}
 use Rattle.gh_items.specs.declared.progress.Progress.{Progress}
 use Rattle.gh_items.specs.declared.progress.Seat.{Seat}
-use Rattle.gh_items.proofs.LikeLemmas.{IsLike, stands_like}
+use Rattle.gh_items.proofs.LikeLemmas.{IsLike}
 use Rattle.gh_items.proofs.VerdictLemmas.{done_stands, refused_stands}
-use Rattle.gh_model.specs.Act.{Done, Judges, Refused, Verdict}
+use Rattle.gh_model.specs.Act.{Done, Judges}
 use Rattle.gh_model.specs.Legal.{is_revoke}
 use Rattle.gh_model.specs.declared.plain.Judged.{Judged}
 use Rattle.gh_model.specs.declared.plain.Judged.TheVariants as says
@@ -92,7 +92,8 @@ module _ (conf : Config) (at : ℕ) (call : Current) (next : ActsNext conf at ca
       let taken_now : ((taken conf at).cpu at).current ≡ Some call = ap (λ (cpu : Cpu). cpu.current) (put_here conf.cpu at _) ∙ next.is_ready in
       ap (λ (current : Option Current). after_all (taken conf at) (prepares at (taken conf at) current)) taken_now
       ∙ ap (after_all (taken conf at))
-      (none (sweep at (taken conf at)) (parts at (length (plain_caps (present (taken conf at)) (object_revoked call))) (taken conf at)) (sweeps call.given.call) (is_revoke call.given.call) unswept other)
+      (none (sweep at (taken conf at)) (parts at (length (plain_caps (present (taken conf at)) (object_revoked call))) (taken conf at))
+      (sweeps call.given.call) (is_revoke call.given.call) unswept other)
     where
       none : (first second : List Event) (swept revokes : Bool) → swept ≡ false → revokes ≡ false
           → (if swept then first else (if revokes then second else [])) ≡ []

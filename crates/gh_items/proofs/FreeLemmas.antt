@@ -1,5 +1,5 @@
 -- The turn is given back with the call's end, and its pins are dropped.
-use Rattle.std.proofs.Common.{◌≡◌, ◌==◌, ◌<◌, ◌∙◌, ℕ, Bool, false, [], ap, sym, Option, Some, None, slice_get}
+use Rattle.std.proofs.Common.{◌≡◌, ◌<◌, ◌∙◌, ℕ, [], ap, Option, Some, None, slice_get}
 use Rattle.gh_base.specs.declared.limits.TheConstants.{CPUS}
 use Rattle.gh_core.specs.CallEvents.{finished, with_end as ended_cpu}
 use Rattle.gh_core.specs.Config.{Config, Cpu, Holder}

@@ -1,11 +1,11 @@
 -- A CPU that is given a call without looks, and takes the turn for its act.
-use Rattle.std.proofs.Common.{◌≡◌, ◌==◌, ◌<◌, ◌∙◌, ℕ, Bool, true, false, List, [], length, refl, sym, ap, subst, Option, Some, None, Ok, is_some, if◌then◌else◌}
+use Rattle.std.proofs.Common.{◌≡◌, ◌==◌, ◌<◌, ◌∙◌, ℕ, Bool, false, List, length, refl, sym, ap, subst, Option, Some, None, Ok, is_some, if◌then◌else◌}
 use Rattle.std.specs.Prelude.{nat_lt}
 use Rattle.gh_base.specs.declared.call.Call.{Call}
 use Rattle.gh_base.specs.declared.call.Call.TheVariants as calls
 use Rattle.gh_base.specs.declared.limits.TheConstants.{CPUS}
 use Rattle.gh_core.specs.CallEvents.{begun, has_needs}
-use Rattle.gh_core.specs.Config.{AtAct, Config, Cpu, Current, Given, Pin}
+use Rattle.gh_core.specs.Config.{AtAct, Config, Cpu, Current, Pin}
 use Rattle.gh_core.specs.Items.{sweeps}
 use Rattle.gh_core.specs.Running.{given_of}
 use Rattle.gh_core.specs.Start.{MayGive, given as given_next, with_next}

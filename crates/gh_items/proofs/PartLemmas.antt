@@ -1,6 +1,5 @@
 -- One part of a call that revokes the capabilities of an object one slot after another.
-use Rattle.std.proofs.Common.{◌≡◌, ◌==◌, ◌+◌, ◌<◌, ◌∙◌, ◌⊎◌, inl, inr, ℕ, zero, suc, Bool, true, false, List, [], ◌∷◌, ◌++◌, drop, filter, find, length, map, refl, subst, sym, ap, arith, Option, Some, None, is_some, slice_get, if◌then◌else◌}
-use Rattle.std.specs.Prelude.{◌&&◌, not, slice_index}
+use Rattle.std.proofs.Common.{◌≡◌, ◌==◌, ◌+◌, ◌<◌, ◌∙◌, inl, inr, ℕ, zero, suc, Bool, true, false, List, [], ◌∷◌, ◌++◌, drop, find, length, map, refl, subst, sym, ap, arith, Option, Some, None, slice_get, if◌then◌else◌}
 use Rattle.std.specs.Option.{option_map_or}
 use Rattle.std.proofs.lemmas.Bool.{and_parts}
 use Rattle.gh_base.specs.Errno.{errno_number}
@@ -9,10 +8,10 @@ use Rattle.gh_base.specs.declared.call.Call.TheVariants as calls
 use Rattle.gh_base.specs.declared.errno.Errno.{Errno}
 use Rattle.gh_base.specs.declared.errno.Errno.TheVariants as errno
 use Rattle.gh_base.specs.declared.limits.TheConstants.{CPUS, HISTORY_ENTRIES}
-use Rattle.gh_core.specs.Committing.{added, committing, cpu_no}
+use Rattle.gh_core.specs.Committing.{committing}
 use Rattle.gh_core.specs.Config.{Config, Current, judged, present}
-use Rattle.gh_core.specs.Entries.{is_plain_of, logged, makes_object, next_state}
-use Rattle.gh_core.specs.Items.{goes_on, least, lesser, next_part, object_revoked, part, part_at, part_by, part_of}
+use Rattle.gh_core.specs.Entries.{logged, makes_object, next_state}
+use Rattle.gh_core.specs.Items.{goes_on, next_part, object_revoked, part, part_at, part_by, part_of}
 use Rattle.gh_core.specs.Running.{current_of, seen_of}
 use Rattle.gh_core.specs.Sound.{IsSound}
 use Rattle.gh_core.specs.Trace.{after_all}

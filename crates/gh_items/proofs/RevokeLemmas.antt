@@ -1,10 +1,10 @@
 -- The parts of a revoke one after the other, as many as there are capabilities to revoke.
-use Rattle.std.proofs.Common.{◌≡◌, ◌+◌, ◌<◌, ◌≤◌, ◌∙◌, ℕ, zero, suc, Bool, true, false, List, [], ◌∷◌, ◌++◌, filter, length, refl, subst, sym, ap, arith, Option, Some, None, if◌then◌else◌}
+use Rattle.std.proofs.Common.{◌≡◌, ◌+◌, ◌≤◌, ◌∙◌, ℕ, zero, suc, Bool, true, false, List, [], ◌∷◌, ◌++◌, filter, length, refl, subst, sym, ap, arith, if◌then◌else◌}
 use Rattle.std.specs.Prelude.{count_by}
 use Rattle.gh_base.specs.declared.call.Call.{Call}
 use Rattle.gh_base.specs.declared.call.Call.TheVariants as calls
-use Rattle.gh_core.specs.Config.{Config, Current, present}
-use Rattle.gh_core.specs.Items.{object_revoked, part, parts, plain_caps, preparing, prepares, sweeps, taking}
+use Rattle.gh_core.specs.Config.{Config, Current}
+use Rattle.gh_core.specs.Items.{part, parts, preparing, prepares, sweeps, taking}
 use Rattle.gh_core.specs.Sound.{IsSound}
 use Rattle.gh_core.specs.Sweep.{sweep}
 use Rattle.gh_core.specs.Trace.{AreDone, after_all, and_then}

@@ -1,6 +1,6 @@
 -- The act of a call is judged: where it is done the history gets its entry, and the call has its end.
-use Rattle.std.proofs.Common.{◌≡◌, ◌==◌, ◌+◌, ◌-◌, ◌<◌, ◌≤◌, ◌∙◌, ◌⊎◌, inl, inr, ℕ, Bool, true, false, List, [], ◌∷◌, ◌++◌, refl, subst, sym, ap, arith, length, length-append, map, Option, Some, None, is_some, slice_get, if◌then◌else◌}
-use Rattle.std.specs.Prelude.{◌||◌, slice_index, take}
+use Rattle.std.proofs.Common.{◌≡◌, ◌==◌, ◌+◌, ◌-◌, ◌<◌, ◌∙◌, ℕ, Bool, true, false, List, [], ◌∷◌, ◌++◌, refl, subst, sym, ap, arith, length, length-append, map, Option, Some, None, is_some, slice_get, if◌then◌else◌}
+use Rattle.std.specs.Prelude.{◌||◌, slice_index}
 use Rattle.std.specs.List.{list_any}
 use Rattle.std.proofs.lemmas.List.{take-append-le}
 use Rattle.std.proofs.lemmas.List.Folds.{list_any-append}
@@ -15,17 +15,16 @@ use Rattle.gh_core.specs.Entries.{logged, next_state}
 use Rattle.gh_core.specs.HolderEvents.{is_done}
 use Rattle.gh_core.specs.Items.{acting, acts, freeing, sweeps, unpins}
 use Rattle.gh_core.specs.Running.{current_of}
-use Rattle.gh_core.specs.Sound.{IsSound}
 use Rattle.gh_core.specs.Trace.{after_all, and_then}
 use Rattle.gh_core.specs.TurnEvents.{Ending, acted_ending, ending, refused_ending, short_ending}
 use Rattle.gh_core.specs.declared.current.CurrentCall.{CurrentCall}
 use Rattle.gh_core.specs.declared.event.Event.{Event}
-use Rattle.gh_core.proofs.Acting.{IsDone, IsJudged, acted_allows}
+use Rattle.gh_core.proofs.Acting.{IsDone, acted_allows}
 use Rattle.gh_core.proofs.ActItems.{IsPrepared}
 use Rattle.gh_core.proofs.Commits.{IsCommitted, entered_by, plain_commits}
 use Rattle.gh_core.proofs.EntryReferences.{MakesNone}
 use Rattle.gh_core.proofs.LookCalls.{entries_all}
-use Rattle.gh_core.proofs.TraceLaws.{Leads, after_append}
+use Rattle.gh_core.proofs.TraceLaws.{after_append}
 use Rattle.gh_items.specs.Acts.{act_entry, after_judged, in_state, with_entry, with_judged}
 use Rattle.gh_items.specs.Stands.{Stands, with_call, with_end}
 use Rattle.gh_items.specs.declared.progress.Progress.{Progress}
@@ -194,4 +193,5 @@ module _ (progress : Progress) (conf : Config) (at : ℕ) (call : CurrentCall) (
         subst (λ (place : ℕ). Stands (with_end (with_entry (in_state progress new) entry) at seat call (ends.Entry place) reply) (after_judged conf at)) (sym number_is)
         (subst (λ (events : List Event). Stands (with_end (with_entry (in_state progress new) entry) at seat call its.end reply)
         (after_all conf (events ++ and_then (freeing at) (unpins at) (after_all conf events)))) (sym one_acts)
-        (subst (Stands (with_end (with_entry (in_state progress new) entry) at seat call its.end reply)) (sym (after_append conf (committing at entry conf) (and_then (freeing at) (unpins at) behind))) ended))
+        (subst (Stands (with_end (with_entry (in_state progress new) entry) at seat call its.end reply))
+        (sym (after_append conf (committing at entry conf) (and_then (freeing at) (unpins at) behind))) ended))

@@ -1,5 +1,5 @@
 -- What the act of a call does to a run's progress: an entry of the history, and the call's end.
-use Rattle.std.specs.Prelude.{◌≡◌, ◌<◌, ℕ, List, [], ◌∷◌, ◌++◌, Option, Some, None}
+use Rattle.std.specs.Prelude.{◌≡◌, ◌<◌, ℕ, [], ◌∷◌, ◌++◌, Some, None}
 use Rattle.gh_base.specs.declared.limits.TheConstants.{CPUS}
 use Rattle.gh_base.specs.declared.mark.End.TheVariants as ends
 use Rattle.gh_core.specs.Committing.{cpu_no}
@@ -37,7 +37,8 @@ act_entry at call = Acted (cpu_no at) call.given.number
 abbrev pub lookless_call : GivenCall → CurrentCall
 lookless_call call = record { given = call; section = 0; seen = []; stage = stages.AtAct }
 
--- an act that is done is the call's entry, and one that is refused ends the call where it was judged
+-- an act that is done is the call's entry, and one that is refused ends the call where it was
+-- judged
 abbrev pub with_judged : Progress → ℕ → Seat → CurrentCall → Judged → Progress
 with_judged progress at seat call (says.Done reply) =
     with_end (with_entry progress (act_entry at call)) at seat call

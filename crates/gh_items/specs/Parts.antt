@@ -1,6 +1,6 @@
 -- The parts of a call that revokes the capabilities of an object one slot after another, on a run's
 -- progress.
-use Rattle.std.specs.Prelude.{◌≡◌, ℕ, Bool, true, false, List, length, Option, Some, None, if◌then◌else◌}
+use Rattle.std.specs.Prelude.{ℕ, Bool, true, false, List, length, Option, None, if◌then◌else◌}
 use Rattle.gh_core.specs.Committing.{cpu_no}
 use Rattle.gh_core.specs.Config.{Config, Current, judged, present}
 use Rattle.gh_core.specs.Items.{goes_on, next_part, object_revoked, parts, plain_caps}
