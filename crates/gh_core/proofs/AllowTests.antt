@@ -1,8 +1,7 @@
 -- The test of an entry tells that it is allowed.
-use Rattle.std.proofs.Common.{◌≡◌, ◌==◌, ◌&&◌, ◌∙◌, ℕ, Bool, true, false, List, refl, ap, sym, subst, Option, Some, None, not, find, map}
+use Rattle.std.proofs.Common.{◌≡◌, ◌==◌, ◌&&◌, ℕ, true, List, refl, Some, not, find, map}
 use Rattle.gh_base.specs.declared.ids.CpuNo.{CpuNo}
 use Rattle.gh_base.specs.declared.ids.Serial.{Serial}
-use Rattle.gh_model.specs.Act.{Done}
 use Rattle.gh_model.specs.Graced.{retirement}
 use Rattle.gh_model.specs.History as history
 use Rattle.gh_model.specs.Legal.{is_revoke, revoked_object, row_names}
@@ -11,7 +10,7 @@ use Rattle.gh_model.specs.References.{is_doomed}
 use Rattle.gh_model.specs.Rows.{fills, object_row}
 use Rattle.gh_model.specs.declared.entry.Entry.{Entry}
 use Rattle.gh_model.specs.declared.entry.Entry.TheVariants.{Acted, Part, Retired, Reclaimed}
-use Rattle.gh_core.specs.Config.{AtAct, Config, Current, HasTurn, Holder, IsIn, has_acted, has_part, judged, present, some_killed}
+use Rattle.gh_core.specs.Config.{Config, Current, Holder, has_acted, has_part, judged, present, some_killed}
 use Rattle.gh_core.specs.Entries.{Allows, IsActOf, IsPartOf, IsReclaim, IsRetirement, KindAllows, is_least, logged}
 use Rattle.gh_core.specs.EntryTests.{allows, are_scans, goes_on, is_its, is_next_slot, is_unread, kind_goes, part_goes, revokes_next}
 use Rattle.gh_core.specs.HolderEvents.{is_done}

@@ -1,12 +1,12 @@
 -- The tables before any event: seats of CPUs before their first call, and the indices of the boot.
-use Rattle.std.proofs.Common.{◌≡◌, ◌≢◌, ◌==◌, ◌&&◌, ◌+◌, ◌-◌, ◌<◌, ◌≤◌, ◌∙◌, ◌⊎◌, ℕ, zero, suc, Bool, true, false, List, [], ◌∷◌, inl, inr, refl, ap, sym, subst, arith, length, map, replicate, Option, Some, None, find, is_some, count_by, slice_get, nat_lt, if◌then◌else◌, IsTrue}
+use Rattle.std.proofs.Common.{◌≡◌, ◌≢◌, ◌==◌, ◌+◌, ◌-◌, ◌<◌, ◌≤◌, ◌∙◌, ◌⊎◌, ℕ, zero, suc, Bool, true, false, List, [], ◌∷◌, inl, inr, refl, ap, sym, subst, arith, length, map, replicate, None, is_some, count_by, slice_get, IsTrue}
 use Rattle.std.specs.List.{list_all}
 use Rattle.std.specs.Option.{option_map_or}
 use Rattle.std.proofs.Math.Path.{fun_ext}
 use Rattle.std.proofs.lemmas.Bool.Decides.{eqb_tells, leb_tells, nat_tests}
 use Rattle.gh_base.specs.declared.limits.TheConstants.{CPUS, OBJECT_INDICES}
 use Rattle.gh_invariant.specs.Lives.{lives}
-use Rattle.gh_invariant.specs.Valid.{IsValid, ObjectsFit}
+use Rattle.gh_invariant.specs.Valid.{ObjectsFit}
 use Rattle.gh_invariant.proofs.BootValid.{boot_valid}
 use Rattle.gh_invariant.proofs.Counting.{count_cons, one_false, one_true, unfound}
 use Rattle.gh_model.specs.QueueCalls.{one_if}
@@ -25,7 +25,7 @@ use Rattle.gh_core.specs.declared.config.Running.{Running}
 use Rattle.gh_core.specs.declared.cpu.Seat.{Seat}
 use Rattle.gh_core.specs.declared.log.Logged.{Logged}
 use Rattle.gh_core.specs.declared.table.Written.{Written}
-use Rattle.gh_core.proofs.CallTests.{below, both, is_below, joined}
+use Rattle.gh_core.proofs.CallTests.{is_below, joined}
 use Rattle.gh_core.proofs.LookRoom.{mapped_length}
 
 -- seats

@@ -1,6 +1,6 @@
 -- An event of a CPU that doesn't have the turn, which leaves history, dead words and turn, keeps sound
 -- calls where those of the CPU are sound.
-use Rattle.std.proofs.Common.{◌≡◌, ◌==◌, ◌+◌, ◌∙◌, ◌⊎◌, inl, inr, ℕ, Bool, true, false, List, [], ◌∷◌, ◌++◌, refl, subst, sym, ap, Option, Some, None, slice_get, if◌then◌else◌}
+use Rattle.std.proofs.Common.{◌≡◌, ◌==◌, ◌+◌, ◌∙◌, ◌⊎◌, inl, inr, ℕ, Bool, true, false, List, [], ◌∷◌, ◌++◌, refl, subst, sym, ap, Option, Some, None, slice_get}
 use Rattle.std.specs.List.{last_or}
 use Rattle.std.proofs.lemmas.Bool.{eqb-true}
 use Rattle.std.proofs.lemmas.Bool.Decides.{eqb_tells}
@@ -8,7 +8,7 @@ use Rattle.std.proofs.lemmas.List.{append-nil}
 use Rattle.std.proofs.lemmas.Option.{slice_get_within}
 use Rattle.gh_base.specs.declared.mark.End.TheVariants as ends
 use Rattle.gh_model.specs.History as history
-use Rattle.gh_model.specs.Legal.{CallIs, EntryIs, GoesOn, IsEndOf, IsNumbered, is_part}
+use Rattle.gh_model.specs.Legal.{CallIs, EntryIs, GoesOn, IsEndOf, IsNumbered}
 use Rattle.gh_model.specs.Marks.{InTurn, Made, Seen}
 use Rattle.gh_model.specs.Rows.{cpu_row}
 use Rattle.gh_model.specs.declared.entry.Entry.{Entry}
@@ -18,7 +18,7 @@ use Rattle.gh_model.proofs.RunLists.{slice_get_left}
 use Rattle.gh_core.specs.Calls.{CpuCalls, CurrentIs, DeathIs, HasCalls, IsActing, IsIdle, NextIs, Waits, acted_call, calls_in, calls_of, counted}
 use Rattle.gh_core.specs.Config.{AtAct, Config, Cpu, Current, Given, Holder, IsIn, put}
 use Rattle.gh_core.proofs.CpuMoves.{with_part}
-use Rattle.gh_core.proofs.Finding.{put_here, put_other, same_number}
+use Rattle.gh_core.proofs.Finding.{put_here, put_other}
 
 -- the CPU doesn't have the turn
 abbrev pub IsNotHolder : Option Holder → ℕ → Type 0

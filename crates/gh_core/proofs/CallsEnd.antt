@@ -1,20 +1,17 @@
 -- A call that leaves its section, and one that comes to its end, keep sound calls.
-use Rattle.std.proofs.Common.{◌≡◌, ◌==◌, ◌+◌, ◌*◌, ◌<◌, ◌∙◌, ◌⊎◌, inl, inr, ℕ, Bool, true, false, List, [], ◌∷◌, ◌++◌, length, refl, is_some, not, subst, sym, ap, arith, Option, Some, None, Result, Ok, Err, count_by, option_map, slice_get, if◌then◌else◌}
+use Rattle.std.proofs.Common.{◌≡◌, ◌==◌, ◌+◌, ◌*◌, ◌∙◌, inl, inr, ℕ, Bool, true, false, List, [], ◌∷◌, ◌++◌, length, refl, is_some, not, subst, sym, ap, arith, Option, Some, None, Result, count_by, option_map, if◌then◌else◌}
 use Rattle.std.specs.Prelude.{nat_lt}
 use Rattle.std.specs.List.{last_or}
-use Rattle.gh_base.specs.Reply.{refusal}
 use Rattle.gh_base.specs.declared.call.Call.{Call}
 use Rattle.gh_base.specs.declared.errno.Errno.{Errno}
-use Rattle.gh_base.specs.declared.errno.Errno.TheVariants.{CapRevoked}
 use Rattle.gh_base.specs.declared.frame.Reply.{Reply}
 use Rattle.gh_base.specs.declared.mark.End.{End}
 use Rattle.gh_base.specs.declared.mark.End.TheVariants as ends
 use Rattle.gh_model.specs.Legal.{CallIs, EndIs, FrameIs, IsEndOf, IsNumbered}
 use Rattle.gh_model.specs.Marks.{Fails, Grants, InTurn, Made, Outcome, Seen, Wants, cspace_of, failure, has_looks, place_after}
-use Rattle.gh_model.specs.Registers.{call_of}
 use Rattle.gh_model.proofs.RunLists.{count_snoc, in_turn_snoc, snoc_cases}
-use Rattle.gh_core.specs.Calls.{CurrentIs, DeathIs, HasCalls, calls_in, section_behind, steps_at}
-use Rattle.gh_core.specs.CallEvents.{MayLeave, after_leave, at_stage, end_of_looks, finished, has_grants, has_needs, leaves_from, left, reply_of_looks, with_end, with_left}
+use Rattle.gh_core.specs.Calls.{CurrentIs, DeathIs, HasCalls, calls_in, steps_at}
+use Rattle.gh_core.specs.CallEvents.{MayLeave, after_leave, at_stage, end_of_looks, finished, has_needs, leaves_from, left, reply_of_looks, with_end, with_left}
 use Rattle.gh_core.specs.Config.{AtAct, Config, Cpu, Current, DeadPin, Failed, IsIn, Looked, Reading, Stage, Undone, came_to, put}
 use Rattle.gh_core.proofs.CallMoves.{CallMoves, DeathsAre, IsNotHolder, ends_more, moved_sound, no_holder, only_made}
 use Rattle.gh_core.proofs.CallsGoOn.{its_came, its_counter, its_death, its_looked, its_needs, its_pinned, none_acts, stage_sound}

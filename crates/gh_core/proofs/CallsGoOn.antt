@@ -1,10 +1,9 @@
 -- The events of a call that leave the finished calls keep sound calls.
-use Rattle.std.proofs.Common.{◌≡◌, ◌==◌, ◌+◌, ◌*◌, ◌-◌, ◌∙◌, ℕ, Bool, true, false, not, List, [], ◌∷◌, length, refl, subst, sym, ap, arith, Option, Some, None, Ok, count_by, map, is_some, option_map, slice_get, if◌then◌else◌}
+use Rattle.std.proofs.Common.{◌≡◌, ◌==◌, ◌+◌, ◌*◌, ◌-◌, ◌∙◌, ℕ, true, false, not, List, [], ◌∷◌, refl, subst, sym, ap, arith, Option, Some, None, count_by, map, is_some, option_map}
 use Rattle.std.specs.List.{last_or, list_any}
 use Rattle.gh_base.specs.declared.cap_word.Need.{Need}
-use Rattle.gh_model.specs.Marks.{Made, Seen, has_looks, failure, outcome}
+use Rattle.gh_model.specs.Marks.{Seen, has_looks, failure, outcome}
 use Rattle.gh_model.specs.Registers.{needs_of}
-use Rattle.gh_model.specs.Rows.{cpu_row}
 use Rattle.gh_core.specs.Calls.{CurrentIs, DeathIs, HasCalls, NextIs, came_fits, is_dying, looks_fit, needs_fit, pinned_looks, section_behind, steps, steps_at}
 use Rattle.gh_core.specs.CallEvents.{MayEnter, MayUndo, MayUnpin, at_stage, begun, entered, undone, unpinned, without_pin}
 use Rattle.gh_core.specs.Config.{AtAct, Config, Cpu, Current, DeadPin, IsIn, Pin, Reading, Stage, Undone, came_to, is_pin_at, pin_of, put}

@@ -1,6 +1,6 @@
 -- What is committed is what the machine commits, where it may.
-use Rattle.std.proofs.Common.{◌≡◌, ◌==◌, ◌&&◌, ◌+◌, ◌-◌, ◌<◌, ◌≤◌, ◌∙◌, ◌++◌, ◌∷◌, [], ℕ, Bool, true, false, List, refl, ap, sym, subst, Option, Some, None, nat_lt, option_map}
-use Rattle.gh_base.specs.declared.limits.TheConstants.{CPUS, OBJECT_INDICES}
+use Rattle.std.proofs.Common.{◌≡◌, ◌&&◌, ◌<◌, ◌∙◌, ◌++◌, ◌∷◌, [], ℕ, true, false, List, refl, ap, sym, subst, Option, Some, None, nat_lt, option_map}
+use Rattle.gh_base.specs.declared.limits.TheConstants.{CPUS}
 use Rattle.gh_invariant.specs.Effects.{slots_set}
 use Rattle.gh_invariant.specs.Events.{changes_of}
 use Rattle.gh_model.specs.History as history
@@ -10,7 +10,7 @@ use Rattle.gh_core.specs.Config.{Config, Current, Holder, present}
 use Rattle.gh_core.specs.Entries.{Allows, Covers, logged, next_state, owed_after}
 use Rattle.gh_core.specs.EntryTests.{allows, entry_goes, goes_in, kind_goes, may_commit, sets_slots}
 use Rattle.gh_core.specs.Owing.{CoversAll, next_is, owed_behind, owed_in, owing_covers, owing_of, with_event, with_owing}
-use Rattle.gh_core.specs.Running.{event_of, holder_of, index_in, is_made, no_number, stands_for}
+use Rattle.gh_core.specs.Running.{event_of, holder_of, is_made, no_number, stands_for}
 use Rattle.gh_core.specs.Tables.{numbers}
 use Rattle.gh_core.specs.TurnEvents.{MayCommit, committed, committed_by, with_entry}
 use Rattle.gh_core.specs.declared.commit_events.Next.{Next}

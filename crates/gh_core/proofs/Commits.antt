@@ -1,14 +1,13 @@
 -- An entry that makes no object is committed: its gains are owed, the entry is possible, and its
 -- losses are settled.
-use Rattle.std.proofs.Common.{◌≡◌, ◌==◌, ◌+◌, ◌*◌, ◌-◌, ◌^◌, ◌<◌, ◌≤◌, ◌∙◌, ◌⊎◌, inl, inr, ℕ, Bool, true, false, List, [], ◌∷◌, ◌++◌, refl, subst, sym, ap, arith, IsTrue, length, filter, map, Option, Some, None, is_some, if◌then◌else◌}
-use Rattle.std.specs.Prelude.{◌&&◌, ◌||◌, count_by, option_map}
-use Rattle.std.specs.List.{list_all, list_any}
-use Rattle.std.proofs.lemmas.Bool.{and_from, and_parts, eqb-true}
+use Rattle.std.proofs.Common.{◌≡◌, ◌+◌, ◌^◌, ◌<◌, ◌≤◌, ◌∙◌, inl, ℕ, Bool, true, false, List, [], ◌∷◌, ◌++◌, refl, subst, sym, ap, arith, IsTrue, length, filter, Option, Some, None, is_some, if◌then◌else◌}
+use Rattle.std.specs.Prelude.{◌||◌}
+use Rattle.std.specs.List.{list_all}
+use Rattle.std.proofs.lemmas.Bool.{and_from, and_parts}
 use Rattle.std.proofs.lemmas.Bool.Decides.{nat_tests}
 use Rattle.gh_base.specs.declared.cap_word.CapWord.{CapWord}
 use Rattle.gh_base.specs.declared.ids.Serial.{Serial}
-use Rattle.gh_base.specs.declared.limits.TheConstants.{CPUS, OBJECT_INDICES}
-use Rattle.gh_model.specs.History as history
+use Rattle.gh_base.specs.declared.limits.TheConstants.{CPUS}
 use Rattle.gh_model.specs.QueueCalls.{one_if}
 use Rattle.gh_model.specs.References.{references}
 use Rattle.gh_model.specs.declared.change.Change.{Change}
@@ -20,30 +19,27 @@ use Rattle.gh_invariant.specs.Effects.{gained, lost, sets, sets_some, slots_set}
 use Rattle.gh_invariant.specs.Events.{EventFits, changes_of}
 use Rattle.gh_invariant.specs.Grants.{is_referred}
 use Rattle.gh_invariant.specs.Lives.{lives}
-use Rattle.gh_invariant.specs.Valid.{IsValid}
 use Rattle.gh_invariant.proofs.Counting.{count_cons}
 use Rattle.gh_invariant.proofs.EventWords.{event_sets_few}
 use Rattle.gh_invariant.proofs.EventsKept.{event_valid}
-use Rattle.gh_core.specs.Committing.{commits, commits_of, committing, cpu_no, entry_event, gains_owed, index_no, is_made, losses_settled, owe, revives, settle, slot_word, with_new, added}
+use Rattle.gh_core.specs.Committing.{commits_of, committing, cpu_no, entry_event, gains_owed, index_no, is_made, losses_settled, revives, slot_word, with_new, added}
 use Rattle.gh_base.specs.CapWord.{object_of}
 use Rattle.gh_model.specs.Word.{word_at}
 use Rattle.gh_core.specs.Config.{AtAct, Config, Current, HasTurn, Holder, IsIn, OwesNothing, live_references, present, put, references_at}
 use Rattle.gh_core.specs.Entries.{Allows, Covers, KindAllows, index_after, logged, makes_object, next_state, or_else, owed_after, shown, slot_set}
-use Rattle.gh_core.specs.Events.{Possible, after}
 use Rattle.gh_core.specs.Indices.{InBlocks}
 use Rattle.gh_core.specs.Sound.{IsSound}
-use Rattle.gh_core.specs.Trace.{AreDone, after_all}
-use Rattle.gh_core.specs.TurnEvents.{MayCommit, MaySetCap, committed, committed_by, put_word, set_cap, with_entry}
-use Rattle.gh_core.specs.declared.event.Event.{Event}
+use Rattle.gh_core.specs.Trace.{after_all}
+use Rattle.gh_core.specs.TurnEvents.{MayCommit, MaySetCap, committed, committed_by, put_word, set_cap}
 use Rattle.gh_core.specs.declared.event.Event.TheVariants.{Commit, SetCap}
 use Rattle.gh_core.proofs.ChangeLives.{AllLive, lives_here}
-use Rattle.gh_core.proofs.EntryBalance.{Births, balanced, count_at, lives_or_new, made_live, owed_gains, owed_there}
+use Rattle.gh_core.proofs.EntryBalance.{Births, balanced, count_at, lives_or_new, owed_gains, owed_there}
 use Rattle.gh_core.proofs.EntryMoves.{RowOf, indices_of, row_of}
 use Rattle.gh_core.proofs.EntryReferences.{MakesNone, event_given, event_moved}
 use Rattle.gh_core.proofs.FewGains.{event_gains_few, live_few}
-use Rattle.gh_core.proofs.OwingSteps.{AllOwable, AllWithin, HasRoomFor, IsOwable, IsOwing, at_owed, owes_lead, settles_lead, with_amounts}
+use Rattle.gh_core.proofs.OwingSteps.{AllOwable, AllWithin, IsOwing, at_owed, owes_lead, settles_lead, with_amounts}
 use Rattle.gh_core.proofs.SoundEvents.{event_keeps_sound}
-use Rattle.gh_core.proofs.TraceLaws.{Leads, leads_append, leads_cons, leads_none, leads_so}
+use Rattle.gh_core.proofs.TraceLaws.{Leads, leads_append, leads_so}
 use Rattle.gh_core.proofs.ValidEntries.{event_fits}
 
 -- slots that changes set

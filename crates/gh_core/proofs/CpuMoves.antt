@@ -1,6 +1,6 @@
 -- An event that changes one CPU's part and the counts of words, and leaves all else, keeps sound
 -- references.
-use Rattle.std.proofs.Common.{◌≡◌, ◌==◌, ◌+◌, ◌<◌, ◌≤◌, ◌∙◌, ℕ, Bool, true, false, [], ◌∷◌, ◌⊎◌, inl, inr, ap, arith, None, is_some, if◌then◌else◌}
+use Rattle.std.proofs.Common.{◌≡◌, ◌==◌, ◌+◌, ◌<◌, ◌≤◌, ◌∙◌, ℕ, Bool, true, false, ◌⊎◌, inl, inr, ap, arith, None, is_some, if◌then◌else◌}
 use Rattle.std.proofs.lemmas.Bool.Decides.{nat_tests}
 use Rattle.gh_base.specs.declared.limits.TheConstants.{CPUS}
 use Rattle.gh_core.specs.Config.{Config, Cpu, object_at, present, put}

@@ -1,7 +1,7 @@
 -- A create is committed: its gains are owed, the index of its object is revived with the first
 -- references, and the entry sets the slot of the master capability.
-use Rattle.std.proofs.Common.{◌≡◌, ◌==◌, ◌+◌, ◌*◌, ◌-◌, ◌%◌, ◌^◌, ◌<◌, ◌≤◌, ◌∙◌, ◌⊎◌, inl, inr, ℕ, Bool, true, false, not, List, [], ◌∷◌, ◌++◌, refl, subst, sym, ap, arith, IsTrue, length, filter, map, Option, Some, None, find, is_some, if◌then◌else◌}
-use Rattle.std.specs.Prelude.{◌&&◌, ◌||◌, count_by, nat_lt, option_map}
+use Rattle.std.proofs.Common.{◌≡◌, ◌==◌, ◌+◌, ◌%◌, ◌<◌, ◌≤◌, ◌∙◌, ◌⊎◌, inl, inr, ℕ, Bool, true, false, not, List, [], ◌∷◌, ◌++◌, refl, subst, sym, ap, arith, IsTrue, length, filter, map, Option, Some, None, find, is_some, if◌then◌else◌}
+use Rattle.std.specs.Prelude.{◌||◌, nat_lt}
 use Rattle.std.specs.List.{list_all, list_any}
 use Rattle.std.specs.Option.{option_map_or}
 use Rattle.std.proofs.lemmas.Bool.{and_from, and_parts, eqb-true}
@@ -14,15 +14,13 @@ use Rattle.gh_base.specs.declared.cap_word.CapWord.{CapWord}
 use Rattle.gh_base.specs.declared.ids.Serial.{Serial}
 use Rattle.gh_base.specs.declared.kind.Kind.{Kind}
 use Rattle.gh_base.specs.declared.kind.Kind.TheVariants as kind
-use Rattle.gh_base.specs.declared.limits.TheConstants.{CPUS, OBJECT_INDICES}
+use Rattle.gh_base.specs.declared.limits.TheConstants.{OBJECT_INDICES}
 use Rattle.gh_model.specs.Act.{grants_of}
-use Rattle.gh_model.specs.Boot.{is_of_kind}
-use Rattle.gh_model.specs.Changes.{add_object, changed, changed_all}
+use Rattle.gh_model.specs.Changes.{changed, changed_all}
 use Rattle.gh_model.specs.Decisions.{grant_at}
 use Rattle.gh_model.specs.History as history
-use Rattle.gh_model.specs.Marks.{Grants, word_of}
+use Rattle.gh_model.specs.Marks.{word_of}
 use Rattle.gh_model.specs.ObjectCalls.{master_rights, new_master, new_object}
-use Rattle.gh_model.specs.QueueCalls.{one_if}
 use Rattle.gh_model.specs.References.{references}
 use Rattle.gh_model.specs.Registers.{needs_of}
 use Rattle.gh_model.specs.Rows.{is_object, object_row}
@@ -38,9 +36,9 @@ use Rattle.gh_model.specs.declared.rows.CapabilityRow.{CapabilityRow}
 use Rattle.gh_model.specs.declared.rows.ObjectRow.{ObjectRow}
 use Rattle.gh_model.specs.declared.state.State.{State}
 use Rattle.gh_model.specs.declared.word.Word.{Word}
-use Rattle.gh_invariant.specs.Effects.{gained, gains, home_of, is_that, lost, slots_set, times}
+use Rattle.gh_invariant.specs.Effects.{gained, home_of, is_that, lost, slots_set, times}
 use Rattle.gh_invariant.specs.Events.{EventFits, changes_of, judged_by, made_by}
-use Rattle.gh_invariant.specs.Lives.{lives, lives_as}
+use Rattle.gh_invariant.specs.Lives.{lives}
 use Rattle.gh_invariant.specs.Premises.{MayChangeAll}
 use Rattle.gh_invariant.specs.Valid.{IsValid}
 use Rattle.gh_invariant.proofs.Counting.{count_append, count_cons, find_push_new, find_push_other, one_true}
@@ -51,30 +49,28 @@ use Rattle.gh_invariant.proofs.FactLemmas.{entry_word}
 use Rattle.gh_invariant.proofs.NotLiving.{not_living}
 use Rattle.gh_invariant.proofs.WordsLeft.{slot_set, word_set}
 use Rattle.gh_core.specs.Committing.{added, commits_of, committing, cpu_no, entry_event, gains_owed, index_no, is_made, losses_settled, revives, slot_word, with_new}
-use Rattle.gh_core.specs.Config.{AtAct, Config, Current, HasTurn, Holder, IsIn, is_killed, judged, live_references, object_at, present, put, references_at, some_killed}
+use Rattle.gh_core.specs.Config.{Config, Current, Holder, is_killed, object_at, present, put, references_at}
 use Rattle.gh_core.specs.Entries.{Allows, Covers, index_after, is_that_index, logged, makes_object, owed_after, row_shown, shown}
 use Rattle.gh_core.specs.Entries as entries
-use Rattle.gh_core.specs.HolderEvents.{MayRevive, is_create, is_done, revived, with_revived}
+use Rattle.gh_core.specs.HolderEvents.{MayRevive, is_done}
 use Rattle.gh_core.specs.Indices.{InBlocks, IsFreeIndex, is_partition_kind, new_index, place_of}
 use Rattle.gh_core.specs.Sound.{IsSound}
-use Rattle.gh_core.specs.Start.{AreIndices}
 use Rattle.gh_core.specs.Trace.{after_all}
-use Rattle.gh_core.specs.TurnEvents.{MaySetCap, committed_by, next_index, put_word, set_cap, with_entry}
+use Rattle.gh_core.specs.TurnEvents.{MaySetCap, committed_by, put_word, set_cap}
 use Rattle.gh_core.specs.ValidState.{CallFits}
 use Rattle.gh_core.specs.declared.event.Event.{Event}
 use Rattle.gh_core.specs.declared.event.Event.TheVariants.{Revive, SetCap}
 use Rattle.gh_core.proofs.ActFits.{grants_made}
 use Rattle.gh_core.proofs.Acting.{IsDone, IsJudged, acted_allows, has_acted_there}
 use Rattle.gh_core.proofs.Blocks.{new_first, new_place}
-use Rattle.gh_core.proofs.CallMakes.{MakesNew}
 use Rattle.gh_core.proofs.ChangeLives.{AllLive, gains_live, lives_here}
 use Rattle.gh_core.proofs.Commits.{IsActive, IsCommitted, entered_by, gains_lead, owed_serials}
 use Rattle.gh_core.proofs.Commits as commits
-use Rattle.gh_core.proofs.EntryBalance.{Births, IsNewAt, balanced, count_at, lives_or_new, lives_some, made_live, none_at, owed_gains, owed_there}
-use Rattle.gh_core.proofs.EntryKeeps.{lives_same, some_of}
+use Rattle.gh_core.proofs.EntryBalance.{Births, IsNewAt, balanced, count_at, lives_or_new, made_live, none_at, owed_gains, owed_there}
+use Rattle.gh_core.proofs.EntryKeeps.{lives_same}
 use Rattle.gh_core.proofs.EntryMoves.{indices_of, lives_there, nothing}
 use Rattle.gh_core.proofs.EntryReferences.{MakesOne, event_moved}
-use Rattle.gh_core.proofs.EventObjects.{Goes, event_goes, life}
+use Rattle.gh_core.proofs.EventObjects.{Goes, event_goes}
 use Rattle.gh_core.proofs.FewGains.{event_gains_few}
 use Rattle.gh_core.proofs.Finding.{found_passes, put_here, put_other, same_number}
 use Rattle.gh_core.proofs.KilledNone.{NoneKilled, killed_in, life_killed, none_some}
@@ -84,7 +80,7 @@ use Rattle.gh_core.proofs.LookKeeps.{index_shown}
 use Rattle.gh_core.proofs.OwingSteps.{IsOwing, at_owed, with_amounts}
 use Rattle.gh_core.proofs.Ranks.{HomeOf, home_of as lives_in_home}
 use Rattle.gh_core.proofs.SoundEvents.{event_keeps_sound}
-use Rattle.gh_core.proofs.TraceLaws.{Leads, leads_append, leads_cons, leads_none, leads_so}
+use Rattle.gh_core.proofs.TraceLaws.{Leads, leads_append, leads_so}
 use Rattle.gh_core.proofs.TurnItems.{HasActed}
 use Rattle.gh_core.proofs.WordsFollow.{lives_any}
 

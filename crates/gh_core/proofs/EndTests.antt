@@ -1,8 +1,8 @@
 -- The test of a turn's end tells its condition, and what is made of the turn is its end.
 use Rattle.std.proofs.Common.{◌≡◌, ◌==◌, ◌&&◌, ◌∙◌, ℕ, Bool, true, false, refl, ap, sym, subst, Option, Some, None, not, is_some, nat_lt, option_map, if◌then◌else◌}
 use Rattle.gh_base.specs.declared.limits.TheConstants.{CPUS}
-use Rattle.gh_core.specs.Config.{AtAct, Config, Cpu, Current, Holder, HasTurn, IsIn, some_killed}
-use Rattle.gh_core.specs.Running.{end_of, ended_cpu, ending_in, ending_of_call, ends, holder_of, owes_nothing, seat_end, stands_for, turn_ending, with_cpu, with_holder}
+use Rattle.gh_core.specs.Config.{AtAct, Config, Cpu, Current, Holder, some_killed}
+use Rattle.gh_core.specs.Running.{end_of, ended_cpu, ending_in, ends, holder_of, owes_nothing, seat_end, stands_for, turn_ending, with_cpu, with_holder}
 use Rattle.gh_core.specs.Tests.{is_at_act}
 use Rattle.gh_core.specs.TurnEvents.{Ending, MayEnd, end_call, ended, ending, with_ending}
 use Rattle.gh_core.specs.declared.config.Running.{Running}

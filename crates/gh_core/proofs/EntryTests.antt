@@ -1,6 +1,5 @@
 -- The tests of the holder's entries tell their conditions.
-use Rattle.std.proofs.Common.{◌≡◌, ◌==◌, ◌&&◌, ◌+◌, ◌<◌, ◌∙◌, ℕ, zero, suc, Bool, true, false, List, [], ◌∷◌, length, refl, ap, sym, subst, arith, Option, Some, None, not, find, map, nat_lt, slice_get, slice_index, if◌then◌else◌, IfSome}
-use Rattle.std.proofs.lemmas.Bool.Decides.{nat_tests}
+use Rattle.std.proofs.Common.{◌≡◌, ◌==◌, ◌+◌, ◌<◌, ◌∙◌, ℕ, zero, suc, Bool, true, false, List, [], ◌∷◌, length, refl, ap, sym, subst, arith, Option, Some, None, nat_lt, slice_get, if◌then◌else◌, IfSome}
 use Rattle.gh_base.specs.Counters.{HaveLeft, is_odd}
 use Rattle.gh_base.specs.Errno.{errno_number}
 use Rattle.gh_base.specs.declared.errno.Errno.{Errno}
@@ -13,7 +12,7 @@ use Rattle.gh_model.specs.Decisions.{done}
 use Rattle.gh_model.specs.declared.change.Decision.{Decision}
 use Rattle.gh_model.specs.declared.change.Decision.TheVariants.{Refuse, Unfinished, Make}
 use Rattle.gh_model.specs.declared.state.State.{State}
-use Rattle.gh_core.specs.Config.{Config, Current, Holder, judged}
+use Rattle.gh_core.specs.Config.{Current, Holder, judged}
 use Rattle.gh_core.specs.Entries.{AreScans}
 use Rattle.gh_core.specs.EntryTests.{are_scans, goes_on, has_left, have_left, is_unread, scans_are}
 use Rattle.gh_core.specs.HolderEvents.{is_done}

@@ -1,19 +1,17 @@
 -- An entry gives six references at most, and in a sound configuration the references at each index
 -- are few.
-use Rattle.std.proofs.Common.{◌≡◌, ◌==◌, ◌+◌, ◌*◌, ◌^◌, ◌<◌, ◌≤◌, ◌∙◌, ◌⊎◌, inl, inr, ℕ, Bool, true, false, List, [], ◌∷◌, ◌++◌, refl, subst, sym, ap, arith, IsTrue, find, length, length-append, Option, Some, None, if◌then◌else◌}
-use Rattle.std.specs.Prelude.{◌&&◌, count_by, nat_le}
+use Rattle.std.proofs.Common.{◌≡◌, ◌==◌, ◌*◌, ◌≤◌, inl, inr, ℕ, Bool, true, false, List, [], ◌∷◌, refl, ap, arith, IsTrue, find, length, length-append, Option, Some, None, if◌then◌else◌}
+use Rattle.std.specs.Prelude.{◌&&◌}
 use Rattle.std.specs.List.{list_all}
 use Rattle.std.specs.Option.{option_map_or}
 use Rattle.std.proofs.lemmas.Bool.{and_parts}
-use Rattle.std.proofs.lemmas.List.Sums.{count_by-le-length}
 use Rattle.std.proofs.lemmas.Bool.Decides.{nat_tests}
 use Rattle.gh_base.specs.declared.ids.Serial.{Serial}
 use Rattle.gh_model.specs.Act.{grants_of}
 use Rattle.gh_model.specs.Changes.{changed}
 use Rattle.gh_model.specs.Decide.{has_moved}
-use Rattle.gh_model.specs.History.{Event, after_event, is_retired, is_unretired, may_act, may_part, replay}
+use Rattle.gh_model.specs.History.{Event, is_retired, is_unretired, may_act, may_part}
 use Rattle.gh_model.specs.Legal.{is_revoke}
-use Rattle.gh_model.specs.QueueCalls.{one_if}
 use Rattle.gh_model.specs.References.{is_doomed, references}
 use Rattle.gh_model.specs.Rows.{fills, object_row}
 use Rattle.gh_model.specs.declared.change.Change.{Change}
@@ -23,20 +21,14 @@ use Rattle.gh_model.specs.declared.entry.Entry.{Entry}
 use Rattle.gh_model.specs.declared.entry.Entry.TheVariants.{Acted, Part, Retired, Reclaimed}
 use Rattle.gh_model.specs.declared.rows.ObjectRow.{ObjectRow}
 use Rattle.gh_model.specs.declared.state.State.{State}
-use Rattle.gh_invariant.specs.Effects.{gained, gains, is_that, lost, times}
-use Rattle.gh_invariant.specs.Events.{EventFits, EventsFit, changes_of, entry_changes, judged_by, made_by}
-use Rattle.gh_invariant.specs.Valid.{IsValid}
-use Rattle.gh_invariant.proofs.Counting.{count_cons}
+use Rattle.gh_invariant.specs.Effects.{gained, gains}
+use Rattle.gh_invariant.specs.Events.{changes_of, entry_changes, judged_by, made_by}
 use Rattle.gh_invariant.proofs.EventWords.{event_of_calls}
-use Rattle.gh_invariant.proofs.EventsKept.{event_valid}
-use Rattle.gh_invariant.proofs.SetsOne.{is_of_calls, keeps_objects}
+use Rattle.gh_invariant.proofs.SetsOne.{is_of_calls}
 use Rattle.gh_core.specs.Config.{Config, live_references, object_at, present}
 use Rattle.gh_core.specs.Bounded.{many_references}
 use Rattle.gh_core.specs.Sound.{IsSound}
 use Rattle.gh_core.proofs.CallMakes.{Makes, decision_makes, is_few, keeps_few}
-use Rattle.gh_core.proofs.EntryMoves.{there_lives}
-use Rattle.gh_core.proofs.EntryBalance.{lives_some}
-use Rattle.gh_core.proofs.EntryReferences.{event_moved}
 use Rattle.gh_core.proofs.FewReferences.{present_references}
 
 -- gains of changes

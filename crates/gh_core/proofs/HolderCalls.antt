@@ -1,11 +1,8 @@
 -- The holder's events on words and counters, and a turn that is given back before its act, keep
 -- sound calls.
-use Rattle.std.proofs.Common.{◌≡◌, ◌==◌, ◌+◌, ◌-◌, ◌∙◌, ◌⊎◌, inl, inr, ℕ, Bool, true, false, not, List, [], ◌∷◌, ◌++◌, refl, subst, sym, ap, arith, Option, Some, None, is_some, option_map, if◌then◌else◌}
+use Rattle.std.proofs.Common.{◌≡◌, ◌==◌, ◌+◌, ◌-◌, ◌∙◌, ◌⊎◌, inl, inr, ℕ, Bool, true, false, List, [], ◌++◌, refl, subst, sym, ap, Option, Some, None, option_map, if◌then◌else◌}
 use Rattle.std.specs.Prelude.{◌&&◌}
-use Rattle.std.specs.List.{list_any}
 use Rattle.std.proofs.lemmas.Bool.{eqb-true}
-use Rattle.std.proofs.lemmas.Bool.Decides.{eqb_tells}
-use Rattle.std.proofs.lemmas.List.{append-nil}
 use Rattle.gh_model.specs.History as history
 use Rattle.gh_model.specs.Legal.{CallIs, EntryIs, GoesOn, IsEndOf, IsNumbered}
 use Rattle.gh_model.specs.Marks.{InTurn, Made}
@@ -13,11 +10,11 @@ use Rattle.gh_model.specs.declared.entry.Entry.{Entry}
 use Rattle.gh_model.specs.declared.entry.Entry.TheVariants.{Acted, Part, Retired, Reclaimed}
 use Rattle.gh_model.specs.declared.rows.ObjectRow.{ObjectRow}
 use Rattle.gh_model.specs.declared.state.State.{State}
-use Rattle.gh_core.specs.Calls.{CpuCalls, HasCalls, Waits, acted_call, as_made, calls_in, calls_of, last_ending}
+use Rattle.gh_core.specs.Calls.{HasCalls, Waits, acted_call, calls_in, calls_of}
 use Rattle.gh_core.specs.Config.{Config, Current, Holder, has_acted, has_part, is_at, object_at, present, put}
 use Rattle.gh_core.specs.HolderEvents.{MayRevive, kill_failed, killed, one_less, one_more, owed, revived, scanned, settled, with_failed, with_revived, with_scan, without_scans}
 use Rattle.gh_core.specs.TurnEvents.{MayQuit, quit}
-use Rattle.gh_core.proofs.Finding.{found_passes, put_here, put_other}
+use Rattle.gh_core.proofs.Finding.{found_passes, put_other}
 use Rattle.gh_core.proofs.TurnCalls.{seat, seat_of, with_words, words_sound}
 
 -- what the holder keeps changes, and its CPU and entries stay

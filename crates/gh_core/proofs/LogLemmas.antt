@@ -1,5 +1,5 @@
 -- The replay of what the log keeps.
-use Rattle.std.proofs.Common.{◌≡◌, ◌∙◌, ◌-◌, ◌<◌, ◌≤◌, ◌++◌, ap, sym, subst, map, take, ℕ, zero, suc, Bool, true, false, List, [], ◌∷◌, length, drop, refl, arith, Option, Some, None, Result, Ok, Err, IfOk, OnOk, slice_get}
+use Rattle.std.proofs.Common.{◌≡◌, ◌∙◌, ◌-◌, ◌<◌, ◌≤◌, ◌++◌, ap, sym, subst, map, take, ℕ, zero, suc, true, false, List, [], ◌∷◌, length, drop, refl, arith, Result, Ok, Err, IfOk, OnOk}
 use Rattle.gh_base.specs.declared.cap_word.Need.{Need}
 use Rattle.gh_model.specs.History.{Event, after_event, grants_fit, replay, state_at}
 use Rattle.gh_model.specs.declared.state.State.{State}

@@ -1,29 +1,23 @@
 -- A look keeps sound calls, where the words are those of the present state.
-use Rattle.std.proofs.Common.{◌≡◌, ◌==◌, ◌+◌, ◌*◌, ◌-◌, ◌/◌, ◌%◌, ◌<◌, ◌≤◌, ◌∙◌, ◌⊎◌, inl, inr, ℕ, Bool, true, false, not, List, [], ◌∷◌, ◌++◌, length, take, max, refl, subst, sym, ap, arith, Option, Some, None, Result, Ok, Err, find, is_some, map, option_map, count_by, if◌then◌else◌}
-use Rattle.std.specs.Prelude.{◌&&◌, ◌||◌, nat_lt}
-use Rattle.std.specs.List.{last_or}
+use Rattle.std.proofs.Common.{◌≡◌, ◌==◌, ◌+◌, ◌*◌, ◌-◌, ◌<◌, ◌≤◌, ◌∙◌, ◌⊎◌, inl, inr, ℕ, Bool, true, false, not, List, [], ◌∷◌, ◌++◌, length, take, max, refl, subst, sym, ap, arith, Option, Some, None, find, is_some, map, option_map, count_by, if◌then◌else◌}
+use Rattle.std.specs.Prelude.{◌||◌, nat_lt}
 use Rattle.std.specs.Option.{option_map_or}
 use Rattle.std.proofs.lemmas.Bool.Decides.{nat_tests}
 use Rattle.std.proofs.lemmas.List.{length-append, take-append-le}
 use Rattle.std.proofs.lemmas.Nat.{mod-mul-add}
-use Rattle.gh_base.specs.CapWord.{filled_bits, filled_state, indices, object_of, packed, rights_values, set_at_of, settings, state_number}
+use Rattle.gh_base.specs.CapWord.{filled_state, indices, packed, rights_values, set_at_of, settings, state_number}
 use Rattle.gh_base.specs.Kind.{kind_number}
-use Rattle.gh_base.specs.declared.cap_word.CapWord.{CapWord}
-use Rattle.gh_base.specs.declared.cap_word.Need.{Need}
-use Rattle.gh_base.specs.declared.errno.Errno.{Errno}
-use Rattle.gh_base.specs.declared.ids.Serial.{Serial}
 use Rattle.gh_base.specs.declared.kind.Kind.TheVariants as kind
 use Rattle.gh_invariant.specs.Grants.{is_running}
-use Rattle.gh_invariant.specs.Lives.{lives, lives_as}
+use Rattle.gh_invariant.specs.Lives.{lives}
 use Rattle.gh_invariant.specs.NamesLiving.{SpacesLive, living_kind, row_kind}
-use Rattle.gh_invariant.specs.Valid.{IsValid}
 use Rattle.gh_invariant.proofs.FactLemmas.{spaces_live}
 use Rattle.gh_invariant.proofs.WordsSince.{entry_counts, word_since}
 use Rattle.gh_model.proofs.RunLists.{in_turn_snoc, take_all}
 use Rattle.gh_model.specs.Boot.{is_of_kind}
 use Rattle.gh_model.specs.History.{Event, after_event, replay, state_at}
 use Rattle.gh_model.specs.Legal.{CallIs, LookIs}
-use Rattle.gh_model.specs.Marks.{Fails, Grants, InTurn, Made, Outcome, Seen, Wants, cspace_of, failure, has_looks, outcome, place_after, place_after_looks, word_of}
+use Rattle.gh_model.specs.Marks.{Fails, Grants, InTurn, Made, Outcome, Seen, Wants, cspace_of, has_looks, outcome, place_after, word_of}
 use Rattle.gh_model.specs.Registers.{needs_of}
 use Rattle.gh_model.specs.Rows.{cpu_row, is_object}
 use Rattle.gh_model.specs.Word.{Shows, ShowsRow, is_slot, word_at}
@@ -32,16 +26,15 @@ use Rattle.gh_model.specs.declared.rows.CpuRow.{CpuRow}
 use Rattle.gh_model.specs.declared.rows.ObjectRow.{ObjectRow}
 use Rattle.gh_model.specs.declared.state.State.{State}
 use Rattle.gh_model.specs.declared.word.Word.{Word}
-use Rattle.gh_core.specs.CallEvents.{MayLook, found, has_grants, loaded, looked, stage_after_look, with_call, with_look}
+use Rattle.gh_core.specs.CallEvents.{MayLook, found, loaded, looked, stage_after_look, with_call, with_look}
 use Rattle.gh_core.specs.Calls.{BeginsAtBoot, CurrentIs, HasCalls, but_last, came_fits, is_dying, looks_fit, needs_fit, pinned_looks, steps, steps_at}
-use Rattle.gh_core.specs.Config.{AtAct, Config, Cpu, Current, Failed, Holder, IsIn, Looked, Reading, Stage, came_to, last_place, pin_of, present}
+use Rattle.gh_core.specs.Config.{AtAct, Config, Cpu, Current, Holder, IsIn, Reading, last_place, pin_of, present}
 use Rattle.gh_core.specs.Entries.{row_shown, shown}
 use Rattle.gh_core.specs.ValidState.{CpuFits, HasValid, IsExiting, MayRun, acts}
 use Rattle.gh_core.specs.Words.{HasRoom, ShowsSlot, ShowsWords}
 use Rattle.gh_core.proofs.CallMoves.{CallGoesOn, IsNotHolder, no_holder, on_sound, only_made}
-use Rattle.gh_core.proofs.CallsGoOn.{its_came, its_counter, its_needs, its_pinned, none_acts}
+use Rattle.gh_core.proofs.CallsGoOn.{its_counter, its_needs, its_pinned, none_acts}
 use Rattle.gh_core.proofs.CallsKeep.{stage_number}
-use Rattle.gh_core.proofs.CpuMoves.{with_part}
 use Rattle.gh_core.proofs.CpusRun.{entry_runs}
 use Rattle.gh_core.proofs.EventObjects.{counters_of}
 use Rattle.gh_core.proofs.LookKeeps.{set_within}

@@ -1,17 +1,16 @@
 -- A call that wants a look has at most one so far.
-use Rattle.std.proofs.Common.{◌≡◌, ◌==◌, ◌<◌, ◌≤◌, ◌∙◌, ℕ, suc, Bool, true, false, List, [], ◌∷◌, length, map, refl, ap, sym, subst, arith, Option, Some, None, Result, Ok, Err, option_map, nat_lt, if◌then◌else◌}
-use Rattle.std.proofs.lemmas.Bool.Decides.{nat_tests}
+use Rattle.std.proofs.Common.{◌≡◌, ◌==◌, ◌<◌, ◌≤◌, ◌∙◌, ℕ, suc, Bool, true, false, List, [], ◌∷◌, length, map, refl, ap, subst, arith, Option, Some, Result, Ok, Err, option_map, nat_lt, if◌then◌else◌}
 use Rattle.gh_base.specs.declared.call.Call.{Call}
 use Rattle.gh_base.specs.declared.call.Call.TheVariants as calls
 use Rattle.gh_base.specs.declared.cap_word.Need.{Need}
 use Rattle.gh_base.specs.declared.errno.Errno.{Errno}
 use Rattle.gh_base.specs.declared.ids.Serial.{Serial}
 use Rattle.gh_base.specs.declared.limits.TheConstants.{CPUS}
-use Rattle.gh_model.specs.Marks.{Fails, Grants, Outcome, Wants, on_grant, outcome, word_of}
-use Rattle.gh_model.specs.Registers.{needs_of, space_need}
+use Rattle.gh_model.specs.Marks.{Outcome, on_grant, outcome, word_of}
+use Rattle.gh_model.specs.Registers.{needs_of}
 use Rattle.gh_model.specs.Word.{look_reply}
 use Rattle.gh_model.specs.declared.word.Word.{Word}
-use Rattle.gh_core.specs.Config.{Config, Cpu, Current, came_to}
+use Rattle.gh_core.specs.Config.{Config, Cpu, came_to}
 use Rattle.gh_core.specs.Running.{cpu_of, current_of, seen_of}
 use Rattle.gh_core.specs.Tests.{asks, is_reading, looks, wants}
 use Rattle.gh_core.specs.declared.cpu.Seat.{Seat}

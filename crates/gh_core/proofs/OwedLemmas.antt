@@ -1,5 +1,5 @@
 -- What is owed behind an entry, at every index.
-use Rattle.std.proofs.Common.{◌≡◌, ◌≢◌, ◌==◌, ◌+◌, ◌-◌, ◌<◌, ◌≤◌, ◌∙◌, ◌++◌, ◌⊎◌, ℕ, Bool, true, false, List, [], ◌∷◌, inl, inr, refl, ap, sym, arith, map, Option, Some, None, find, if◌then◌else◌}
+use Rattle.std.proofs.Common.{◌≡◌, ◌≢◌, ◌==◌, ◌∙◌, ◌++◌, ◌⊎◌, ℕ, false, List, [], ◌∷◌, inl, inr, refl, ap, sym, arith, map, Option, None, find}
 use Rattle.std.specs.Option.{option_map_or}
 use Rattle.std.proofs.Math.Path.{fun_ext}
 use Rattle.std.proofs.lemmas.Bool.Decides.{eqb_tells, nat_tests}
@@ -7,7 +7,7 @@ use Rattle.gh_model.specs.References.{references}
 use Rattle.gh_model.specs.declared.rows.ObjectRow.{ObjectRow}
 use Rattle.gh_model.specs.declared.state.State.{State}
 use Rattle.gh_core.specs.Config.{is_at, object_at, references_at}
-use Rattle.gh_core.specs.Owing.{held_in, owed_behind, owed_in, owing, owing_row}
+use Rattle.gh_core.specs.Owing.{owed_behind, owed_in, owing_row}
 use Rattle.gh_core.specs.Running.{no_number}
 use Rattle.gh_core.specs.Tables.{numbers, put_number}
 use Rattle.gh_core.specs.declared.table.Written.{Written}

@@ -1,8 +1,7 @@
 -- The holder owes references one after the other, and settles them: each event is possible.
-use Rattle.std.proofs.Common.{◌≡◌, ◌==◌, ◌+◌, ◌-◌, ◌^◌, ◌<◌, ◌≤◌, ◌∙◌, ◌⊎◌, inl, inr, ℕ, Bool, true, false, List, [], ◌∷◌, refl, subst, sym, ap, arith, IsTrue, length, map, Option, Some, None, is_some, if◌then◌else◌}
+use Rattle.std.proofs.Common.{◌≡◌, ◌==◌, ◌+◌, ◌-◌, ◌^◌, ◌<◌, ◌≤◌, ◌∙◌, inl, inr, ℕ, Bool, true, false, List, [], ◌∷◌, refl, subst, sym, ap, arith, length, map, Some, is_some}
 use Rattle.std.specs.Prelude.{⊤}
-use Rattle.std.specs.List.{list_all, list_any}
-use Rattle.std.proofs.lemmas.Bool.{and_parts}
+use Rattle.std.specs.List.{list_any}
 use Rattle.std.proofs.lemmas.Bool.Decides.{eqb_tells, nat_tests}
 use Rattle.gh_base.specs.declared.ids.Serial.{Serial}
 use Rattle.gh_base.specs.declared.limits.TheConstants.{CPUS, OBJECT_INDICES}
@@ -11,12 +10,10 @@ use Rattle.gh_invariant.proofs.Counting.{count_cons}
 use Rattle.gh_core.specs.Committing.{owe, settle}
 use Rattle.gh_core.specs.Config.{Config, HasTurn, Holder, live_references, object_at, present, put}
 use Rattle.gh_core.specs.Entries.{is_that_index}
-use Rattle.gh_core.specs.Events.{Possible, after}
 use Rattle.gh_core.specs.HolderEvents.{MayOwe, MaySettle, least_owed}
-use Rattle.gh_core.specs.References.{HasHome, IsFresh, is_revived, owed_at}
+use Rattle.gh_core.specs.References.{HasHome, is_revived}
 use Rattle.gh_core.specs.Sound.{IsSound}
 use Rattle.gh_core.specs.Trace.{after_all}
-use Rattle.gh_core.specs.declared.event.Event.{Event}
 use Rattle.gh_core.proofs.EntryBalance.{count_at, is_indexed}
 use Rattle.gh_core.proofs.Finding.{put_here, put_other, same_number}
 use Rattle.gh_core.proofs.SoundEvents.{event_keeps_sound}

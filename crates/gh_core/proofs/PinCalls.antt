@@ -1,6 +1,5 @@
 -- A pin of a call keeps sound calls: on a dead word its object is retired behind the look, or killed.
-use Rattle.std.proofs.Common.{◌≡◌, ◌==◌, ◌+◌, ◌-◌, ◌<◌, ◌≤◌, ◌∙◌, ◌⊎◌, inl, inr, ℕ, zero, suc, Bool, true, false, not, List, [], ◌∷◌, ◌++◌, length, take, refl, subst, sym, ap, arith, Option, Some, None, Result, Ok, Err, find, is_some, map, option_map, slice_get, count_by, if◌then◌else◌}
-use Rattle.std.specs.Prelude.{nat_lt}
+use Rattle.std.proofs.Common.{◌≡◌, ◌+◌, ◌-◌, ◌≤◌, ◌∙◌, inl, inr, ℕ, suc, Bool, true, false, List, [], ◌∷◌, ◌++◌, length, take, refl, subst, sym, ap, arith, Option, Some, None, Result, Ok, Err, find, is_some, map, option_map, slice_get, count_by}
 use Rattle.std.specs.List.{last_or}
 use Rattle.std.proofs.lemmas.Bool.{eqb-true}
 use Rattle.std.proofs.lemmas.List.{map-append}

@@ -9,7 +9,7 @@ use Rattle.std.proofs.lemmas.List.Folds.{list_all-append}
 use Rattle.gh_base.specs.declared.ids.Serial.{Serial}
 use Rattle.gh_base.specs.declared.mark.Held.{Held}
 use Rattle.gh_model.specs.Boot.{boot_fits, boot_state, empty_state}
-use Rattle.gh_model.specs.Changes.{changed, changed_all, with_cost, with_counters, with_stage, without}
+use Rattle.gh_model.specs.Changes.{changed, changed_all, with_cost, with_counters, with_stage}
 use Rattle.gh_model.specs.Decide.{has_moved, verdict}
 use Rattle.gh_model.specs.Act.{grants_of}
 use Rattle.gh_model.specs.Held.{AreHeld, is_held, serial_of, serial_of_row}
@@ -27,7 +27,7 @@ use Rattle.gh_model.specs.declared.rows.ObjectRow.{ObjectRow}
 use Rattle.gh_model.specs.declared.state.State.{State}
 use Rattle.gh_model.proofs.ChangedRows.{change_here, change_later}
 use Rattle.gh_invariant.specs.BootChanges.{boot_changes}
-use Rattle.gh_invariant.specs.Events.{EntryFits, EventFits, EventsFit, judged_by}
+use Rattle.gh_invariant.specs.Events.{EntryFits, EventsFit, judged_by}
 use Rattle.gh_invariant.specs.Grants.{MayMake}
 use Rattle.gh_invariant.specs.Premises.{MayChange, MayChangeAll}
 use Rattle.gh_invariant.specs.Valid.{IsValid}

@@ -1,7 +1,7 @@
 -- What sets a slot is what the machine sets, where it may.
-use Rattle.std.proofs.Common.{◌≡◌, ◌==◌, ◌&&◌, ◌||◌, ◌+◌, ◌<◌, ◌∙◌, ◌++◌, ◌∷◌, [], ℕ, Bool, true, false, List, refl, ap, sym, subst, arith, not, Option, Some, None, nat_lt, option_map, if◌then◌else◌}
+use Rattle.std.proofs.Common.{◌≡◌, ◌==◌, ◌&&◌, ◌||◌, ◌<◌, ◌∙◌, ◌++◌, ◌∷◌, [], ℕ, Bool, true, false, List, refl, ap, sym, subst, arith, not, Option, Some, None, option_map, if◌then◌else◌}
 use Rattle.std.specs.List.{list_all, list_any}
-use Rattle.gh_base.specs.CapWord.{indices, object_of}
+use Rattle.gh_base.specs.CapWord.{object_of}
 use Rattle.gh_base.specs.declared.cap_word.CapWord.{CapWord}
 use Rattle.gh_base.specs.declared.limits.TheConstants.{CPUS, OBJECT_INDICES}
 use Rattle.gh_invariant.specs.Events.{changes_of}
@@ -12,7 +12,7 @@ use Rattle.gh_model.specs.declared.state.State.{State}
 use Rattle.gh_core.specs.Config.{Config, Current, Holder, present, put}
 use Rattle.gh_core.specs.Entries.{index_after, is_that_index, logged, makes_object, next_state, owed_after, shown, slot_set}
 use Rattle.gh_core.specs.EntryTests.{entry_goes}
-use Rattle.gh_core.specs.Owing.{CoversAll, later_indices, later_of, next_is, owed_behind, owed_in, owing_covers, owing_of, revived_for, setting_goes, slot_shows, with_event, with_owing, with_slot}
+use Rattle.gh_core.specs.Owing.{CoversAll, later_indices, later_of, next_is, owed_in, owing_covers, owing_of, revived_for, setting_goes, slot_shows, with_event, with_owing, with_slot}
 use Rattle.gh_core.specs.Running.{event_of, has_index, holder_of, index_in, no_number, stands_for}
 use Rattle.gh_core.specs.Tables.{numbers, put_number}
 use Rattle.gh_core.specs.TurnEvents.{MaySetCap, committed_by, put_word, set_cap, with_entry}
@@ -21,7 +21,7 @@ use Rattle.gh_core.specs.declared.config.Running.{Running}
 use Rattle.gh_core.specs.declared.holder.Turn.{Turn}
 use Rattle.gh_core.specs.declared.table.Written.{Written}
 use Rattle.gh_core.proofs.CallTests.{both, equal, is_below, is_equal, joined}
-use Rattle.gh_core.proofs.CommitTests.{Ready, ready, tells_covers, tells_goes}
+use Rattle.gh_core.proofs.CommitTests.{Ready, tells_covers, tells_goes}
 use Rattle.gh_core.proofs.OwedLemmas.{owed_is}
 use Rattle.gh_core.proofs.TableLemmas.{put_last}
 

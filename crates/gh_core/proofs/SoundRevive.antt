@@ -1,6 +1,6 @@
 -- An index is revived only where no object lives: its word is dead and without pins, and each object
 -- that lived there was reclaimed.
-use Rattle.std.proofs.Common.{◌≡◌, ◌+◌, ◌<◌, ◌≤◌, ◌∙◌, ◌⊎◌, inl, inr, ℕ, zero, suc, Bool, true, false, List, [], ◌∷◌, length, refl, subst, sym, ap, arith, Option, Some, None, find, is_some, option_map, slice_get}
+use Rattle.std.proofs.Common.{◌≡◌, ◌≤◌, ◌∙◌, inl, inr, ℕ, zero, suc, Bool, true, false, List, [], ◌∷◌, length, refl, subst, sym, ap, arith, Option, Some, None, find, is_some, option_map, slice_get}
 use Rattle.std.specs.Prelude.{count_by}
 use Rattle.std.specs.List.{last_or, list_any}
 use Rattle.std.proofs.lemmas.Bool.{eqb-true}

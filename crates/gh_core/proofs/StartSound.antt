@@ -1,5 +1,5 @@
 -- The references of the configuration before any event are sound.
-use Rattle.std.proofs.Common.{◌≡◌, ◌≢◌, ◌==◌, ◌+◌, ◌<◌, ◌≤◌, ◌∙◌, not, ℕ, Bool, true, false, [], ◌∷◌, ◌⊎◌, inl, refl, sym, ap, arith, Option, Some, None, is_some}
+use Rattle.std.proofs.Common.{◌≡◌, ◌∙◌, not, ℕ, Bool, true, false, inl, refl, sym, ap, arith, Option, Some, None, is_some}
 use Rattle.std.specs.Option.{option_map_or}
 use Rattle.std.proofs.lemmas.Bool.{eqb-true}
 use Rattle.gh_base.specs.declared.limits.TheConstants.{CPUS}

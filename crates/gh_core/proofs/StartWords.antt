@@ -1,5 +1,5 @@
 -- The configuration before any event shows the words of the boot.
-use Rattle.std.proofs.Common.{◌≡◌, ◌<◌, ◌∙◌, ℕ, Bool, true, false, List, [], ◌∷◌, ◌++◌, refl, ap, arith, IsTrue, Option, Some, None, fold, find, is_some}
+use Rattle.std.proofs.Common.{◌≡◌, ◌<◌, ℕ, Bool, true, false, List, [], ◌∷◌, ◌++◌, refl, ap, arith, IsTrue, Option, Some, None, fold, find, is_some}
 use Rattle.std.specs.List.{list_all}
 use Rattle.std.specs.Option.{option_map_or}
 use Rattle.gh_base.specs.CapWord.{settings}
@@ -20,7 +20,6 @@ use Rattle.gh_model.specs.declared.rows.CapabilityRow.{CapabilityRow}
 use Rattle.gh_model.specs.declared.rows.CpuRow.{CpuRow}
 use Rattle.gh_model.specs.declared.rows.ObjectRow.{ObjectRow}
 use Rattle.gh_model.specs.declared.state.State.{State}
-use Rattle.gh_model.specs.declared.word.Word.{Word}
 use Rattle.gh_core.specs.Config.{object_at}
 use Rattle.gh_core.specs.Entries.{row_shown, shown}
 use Rattle.gh_core.specs.Start.{AreIndices, serial_at, start}

@@ -1,5 +1,5 @@
 -- What a read of a table finds: the last value that was written there, or else what it began with.
-use Rattle.std.proofs.Common.{◌≡◌, ◌≢◌, ◌==◌, ◌&&◌, ◌∙◌, ◌<◌, ℕ, zero, suc, Bool, true, false, List, [], ◌∷◌, ◌++◌, inl, inr, refl, sym, subst, ap, Option, Some, None, arith, fold, length, slice_get, slice_set, if◌then◌else◌}
+use Rattle.std.proofs.Common.{◌≡◌, ◌≢◌, ◌==◌, ◌∙◌, ◌<◌, ℕ, zero, suc, Bool, true, false, List, [], ◌∷◌, ◌++◌, inl, inr, refl, sym, subst, ap, Option, Some, None, arith, fold, length, slice_get, slice_set, if◌then◌else◌}
 use Rattle.std.proofs.lemmas.Bool.Decides.{eqb_tells}
 use Rattle.std.proofs.Math.Path.{fun_ext}
 use Rattle.std.specs.List.{list_all}
@@ -10,7 +10,7 @@ use Rattle.gh_core.specs.Config.{Config, Cpu, put}
 use Rattle.gh_core.specs.Running.{cpu_of, cpus, has_index, index_in, no_number, stands_for, with_cpu}
 use Rattle.gh_core.specs.Start.{new_cpu}
 use Rattle.gh_core.proofs.CallTests.{below, both}
-use Rattle.gh_core.specs.Tables.{is_slot_written, last_mark, last_number, last_word, later_mark, later_number, later_word, marks, numbers, options, put_mark, put_number, put_option, put_slot, words}
+use Rattle.gh_core.specs.Tables.{last_mark, last_number, last_word, later_mark, later_number, later_word, marks, numbers, options, put_mark, put_number, put_option, put_slot, words}
 use Rattle.gh_core.specs.declared.config.Running.{Running}
 use Rattle.gh_core.specs.declared.cpu.Seat.{Seat}
 use Rattle.gh_core.specs.declared.table.Marked.{Marked}

@@ -1,19 +1,18 @@
 -- A CPU that takes the turn keeps sound calls.
-use Rattle.std.proofs.Common.{◌≡◌, ◌==◌, ◌+◌, ◌*◌, ◌∙◌, ◌⊎◌, inl, inr, ℕ, Bool, true, false, List, [], ◌∷◌, ◌++◌, refl, subst, sym, ap, arith, Option, Some, None, count_by, is_some, map, if◌then◌else◌}
-use Rattle.std.specs.List.{last_or}
+use Rattle.std.proofs.Common.{◌≡◌, ◌+◌, ◌*◌, ◌∙◌, ◌⊎◌, inl, inr, ℕ, Bool, true, false, List, [], ◌∷◌, ◌++◌, refl, subst, sym, ap, arith, Option, Some, None, count_by, is_some, map, if◌then◌else◌}
 use Rattle.std.proofs.lemmas.Bool.Decides.{eqb_tells}
 use Rattle.std.proofs.lemmas.List.{append-nil}
 use Rattle.gh_model.specs.History as history
 use Rattle.gh_model.specs.Legal.{CallIs, EntryIs, GoesOn, IsEndOf, IsNumbered, LookIs}
-use Rattle.gh_model.specs.Marks.{InTurn, Made, Seen, cspace_of, has_looks, place_after}
+use Rattle.gh_model.specs.Marks.{InTurn, Made, cspace_of, has_looks, place_after}
 use Rattle.gh_model.specs.Registers.{needs_of}
 use Rattle.gh_model.specs.Rows.{cpu_row}
 use Rattle.gh_model.specs.declared.entry.Entry.{Entry}
 use Rattle.gh_model.specs.declared.entry.Entry.TheVariants.{Acted, Part, Retired, Reclaimed}
-use Rattle.gh_core.specs.Calls.{CpuCalls, CurrentIs, DeathIs, GivenIs, HasCalls, IsActing, IsIdle, NextIs, Waits, calls_in, calls_of, came_fits, counted, is_dying, looks_fit, needs_fit, pinned_looks, section_behind, steps, steps_at}
+use Rattle.gh_core.specs.Calls.{CurrentIs, GivenIs, HasCalls, IsActing, IsIdle, NextIs, Waits, calls_in, calls_of, came_fits, counted, is_dying, looks_fit, needs_fit, pinned_looks, section_behind, steps, steps_at}
 use Rattle.gh_core.specs.CallEvents.{begun, has_grants, has_needs}
 use Rattle.gh_core.specs.Config.{AtAct, Config, Cpu, Current, DeadPin, Failed, Given, Holder, IsIn, Looked, Pin, Reading, Stage, Undone, came_to, has_acted, pin_of, put}
-use Rattle.gh_core.specs.TurnEvents.{MayTake, call_at_act, if_at_act, if_lookless, new_holder, ready, taken}
+use Rattle.gh_core.specs.TurnEvents.{MayTake, call_at_act, if_at_act, new_holder, ready, taken}
 use Rattle.gh_core.proofs.CallMoves.{DeathsAre}
 use Rattle.gh_core.proofs.CallsGoOn.{none_acts}
 use Rattle.gh_core.proofs.Finding.{put_here, put_other}

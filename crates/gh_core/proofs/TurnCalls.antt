@@ -9,8 +9,8 @@ use Rattle.gh_model.specs.declared.entry.Entry.{Entry}
 use Rattle.gh_model.specs.declared.entry.Entry.TheVariants.{Acted, Part, Retired, Reclaimed}
 use Rattle.gh_model.specs.declared.rows.ObjectRow.{ObjectRow}
 use Rattle.gh_model.specs.declared.state.State.{State}
-use Rattle.gh_core.specs.Calls.{CpuCalls, CurrentIs, DeathIs, HasCalls, IsActing, IsKilledThere, Waits, acted_call, as_made, calls_in, calls_of, last_ending, stands_open}
-use Rattle.gh_core.specs.Config.{AtAct, Config, Cpu, Current, Holder, IsIn, has_acted, has_part, is_acted, object_at, present, seen_index}
+use Rattle.gh_core.specs.Calls.{CpuCalls, CurrentIs, DeathIs, HasCalls, IsActing, Waits, acted_call, as_made, calls_in, calls_of, last_ending, stands_open}
+use Rattle.gh_core.specs.Config.{AtAct, Config, Cpu, Current, Holder, IsIn, is_acted, object_at, present, seen_index}
 
 -- the CPU of the holder and its entries in this turn
 pub record Seat : Type 0 where

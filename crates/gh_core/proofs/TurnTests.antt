@@ -1,10 +1,10 @@
 -- The tests of a turn's begin and end tell their conditions.
-use Rattle.std.proofs.Common.{◌≡◌, ◌≢◌, ◌==◌, ◌&&◌, ◌<◌, ◌≤◌, ◌∙◌, ◌⊎◌, ℕ, zero, suc, Bool, true, false, List, [], ◌∷◌, inl, inr, refl, ap, sym, subst, arith, Option, Some, None, not, length, drop, option_map, fold, is_some, map, nat_lt, if◌then◌else◌}
+use Rattle.std.proofs.Common.{◌≡◌, ◌≢◌, ◌==◌, ◌&&◌, ◌∙◌, ◌⊎◌, ℕ, Bool, true, false, List, [], ◌∷◌, inl, inr, refl, ap, sym, subst, arith, Option, Some, None, not, length, option_map, is_some, map, nat_lt}
 use Rattle.std.specs.List.{list_all}
 use Rattle.std.proofs.lemmas.Bool.Decides.{eqb_tells, nat_tests}
 use Rattle.gh_base.specs.declared.limits.TheConstants.{CPUS}
 use Rattle.gh_model.specs.Marks.{Fails, Grants, Outcome, Wants}
-use Rattle.gh_core.specs.Config.{Config, Current, Holder, OwesNothing, Pin, came_to, has_acted, has_part, pin_of, put, some_killed}
+use Rattle.gh_core.specs.Config.{Config, Current, Holder, OwesNothing, Pin, came_to, has_acted, has_part, pin_of, some_killed}
 use Rattle.gh_core.specs.Running.{pin_of as held_pin, seen_of}
 use Rattle.gh_core.specs.Running.{holder_of, is_paid, no_number, owes_nothing, quits, stands_for, turn_quits}
 use Rattle.gh_core.specs.Tables.{numbers, put_number}

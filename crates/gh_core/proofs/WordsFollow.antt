@@ -1,7 +1,7 @@
 -- The capability words are those of the state behind an entry, where each word is as before or is
 -- the one that the entry sets.
-use Rattle.std.proofs.Common.{◌≡◌, ◌<◌, ◌∙◌, ◌⊎◌, inl, inr, ℕ, Bool, true, false, List, refl, sym, ap, arith, IsTrue, Option, Some, None, find, is_some}
-use Rattle.std.specs.Prelude.{◌&&◌, ◌==◌, nat_lt}
+use Rattle.std.proofs.Common.{◌≡◌, ◌<◌, ◌∙◌, ◌⊎◌, inl, inr, ℕ, true, false, List, refl, sym, ap, arith, IsTrue, Option, Some, None, find, is_some}
+use Rattle.std.specs.Prelude.{◌==◌, nat_lt}
 use Rattle.std.proofs.lemmas.Bool.{and_parts, eqb-true}
 use Rattle.std.proofs.lemmas.Bool.Decides.{nat_tests}
 use Rattle.gh_base.specs.CapWord.{filled_bits, settings}

@@ -1,6 +1,6 @@
 -- The capability words stay those of the present state: at the boot, and behind each event that sets
 -- no slot.
-use Rattle.std.proofs.Common.{◌≡◌, ◌<◌, ◌≤◌, ◌∙◌, ◌⊎◌, inl, inr, ℕ, Bool, true, false, [], ◌∷◌, ◌++◌, refl, subst, sym, ap, arith, Option, Some, None, find, if◌then◌else◌}
+use Rattle.std.proofs.Common.{◌≡◌, ◌≤◌, ◌∙◌, inl, inr, ℕ, Bool, true, false, [], ◌∷◌, ◌++◌, refl, subst, sym, ap, arith, Option, Some, None, find, if◌then◌else◌}
 use Rattle.std.specs.Prelude.{◌==◌, count_by, option_map}
 use Rattle.std.specs.List.{list_any}
 use Rattle.std.proofs.lemmas.Bool.Decides.{nat_tests}

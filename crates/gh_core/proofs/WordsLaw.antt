@@ -1,12 +1,12 @@
 -- Every event leaves the capability words those of the present state.
-use Rattle.std.proofs.Common.{◌≡◌, ◌==◌, ◌<◌, ◌++◌, ℕ, [], ◌∷◌, true, false, subst, Option}
+use Rattle.std.proofs.Common.{◌==◌, ◌<◌, ℕ, [], ◌∷◌, true, false, subst, Option}
 use Rattle.std.proofs.lemmas.List.Sums.{fold-append}
 use Rattle.gh_base.specs.CapWord.{settings}
 use Rattle.gh_base.specs.declared.cap_word.CapWord.{CapWord}
 use Rattle.gh_model.specs.History.{after_event}
 use Rattle.gh_model.specs.declared.entry.Entry.{Entry}
 use Rattle.gh_model.specs.declared.state.State.{State}
-use Rattle.gh_core.specs.Config.{Config, Current, present}
+use Rattle.gh_core.specs.Config.{Config, Current}
 use Rattle.gh_core.specs.Entries.{index_after, logged, next_state}
 use Rattle.gh_core.specs.Events.{Possible, after}
 use Rattle.gh_core.specs.References.{HasReferences}

@@ -1,5 +1,5 @@
 -- The events of a call outside the turn: when each is possible, and what it changes.
-use Rattle.std.specs.Prelude.{◌≡◌, ◌==◌, ◌+◌, ◌-◌, ◌<◌, ℕ, Bool, true, false, List, [], ◌∷◌, ◌++◌, length, max, Option, Some, None, map, nat_lt, option_map, if◌then◌else◌}
+use Rattle.std.specs.Prelude.{◌≡◌, ◌+◌, ◌-◌, ◌<◌, ℕ, Bool, true, false, List, [], ◌∷◌, ◌++◌, length, max, Option, Some, None, map, nat_lt, option_map, if◌then◌else◌}
 use Rattle.std.specs.List.{list_any, last_or}
 use Rattle.gh_base.specs.CapWord.{set_at_of}
 use Rattle.gh_base.specs.Reply.{refusal}

@@ -1,6 +1,6 @@
 -- A configuration of the machine of all interleavings: the history, the words, the turn and what
 -- each CPU keeps. Objects are named by serials, and words by indices, slots and CPUs.
-use Rattle.std.specs.Prelude.{◌≡◌, ◌==◌, ◌+◌, ℕ, Bool, true, false, List, [], length, Option, Some, None, find, map, is_some, if◌then◌else◌}
+use Rattle.std.specs.Prelude.{◌≡◌, ◌==◌, ℕ, Bool, true, false, List, [], length, Option, Some, None, find, map, is_some, if◌then◌else◌}
 use Rattle.std.specs.List.{list_any}
 use Rattle.std.specs.Option.{option_map_or}
 use Rattle.gh_base.specs.CapWord.{object_of}

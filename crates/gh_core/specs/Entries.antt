@@ -1,6 +1,6 @@
 -- Entries of the holder: which are allowed, and what each does to the slots, the indices and what
 -- is owed.
-use Rattle.std.specs.Prelude.{◌≡◌, ◌==◌, ◌&&◌, ◌||◌, ◌+◌, ◌-◌, ◌<◌, ◌≤◌, not, ℕ, Bool, true, false, List, [], ◌∷◌, ◌++◌, length, Option, Some, None, map, nat_le, nat_lt, slice_get, if◌then◌else◌}
+use Rattle.std.specs.Prelude.{◌≡◌, ◌==◌, ◌&&◌, ◌||◌, ◌+◌, ◌-◌, ◌<◌, ◌≤◌, not, ℕ, Bool, true, false, List, [], ◌∷◌, length, Option, Some, None, map, nat_le, nat_lt, slice_get, if◌then◌else◌}
 use Rattle.std.specs.List.{list_all}
 use Rattle.gh_base.specs.CapWord.{filled_bits, object_of}
 use Rattle.gh_base.specs.declared.cap_word.CapWord.{CapWord}

@@ -1,8 +1,7 @@
 -- The conditions of the holder's entries as tests.
-use Rattle.std.specs.Prelude.{◌==◌, ◌&&◌, ◌+◌, not, ℕ, Bool, true, false, List, [], ◌∷◌, length, Option, Some, None, find, map, nat_le, nat_lt, slice_index, if◌then◌else◌}
-use Rattle.std.specs.List.{list_all}
+use Rattle.std.specs.Prelude.{◌==◌, ◌&&◌, ◌+◌, not, ℕ, Bool, true, false, List, [], ◌∷◌, length, Option, Some, None, find, nat_le, nat_lt, slice_index, if◌then◌else◌}
 use Rattle.gh_base.specs.Counters.{is_odd}
-use Rattle.gh_base.specs.declared.limits.TheConstants.{CPUS, OBJECT_INDICES}
+use Rattle.gh_base.specs.declared.limits.TheConstants.{CPUS}
 use Rattle.gh_invariant.specs.Effects.{slots_set}
 use Rattle.gh_invariant.specs.Events.{changes_of}
 use Rattle.gh_model.specs.Act.{Verdict, Done, Refused}
@@ -14,7 +13,7 @@ use Rattle.gh_model.specs.declared.entry.Entry.{Entry}
 use Rattle.gh_model.specs.declared.entry.Entry.TheVariants.{Acted, Part, Retired, Reclaimed}
 use Rattle.gh_model.specs.declared.state.State.{State}
 use Rattle.gh_core.specs.Config.{Config, Current, Holder, has_acted, has_part, judged, live_references, present, references_at, some_killed}
-use Rattle.gh_core.specs.Entries.{is_least, logged, next_state}
+use Rattle.gh_core.specs.Entries.{is_least, logged}
 use Rattle.gh_core.specs.Running.{is_made}
 use Rattle.gh_core.specs.Tests.{is_at_act}
 use Rattle.gh_core.specs.TurnEvents.{is_scan}

@@ -1,5 +1,5 @@
 -- The machine: which events are possible in a configuration, and the configuration behind each.
-use Rattle.std.specs.Prelude.{ℕ, true, false, [], ◌∷◌}
+use Rattle.std.specs.Prelude.{true, false}
 use Rattle.gh_core.specs.CallEvents.{MayEnter, MayLeave, MayLook, MayMove, MayPin, MayUndo, MayUnpin, entered, left, looked, pinned, undone, unpinned}
 use Rattle.gh_core.specs.Config.{Config}
 use Rattle.gh_core.specs.HolderEvents.{MayKill, MayOwe, MayRevive, MayScan, MaySettle, killed, owed, revived, scanned, settled}

@@ -1,15 +1,13 @@
 -- The events of the turn's holder on reference words and counters: when each is possible, and what
 -- it changes.
-use Rattle.std.specs.Prelude.{◌≡◌, ◌==◌, ◌&&◌, ◌||◌, ◌+◌, ◌-◌, ◌^◌, ◌<◌, ◌≤◌, not, ℕ, Bool, true, false, [], ◌∷◌, ◌++◌, Option, Some, None, is_some, option_map, if◌then◌else◌}
+use Rattle.std.specs.Prelude.{◌≡◌, ◌==◌, ◌+◌, ◌-◌, ◌^◌, ◌<◌, ◌≤◌, ℕ, Bool, true, false, [], ◌∷◌, ◌++◌, Option, Some, None, is_some, option_map, if◌then◌else◌}
 use Rattle.gh_base.specs.declared.call.Call.{Call}
 use Rattle.gh_base.specs.declared.call.Call.TheVariants.{Create}
 use Rattle.gh_base.specs.declared.limits.TheConstants.{CPUS, OBJECT_INDICES}
-use Rattle.gh_base.specs.declared.mark.End.TheVariants as ends
-use Rattle.gh_base.specs.declared.mark.Held.TheVariants as held
 use Rattle.gh_model.specs.Act.{Verdict, Done, Refused}
 use Rattle.gh_model.specs.References.{is_doomed}
 use Rattle.gh_model.specs.declared.rows.ObjectRow.{ObjectRow}
-use Rattle.gh_core.specs.Config.{AtAct, Config, Current, HasTurn, Holder, IsIn, Pin, has_acted, has_part, judged, live_references, object_at, present, put, some_killed}
+use Rattle.gh_core.specs.Config.{AtAct, Config, Current, HasTurn, Holder, IsIn, has_acted, has_part, judged, live_references, object_at, present, put, some_killed}
 
 -- what the holder keeps, changed
 abbrev pub with_turn : (Holder → Holder) → Config → Config

@@ -1,5 +1,5 @@
 -- What is owed behind an entry, over the tables.
-use Rattle.std.specs.Prelude.{◌≡◌, ◌==◌, ◌&&◌, ◌||◌, ◌+◌, ◌-◌, ◌<◌, ◌≤◌, ◌++◌, not, ℕ, Bool, true, false, List, [], ◌∷◌, Option, Some, None, map, nat_le, option_map, if◌then◌else◌}
+use Rattle.std.specs.Prelude.{◌≡◌, ◌==◌, ◌&&◌, ◌||◌, ◌+◌, ◌-◌, ◌<◌, ◌≤◌, ◌++◌, not, ℕ, Bool, false, List, [], ◌∷◌, Option, Some, None, map, nat_le, option_map, if◌then◌else◌}
 use Rattle.std.specs.List.{list_any}
 use Rattle.gh_base.specs.CapWord.{object_of}
 use Rattle.gh_base.specs.declared.cap_word.CapWord.{CapWord}

@@ -1,13 +1,11 @@
 -- The configuration that the running machine's tables stand for.
-use Rattle.std.specs.Prelude.{◌≡◌, ◌-◌, ◌==◌, ◌&&◌, ◌<◌, if◌then◌else◌, ℕ, Bool, true, false, List, [], ◌∷◌, length, Option, Some, None, ◌++◌, filter, find, flat_map, is_some, map, nat_lt, not, option_map, slice_get, IsTrue}
+use Rattle.std.specs.Prelude.{◌≡◌, ◌-◌, ◌==◌, ◌&&◌, if◌then◌else◌, ℕ, Bool, true, false, List, [], ◌∷◌, length, Option, Some, None, ◌++◌, filter, find, flat_map, is_some, map, nat_lt, not, option_map, slice_get}
 use Rattle.std.specs.List.{list_all, list_any}
 use Rattle.std.specs.Option.{option_map_or}
-use Rattle.gh_base.specs.declared.call.Call.{Call}
 use Rattle.gh_base.specs.declared.ids.Serial.{Serial}
 use Rattle.gh_base.specs.declared.limits.TheConstants.{CPUS, OBJECT_INDICES}
 use Rattle.gh_base.specs.declared.mark.Held.{Held}
 use Rattle.gh_base.specs.declared.mark.Held.TheVariants as held
-use Rattle.gh_model.specs.Act.{Verdict, Done, Refused}
 use Rattle.gh_model.specs.Boot.{boot_state}
 use Rattle.gh_model.specs.Decide.{judge}
 use Rattle.gh_model.specs.Held.{is_held}

@@ -1,5 +1,5 @@
 -- The configuration before any event, and how CPUs are given their calls.
-use Rattle.std.specs.Prelude.{◌≡◌, ◌==◌, ◌+◌, ◌<◌, ◌≤◌, not, ℕ, Bool, true, false, [], ◌∷◌, ◌++◌, length, Some, None, Result, Ok, Err, find, is_some}
+use Rattle.std.specs.Prelude.{◌≡◌, ◌+◌, ◌<◌, ◌≤◌, not, ℕ, Bool, true, false, [], ◌∷◌, ◌++◌, length, Some, None, Result, Ok, Err, find, is_some}
 use Rattle.std.specs.List.{list_any}
 use Rattle.std.specs.Option.{option_map_or}
 use Rattle.gh_base.specs.Reply.{refusal}

@@ -1,6 +1,6 @@
 -- The turn: how it is taken, what its holder commits, and how it is given back. When each event is
 -- possible, and what it changes.
-use Rattle.std.specs.Prelude.{◌≡◌, ◌==◌, ◌&&◌, ◌+◌, ◌-◌, ◌^◌, ◌<◌, ◌≤◌, not, ℕ, Bool, true, false, List, [], ◌∷◌, ◌++◌, Option, Some, None, filter, flat_map, map, is_some, option_map, slice_index, if◌then◌else◌}
+use Rattle.std.specs.Prelude.{◌≡◌, ◌==◌, ◌&&◌, ◌+◌, ◌-◌, ◌<◌, ℕ, Bool, true, false, List, [], ◌∷◌, ◌++◌, Option, Some, None, flat_map, map, is_some, option_map, slice_index, if◌then◌else◌}
 use Rattle.std.specs.List.{list_all, list_any}
 use Rattle.gh_base.specs.CapWord.{object_of}
 use Rattle.gh_base.specs.Counters.{is_odd}
@@ -24,7 +24,7 @@ use Rattle.gh_model.specs.declared.entry.Entry.{Entry}
 use Rattle.gh_model.specs.declared.rows.ObjectRow.{ObjectRow}
 use Rattle.gh_model.specs.declared.state.State.{State}
 use Rattle.gh_core.specs.CallEvents.{begun, finished, has_needs, with_end}
-use Rattle.gh_core.specs.Config.{AtAct, Config, Cpu, Current, Given, HasTurn, Holder, IsIn, OwesNothing, Pin, Reading, Stage, came_to, entries, has_acted, has_part, judged, pin_of, present, put, some_killed}
+use Rattle.gh_core.specs.Config.{AtAct, Config, Cpu, Current, Given, HasTurn, Holder, IsIn, OwesNothing, Pin, Stage, came_to, entries, has_acted, has_part, judged, pin_of, present, put, some_killed}
 use Rattle.gh_core.specs.Entries.{Allows, Covers, index_after, is_that_index, logged, makes_object, next_state, owed_after, shown, slot_set}
 
 -- Take

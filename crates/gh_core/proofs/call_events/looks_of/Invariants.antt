@@ -1,5 +1,5 @@
 -- The looks so far and those that are left are all looks.
-use Rattle.std.proofs.Common.{◌≡◌, ◌++◌, ◌≤◌, drop, length, map}
+use Rattle.std.proofs.Common.{◌≡◌, ◌++◌, drop, length, map}
 use Rattle.gh_core.specs.Running.{seen_of}
 use Rattle.gh_model.specs.Marks.{look_of}
 use Rattle.gh_core.proofs.call_events.looks_of.Given as goal

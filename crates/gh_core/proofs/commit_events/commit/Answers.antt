@@ -1,7 +1,6 @@
 -- An entry is committed exactly where it may be, and then as the machine commits it.
-use Rattle.std.proofs.Common.{◌≡◌, ◌<◌, ◌∙◌, ap, sym, subst, true, false, nat_lt, is_some, IfSome, Option, Some}
+use Rattle.std.proofs.Common.{◌∙◌, ap, sym, subst, is_some, IfSome, Option}
 use Rattle.gh_base.specs.declared.limits.TheConstants.{CPUS}
-use Rattle.gh_core.specs.EntryTests.{entry_goes}
 use Rattle.gh_core.specs.Owing.{next_is}
 use Rattle.gh_core.specs.Running.{stands_for}
 use Rattle.gh_core.specs.declared.commit_events.Next.{Next}

@@ -1,5 +1,5 @@
 -- The causes so far, and those of the objects that are left.
-use Rattle.std.proofs.Common.{◌≡◌, ◌++◌, drop, filter}
+use Rattle.std.proofs.Common.{◌≡◌, drop}
 use Rattle.gh_core.specs.Running.{causes_behind, held_causes, holder_of}
 use Rattle.gh_core.proofs.ending.causes.Given as goal
 

@@ -1,5 +1,5 @@
 -- What was written there, or else 0, and the references.
-use Rattle.std.proofs.Common.{◌≡◌, ◌+◌, ◌∙◌, ap, ℕ}
+use Rattle.std.proofs.Common.{◌+◌, ◌∙◌, ap, ℕ}
 use Rattle.gh_core.specs.Running.{no_number}
 use Rattle.gh_core.specs.Tables.{numbers}
 use Rattle.gh_core.proofs.TableLemmas.{number_read, or_read}

@@ -1,5 +1,5 @@
 -- The word of the object that lives at the index.
-use Rattle.std.proofs.Common.{◌≡◌, ◌∙◌, ap, ℕ, List, []}
+use Rattle.std.proofs.Common.{◌∙◌, ap, ℕ, List, []}
 use Rattle.gh_model.specs.Word.{word_at}
 use Rattle.gh_model.specs.declared.word.Word.{Word}
 use Rattle.gh_core.specs.Entries.{shown}

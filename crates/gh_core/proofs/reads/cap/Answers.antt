@@ -1,5 +1,5 @@
 -- A word that was written, or that of the boot.
-use Rattle.std.proofs.Common.{◌≡◌, ◌∙◌, ap}
+use Rattle.std.proofs.Common.{◌∙◌, ap}
 use Rattle.gh_model.specs.declared.state.State.{State}
 use Rattle.gh_core.specs.Running.{boot_index, boot_of}
 use Rattle.gh_core.specs.Start.{boot_cap}

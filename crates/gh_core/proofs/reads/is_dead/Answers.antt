@@ -1,5 +1,5 @@
 -- A mark that was written, or that of the boot.
-use Rattle.std.proofs.Common.{◌≡◌, ◌∙◌, ap, not, is_some, List, []}
+use Rattle.std.proofs.Common.{◌∙◌, ap, not, is_some, List, []}
 use Rattle.gh_model.specs.declared.state.State.{State}
 use Rattle.gh_core.specs.Config.{object_at}
 use Rattle.gh_core.specs.Running.{boot_index, boot_of, index_in}

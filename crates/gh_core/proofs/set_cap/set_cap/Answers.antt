@@ -1,5 +1,5 @@
 -- A slot is set exactly where it may be, and then as the machine sets it.
-use Rattle.std.proofs.Common.{◌≡◌, ◌<◌, ◌∙◌, ap, refl, sym, subst, true, false, nat_lt, is_some, IfSome, Option, Some}
+use Rattle.std.proofs.Common.{◌∙◌, ap, refl, sym, subst, is_some, IfSome, Option}
 use Rattle.gh_base.specs.declared.limits.TheConstants.{CPUS, OBJECT_INDICES}
 use Rattle.gh_core.specs.Owing.{later_of, next_is}
 use Rattle.gh_core.specs.Running.{stands_for}

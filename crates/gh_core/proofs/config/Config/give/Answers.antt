@@ -1,5 +1,5 @@
 -- A CPU of the boot is one of the nine.
-use Rattle.std.proofs.Common.{subst, sym, IsTrue}
+use Rattle.std.proofs.Common.{subst, IsTrue}
 use Rattle.gh_model.specs.Boot.{boot_fits}
 use Rattle.gh_core.specs.declared.config.Running.{Running}
 use Rattle.gh_core.proofs.BootTables.{boot_cpus}
