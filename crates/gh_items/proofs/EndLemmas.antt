@@ -1,5 +1,5 @@
 -- A call that comes to its end: its mark is behind the others, and its CPU's seat counts it.
-use Rattle.std.proofs.Common.{◌≡◌, ◌≢◌, ◌==◌, ◌+◌, ◌<◌, ◌∙◌, ◌||◌, ◌⊎◌, inl, inr, ℕ, Bool, true, false, List, [], ◌∷◌, ◌++◌, length, map, refl, sym, ap, subst, arith, Option, Some, None, slice_get, slice_set, if◌then◌else◌}
+use Rattle.std.proofs.Common.{◌≡◌, ◌≢◌, ◌==◌, ◌+◌, ◌<◌, ◌∙◌, ◌||◌, inl, inr, ℕ, Bool, true, false, List, [], ◌∷◌, ◌++◌, length, refl, sym, ap, subst, arith, Option, Some, None, slice_get, slice_set, if◌then◌else◌}
 use Rattle.std.specs.Prelude.{count_by, filter, nat_lt}
 use Rattle.std.specs.List.{list_any}
 use Rattle.std.proofs.lemmas.Bool.{ne_eqb}
@@ -7,7 +7,6 @@ use Rattle.std.proofs.lemmas.List.{append-nil, length-map, length-set, map_push}
 use Rattle.std.proofs.lemmas.List.Elements.{filter-append}
 use Rattle.std.proofs.lemmas.List.Folds.{list_any-append}
 use Rattle.std.proofs.lemmas.List.Sums.{fold-append}
-use Rattle.std.proofs.lemmas.Option.{slice_get-get_or}
 use Rattle.gh_base.specs.declared.frame.Reply.{Reply}
 use Rattle.gh_base.specs.declared.limits.TheConstants.{CPUS}
 use Rattle.gh_base.specs.declared.mark.End.{End}
@@ -22,7 +21,7 @@ use Rattle.gh_items.specs.declared.progress.Progress.{Progress}
 use Rattle.gh_items.specs.declared.progress.Seat.{Seat}
 use Rattle.gh_items.proofs.SeatLemmas.{calls_there, moved, seat_stands, set_here, set_other}
 use Rattle.gh_model.specs.Legal.{exits}
-use Rattle.gh_model.specs.Marks.{Made, cspace_of, has_looks, mark_of, place, place_after, place_after_call, place_after_looks}
+use Rattle.gh_model.specs.Marks.{Made, cspace_of, has_looks, mark_of, place_after, place_after_call}
 use Rattle.gh_model.specs.Program.{is_exit}
 use Rattle.gh_model.specs.Run.{is_mark_of}
 use Rattle.gh_model.proofs.RunLists.{count_snoc}

@@ -1,15 +1,13 @@
 -- A CPU that is given a call and opens its section.
-use Rattle.std.proofs.Common.{◌≡◌, ◌==◌, ◌+◌, ◌*◌, ◌<◌, ◌∙◌, ℕ, true, false, List, [], length, refl, sym, ap, subst, arith, Option, Some, None, Ok, slice_get, option_map}
+use Rattle.std.proofs.Common.{◌≡◌, ◌==◌, ◌+◌, ◌*◌, ◌<◌, ◌∙◌, ℕ, false, refl, sym, ap, subst, arith, Some, None, Ok, slice_get, option_map}
 use Rattle.std.specs.Prelude.{count_by, slice_index_or}
-use Rattle.std.proofs.lemmas.Option.{get_or_from_slice_get, slice_get-get_or}
+use Rattle.std.proofs.lemmas.Option.{slice_get-get_or}
 use Rattle.gh_base.specs.declared.limits.TheConstants.{CPUS}
 use Rattle.gh_core.specs.CallEvents.{begun, entered}
 use Rattle.gh_core.specs.Calls.{HasCalls, counted, steps}
-use Rattle.gh_core.specs.Config.{Config, Cpu, Current, Given, IsBetween, Reading, put}
-use Rattle.gh_core.specs.Running.{current_of, given_of}
+use Rattle.gh_core.specs.Config.{Config, Cpu, Reading}
+use Rattle.gh_core.specs.Running.{given_of}
 use Rattle.gh_core.specs.Start.{MayGive, given as given_next, with_next}
-use Rattle.gh_core.specs.declared.current.CallStage.TheVariants as stages
-use Rattle.gh_core.specs.declared.current.CurrentCall.{CurrentCall}
 use Rattle.gh_core.specs.declared.current.GivenCall.{GivenCall}
 use Rattle.gh_core.proofs.Finding.{put_here, put_other}
 use Rattle.gh_items.specs.Stands.{SeatStands, Stands, begun_call, with_call}

@@ -1,6 +1,6 @@
 -- A call whose frame is refused: its mark is behind the others, and its CPU's seat counts it.
-use Rattle.std.proofs.Common.{◌≡◌, ◌≢◌, ◌==◌, ◌+◌, ◌<◌, ◌≤◌, ◌∙◌, ◌||◌, ◌⊎◌, inl, inr, ℕ, Bool, true, false, List, [], ◌∷◌, ◌++◌, length, map, refl, sym, ap, subst, arith, Option, Some, None, Err, slice_get, slice_set}
-use Rattle.std.specs.Prelude.{count_by, filter}
+use Rattle.std.proofs.Common.{◌≡◌, ◌≢◌, ◌==◌, ◌+◌, ◌<◌, ◌∙◌, ◌||◌, inl, inr, ℕ, Bool, false, List, [], ◌∷◌, ◌++◌, length, refl, sym, ap, subst, arith, Option, Some, Err, slice_get}
+use Rattle.std.specs.Prelude.{count_by}
 use Rattle.std.specs.List.{list_any}
 use Rattle.std.proofs.lemmas.Bool.{ne_eqb}
 use Rattle.std.proofs.lemmas.List.{length-set, map_push}
@@ -8,9 +8,9 @@ use Rattle.std.proofs.lemmas.List.Folds.{list_any-append}
 use Rattle.std.proofs.lemmas.List.Sums.{fold-append}
 use Rattle.gh_base.specs.declared.errno.Errno.{Errno}
 use Rattle.gh_base.specs.declared.frame.Frame.{Frame}
-use Rattle.gh_base.specs.declared.limits.TheConstants.{CALL_NUMBERS, CPUS}
+use Rattle.gh_base.specs.declared.limits.TheConstants.{CPUS}
 use Rattle.gh_base.specs.declared.mark.Mark.{Mark}
-use Rattle.gh_core.specs.Config.{Config, Cpu}
+use Rattle.gh_core.specs.Config.{Config}
 use Rattle.gh_core.specs.Start.{MayGive, given, refused_frame, with_next}
 use Rattle.gh_core.specs.declared.current.CurrentCall.{CurrentCall}
 use Rattle.gh_core.proofs.Finding.{put_here, put_other}
@@ -20,10 +20,9 @@ use Rattle.gh_items.specs.declared.progress.Seat.{Seat}
 use Rattle.gh_items.proofs.EndLemmas.{length_snoc, or_none, other_marks, own_marks}
 use Rattle.gh_items.proofs.EnterLemmas.{call_there}
 use Rattle.gh_model.specs.Legal.{exits}
-use Rattle.gh_model.specs.Marks.{Made, cspace_of, has_looks, mark_of, place_after, place_after_call}
+use Rattle.gh_model.specs.Marks.{Made, cspace_of, has_looks, mark_of, place_after_call}
 use Rattle.gh_model.specs.Program.{is_exit}
 use Rattle.gh_model.specs.Registers.{call_of}
-use Rattle.gh_model.specs.Run.{is_mark_of}
 use Rattle.gh_model.proofs.RunLists.{count_snoc}
 use Rattle.gh_model.proofs.RunWhole.{set_cases}
 

@@ -1,28 +1,26 @@
 -- A call that ends where it leaves its section.
-use Rattle.std.proofs.Common.{◌≡◌, ◌==◌, ◌+◌, ◌<◌, ◌≤◌, ◌∙◌, ◌⊎◌, inl, inr, ℕ, Bool, true, false, List, [], ◌∷◌, ◌++◌, length, refl, sym, ap, subst, arith, Option, Some, None, is_some, slice_get, if◌then◌else◌}
-use Rattle.std.specs.Prelude.{◌||◌, count_by}
+use Rattle.std.proofs.Common.{◌≡◌, ◌+◌, ◌<◌, ◌≤◌, ◌∙◌, ◌⊎◌, inl, inr, ℕ, Bool, true, false, [], length, refl, ap, arith, Option, Some, is_some, slice_get}
+use Rattle.std.specs.Prelude.{◌||◌}
 use Rattle.gh_base.specs.declared.frame.Reply.{Reply}
 use Rattle.gh_base.specs.declared.limits.TheConstants.{CALL_NUMBERS, CPUS}
 use Rattle.gh_base.specs.declared.mark.End.{End}
 use Rattle.gh_core.specs.CallEvents.{after_leave, end_of_looks, finished, left, reply_of_looks, with_end as ended_cpu, with_left}
-use Rattle.gh_core.specs.Config.{Config, Cpu, Current, Failed, Stage, Undone, came_to, put}
+use Rattle.gh_core.specs.Config.{Config, Cpu, Current, Failed, Undone, came_to}
 use Rattle.gh_core.specs.Items.{leave, leave_ended, unpins}
 use Rattle.gh_core.specs.Length.{calls_given}
 use Rattle.gh_core.specs.Running.{current_of, stage_of}
 use Rattle.gh_core.specs.Sound.{IsSound}
 use Rattle.gh_core.specs.Trace.{after_all, and_then}
-use Rattle.gh_core.specs.declared.current.CallStage.{CallStage}
 use Rattle.gh_core.specs.declared.current.CurrentCall.{CurrentCall}
 use Rattle.gh_core.proofs.Finding.{put_here, put_other}
 use Rattle.gh_core.proofs.LengthBound.{count_all}
-use Rattle.gh_core.proofs.TraceLaws.{after_append}
-use Rattle.gh_items.specs.Stands.{SeatStands, Stands, with_call, with_end}
+use Rattle.gh_items.specs.Stands.{Stands, with_call, with_end}
 use Rattle.gh_items.specs.declared.progress.Progress.{Progress}
 use Rattle.gh_items.specs.declared.progress.Seat.{Seat}
 use Rattle.gh_items.proofs.EndLemmas.{end_stands}
-use Rattle.gh_items.proofs.LikeLemmas.{IsLike, like_self, stands_like, unpinned_cpu, unpins_like}
+use Rattle.gh_items.proofs.LikeLemmas.{IsLike, stands_like, unpinned_cpu, unpins_like}
 use Rattle.gh_items.proofs.SeatLemmas.{current_is, seat_stands}
-use Rattle.gh_model.specs.Marks.{Made, cspace_of, has_looks}
+use Rattle.gh_model.specs.Marks.{has_looks}
 use Rattle.gh_model.specs.QueueCalls.{one_if}
 
 module _ (progress : Progress) (conf : Config) (at : ℕ) (call : CurrentCall) (stands : Stands (with_call progress at (Some call)) conf)

@@ -1,22 +1,20 @@
 -- A CPU that looks a capability up.
-use Rattle.std.proofs.Common.{◌≡◌, ◌==◌, ◌+◌, ◌-◌, ◌<◌, ◌≤◌, ◌∙◌, ℕ, Bool, true, false, List, [], ◌∷◌, ◌++◌, length, map, max, refl, sym, ap, subst, arith, Option, Some, None, Result, Ok, Err, find, slice_get, slice_set, option_map, if◌then◌else◌}
+use Rattle.std.proofs.Common.{◌≡◌, ◌-◌, ◌<◌, ◌∙◌, ℕ, Bool, true, false, List, [], ◌∷◌, ◌++◌, length, map, max, refl, sym, ap, subst, arith, Option, Some, None, Result, Ok, Err, find, slice_get, option_map, if◌then◌else◌}
 use Rattle.std.specs.Option.{option_map_or}
 use Rattle.std.proofs.lemmas.Bool.{ltb-true}
 use Rattle.std.proofs.lemmas.List.{length-set, map_push}
 use Rattle.gh_base.specs.CapWord.{filled_bits, set_at_of}
 use Rattle.gh_base.specs.declared.cap_word.CapWord.{CapWord}
-use Rattle.gh_base.specs.declared.cap_word.Look.{Look}
 use Rattle.gh_base.specs.declared.cap_word.Need.{Need}
 use Rattle.gh_base.specs.declared.errno.Errno.{Errno}
 use Rattle.gh_base.specs.declared.ids.ObjIndex.{ObjIndex}
 use Rattle.gh_base.specs.declared.ids.Serial.{Serial}
 use Rattle.gh_base.specs.declared.limits.TheConstants.{CPUS, OBJECT_INDICES}
-use Rattle.gh_core.specs.CallEvents.{MayLook, found, loaded, looked, stage_after_look, with_call as changed_call, with_look}
-use Rattle.gh_core.specs.Config.{Config, Cpu, Current, Reading, Stage, came_to, last_place, present, put}
+use Rattle.gh_core.specs.CallEvents.{MayLook, found, loaded, looked, stage_after_look, with_look}
+use Rattle.gh_core.specs.Config.{Config, Current, came_to, last_place, present}
 use Rattle.gh_core.specs.Entries.{row_shown, shown}
 use Rattle.gh_core.specs.Running.{current_of, seen_of, stage_of}
 use Rattle.gh_core.specs.Sound.{IsSound}
-use Rattle.gh_core.specs.declared.current.CallStage.{CallStage}
 use Rattle.gh_core.specs.declared.current.CallStage.TheVariants as stages
 use Rattle.gh_core.specs.declared.current.CurrentCall.{CurrentCall}
 use Rattle.gh_core.specs.declared.current.SeenLook.{SeenLook}
@@ -30,7 +28,7 @@ use Rattle.gh_items.specs.Stands.{AreIndexed, IsNamed, IsPlaced, SeatStands, Sta
 use Rattle.gh_items.specs.declared.progress.Progress.{Progress}
 use Rattle.gh_items.specs.declared.progress.Seat.{Seat}
 use Rattle.gh_items.proofs.SeatLemmas.{call_moves, put_twice, set_here}
-use Rattle.gh_model.specs.Marks.{Fails, Grants, Outcome, Seen, Wants, cspace_of, on_grant, outcome, place_after, place_after_looks, word_of}
+use Rattle.gh_model.specs.Marks.{Grants, Outcome, Seen, Wants, cspace_of, on_grant, outcome, place_after_looks, word_of}
 use Rattle.gh_model.specs.Registers.{needs_of}
 use Rattle.gh_model.specs.Rows.{fills}
 use Rattle.gh_model.specs.Word.{is_slot, look_reply, setting, word_at}

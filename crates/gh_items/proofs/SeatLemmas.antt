@@ -1,16 +1,13 @@
 -- A CPU moves, and the others stand as they did: the seats of a run's progress.
-use Rattle.std.proofs.Common.{◌≡◌, ◌≢◌, ◌==◌, ◌+◌, ◌-◌, ◌*◌, ◌<◌, ◌∙◌, ◌⊎◌, inl, inr, ℕ, zero, suc, Bool, true, false, List, [], ◌∷◌, length, refl, sym, ap, subst, arith, Option, Some, None, slice_get, slice_set, option_map}
-use Rattle.std.specs.Prelude.{count_by}
+use Rattle.std.proofs.Common.{◌≡◌, ◌≢◌, ◌==◌, ◌-◌, ◌<◌, ◌∙◌, inl, inr, ℕ, zero, suc, false, List, [], ◌∷◌, length, refl, sym, ap, subst, arith, Option, Some, None, slice_get, slice_set}
 use Rattle.std.specs.List.{last_or}
 use Rattle.std.specs.Prelude.{OnOk, Result, Ok, Err}
-use Rattle.std.proofs.lemmas.Bool.{eqb-true, ne_eqb}
+use Rattle.std.proofs.lemmas.Bool.{ne_eqb}
 use Rattle.std.proofs.lemmas.List.{get_or-set_same, length-set}
 use Rattle.std.proofs.lemmas.Option.{slice_get-get_or}
 use Rattle.gh_base.specs.declared.limits.TheConstants.{CPUS}
-use Rattle.gh_base.specs.declared.frame.Frame.{Frame}
-use Rattle.gh_base.specs.declared.call.Call.{Call}
 use Rattle.gh_core.specs.CallEvents.{at_stage}
-use Rattle.gh_core.specs.Config.{Config, Cpu, Current, Pin}
+use Rattle.gh_core.specs.Config.{Config, Cpu, Pin}
 use Rattle.gh_core.specs.Running.{current_of, stage_of}
 use Rattle.gh_core.specs.declared.current.CallStage.{CallStage}
 use Rattle.gh_core.specs.declared.current.CurrentCall.{CurrentCall}

@@ -1,10 +1,10 @@
 -- A call that goes on at another stage: behind a pin, an undo, or the end of its section.
-use Rattle.std.proofs.Common.{◌≡◌, ◌==◌, ◌+◌, ◌-◌, ◌<◌, ◌∙◌, ℕ, Bool, true, false, List, [], ◌++◌, length, map, refl, sym, ap, subst, Option, Some, None, find, is_some, slice_get, option_map, if◌then◌else◌}
+use Rattle.std.proofs.Common.{◌≡◌, ◌<◌, ◌∙◌, ℕ, Bool, true, false, List, ◌++◌, map, refl, sym, ap, Option, Some, None, is_some, option_map, if◌then◌else◌}
 use Rattle.std.specs.List.{last_or}
 use Rattle.std.specs.Option.{option_map_or}
 use Rattle.gh_base.specs.declared.limits.TheConstants.{CPUS}
-use Rattle.gh_core.specs.CallEvents.{after_leave, at_stage as staged, left, pin_of_call, pinned, undone, with_call as changed_call, with_left, with_pin}
-use Rattle.gh_core.specs.Config.{AtAct, Config, Cpu, Current, DeadPin, Looked, Reading, Stage, Undone, is_killed, present, put, seen_index}
+use Rattle.gh_core.specs.CallEvents.{after_leave, at_stage as staged, left, pin_of_call, pinned, undone, with_left, with_pin}
+use Rattle.gh_core.specs.Config.{Config, Current, DeadPin, Reading, Undone, is_killed, present, seen_index}
 use Rattle.gh_core.specs.References.{IsGranted, IsRow, grants_at}
 use Rattle.gh_core.specs.Running.{current_of, seen_of, stage_of}
 use Rattle.gh_core.specs.Sound.{IsSound}

@@ -1,12 +1,10 @@
 -- What the act of a call does to a run's progress: an entry of the history, and the call's end.
-use Rattle.std.specs.Prelude.{◌≡◌, ◌<◌, ℕ, [], ◌∷◌, ◌++◌, Some, None}
+use Rattle.std.specs.Prelude.{◌≡◌, ◌<◌, ℕ, [], ◌∷◌, ◌++◌, Some}
 use Rattle.gh_base.specs.declared.limits.TheConstants.{CPUS}
 use Rattle.gh_base.specs.declared.mark.End.TheVariants as ends
 use Rattle.gh_core.specs.Committing.{cpu_no}
 use Rattle.gh_core.specs.Config.{Config, Current}
 use Rattle.gh_core.specs.Items.{IsSteady, acting, freeing, preparing, taking, unpins}
-use Rattle.gh_core.specs.Sound.{IsSound}
-use Rattle.gh_core.specs.Sweep.{KeepsNine}
 use Rattle.gh_core.specs.Trace.{after_all, and_then}
 use Rattle.gh_core.specs.TurnEvents.{ready}
 use Rattle.gh_core.specs.declared.current.CallStage.TheVariants as stages

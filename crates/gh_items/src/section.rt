@@ -105,11 +105,7 @@ fn end_of_section(progress: &mut Progress, cpu: CpuNo, call: CurrentCall) -> Res
 }
 
 /// The next item of a call that isn't at its act.
-pub fn section_item(
-    progress: &mut Progress,
-    cpu: CpuNo,
-    call: CurrentCall,
-) -> Result<(), NoMemory>
+pub fn section_item(progress: &mut Progress, cpu: CpuNo, call: CurrentCall) -> Result<(), NoMemory>
     ghost conf: { Config }
     requires stands { Stands (with_call progress.old cpu.0 (Some call)) conf }
     requires sound { IsSound conf }

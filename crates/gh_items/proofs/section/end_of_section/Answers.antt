@@ -1,5 +1,5 @@
 -- The item of a call that was refused or is dying is its end.
-use Rattle.std.proofs.Common.{◌≡◌, ◌⊎◌, inl, inr, ap, subst, sym}
+use Rattle.std.proofs.Common.{◌≡◌, inl, inr, ap, subst, sym}
 use Rattle.gh_core.specs.Config.{Config}
 use Rattle.gh_core.specs.Items.{item, leave_ended}
 use Rattle.gh_core.specs.Running.{current_of, stage_of}

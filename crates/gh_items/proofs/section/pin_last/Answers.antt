@@ -1,8 +1,7 @@
 -- The item of a call that was granted an object is its pin.
-use Rattle.std.proofs.Common.{◌∙◌, Option, Some, None, ap, option_map, subst, sym}
+use Rattle.std.proofs.Common.{◌∙◌, ap, option_map, subst, sym}
 use Rattle.gh_core.specs.Config.{Config}
 use Rattle.gh_core.specs.Running.{current_of, seen_of, stage_of}
-use Rattle.gh_core.specs.declared.current.SeenLook.{SeenLook}
 use Rattle.gh_items.specs.Stands.{Stands}
 use Rattle.gh_items.specs.declared.progress.Progress.{Progress}
 use Rattle.gh_items.proofs.ItemLemmas.{last_seen, pins_next, pins_nothing}

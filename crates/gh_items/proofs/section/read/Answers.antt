@@ -1,7 +1,7 @@
 -- What the call does next is its item.
-use Rattle.std.proofs.Common.{◌≡◌, ◌<◌, ◌∙◌, ap, arith, length, map, subst, sym}
+use Rattle.std.proofs.Common.{◌∙◌, ap, arith, map, subst, sym}
 use Rattle.std.proofs.lemmas.List.{length-map}
-use Rattle.gh_core.specs.Config.{Config, Reading}
+use Rattle.gh_core.specs.Config.{Config}
 use Rattle.gh_core.specs.Running.{came_of, current_of, seen_of, stage_of}
 use Rattle.gh_core.proofs.FewPins.{few_needs}
 use Rattle.gh_items.specs.Stands.{Stands}

@@ -1,8 +1,7 @@
 -- The item of a call with a pin on a dead word is its undo.
-use Rattle.std.proofs.Common.{◌∙◌, Option, Some, None, ap, option_map, subst, sym}
+use Rattle.std.proofs.Common.{◌∙◌, ap, option_map, subst, sym}
 use Rattle.gh_core.specs.Config.{Config}
 use Rattle.gh_core.specs.Running.{current_of, seen_of, stage_of}
-use Rattle.gh_core.specs.declared.current.SeenLook.{SeenLook}
 use Rattle.gh_items.specs.Stands.{Stands}
 use Rattle.gh_items.specs.declared.progress.Progress.{Progress}
 use Rattle.gh_items.proofs.ItemLemmas.{last_seen, undoes_next, undoes_nothing}

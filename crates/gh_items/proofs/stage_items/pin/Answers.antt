@@ -1,12 +1,12 @@
 -- The pin is too late just where the object is retired.
-use Rattle.std.proofs.Common.{◌∙◌, Bool, Some, ap, subst, sym}
+use Rattle.std.proofs.Common.{◌∙◌, Some, ap, subst, sym}
 use Rattle.gh_base.specs.declared.ids.Serial.{Serial}
 use Rattle.gh_core.specs.CallEvents.{pinned}
 use Rattle.gh_core.specs.Config.{seen_index}
 use Rattle.gh_core.specs.Running.{seen_of}
 use Rattle.gh_core.specs.declared.current.CallStage.{CallStage}
 use Rattle.gh_core.specs.declared.current.CurrentCall.{CurrentCall}
-use Rattle.gh_items.specs.Stands.{Stands, at_stage, pin_stage, with_call}
+use Rattle.gh_items.specs.Stands.{Stands, at_stage, with_call}
 use Rattle.gh_items.specs.declared.progress.Progress.{Progress}
 use Rattle.gh_items.proofs.StageLemmas.{dead_is, pin_stands}
 use Rattle.gh_items.proofs.stage_items.pin.Goals as goal
