@@ -169,6 +169,34 @@ impl Space {
         Some(mapping.row)
     }
 
+    /// How many rows there are.
+    pub fn rows(&self) -> usize
+        ensures { result ≡ length self.now.mappings }
+    {
+        self.mappings.len()
+    }
+
+    /// Whether the row has a page of the space in common with one that is mapped.
+    pub fn overlaps(&self, row: MapRow) -> bool
+        ensures { result ≡ list_any (overlaps row) self.now.mappings }
+    {
+        overlaps_any(&self.mappings, row)
+    }
+
+    /// Whether a row of the map call is of these pages of the extent.
+    pub fn has(&self, extent: Serial, base: u64, offset: u64, count: u64) -> bool
+        ensures { result
+            ≡ list_any (is_chosen (Chosen.Pages extent base offset count)) self.now.mappings }
+    {
+        let chosen = Chosen::Pages {
+            extent,
+            base,
+            offset,
+            count,
+        };
+        has_chosen(&self.mappings, chosen)
+    }
+
     /// Follows a run of machine pages that moved from one extent to another. Its cost grows with
     /// the rows, and with the tables that the pages of each that meets the run take.
     pub fn moved(&mut self, from: Serial, to: Serial, first: PageNo, count: u16)

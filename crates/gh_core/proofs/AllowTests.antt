@@ -10,10 +10,10 @@ use Rattle.gh_model.specs.References.{is_doomed}
 use Rattle.gh_model.specs.Rows.{fills, object_row}
 use Rattle.gh_model.specs.declared.entry.Entry.{Entry}
 use Rattle.gh_model.specs.declared.entry.Entry.TheVariants.{Acted, Part, Retired, Reclaimed}
-use Rattle.gh_core.specs.Config.{Config, Current, Holder, has_acted, has_part, judged, present, some_killed}
-use Rattle.gh_core.specs.Entries.{Allows, IsActOf, IsPartOf, IsReclaim, IsRetirement, KindAllows, is_least, logged}
+use Rattle.gh_events.specs.Config.{Config, Current, Holder, has_acted, has_part, judged, present, some_killed}
+use Rattle.gh_events.specs.Entries.{Allows, IsActOf, IsPartOf, IsReclaim, IsRetirement, KindAllows, is_least, logged}
 use Rattle.gh_core.specs.EntryTests.{allows, are_scans, goes_on, is_its, is_next_slot, is_unread, kind_goes, part_goes, revokes_next}
-use Rattle.gh_core.specs.HolderEvents.{is_done}
+use Rattle.gh_events.specs.HolderEvents.{is_done}
 use Rattle.gh_core.specs.Running.{act_is_made, is_made}
 use Rattle.gh_core.specs.Tests.{is_at_act}
 use Rattle.gh_core.proofs.CallTests.{both, equal, is_equal, joined}

@@ -1,31 +1,29 @@
 -- The tables before any event: seats of CPUs before their first call, and the indices of the boot.
-use Rattle.std.proofs.Common.{◌≡◌, ◌≢◌, ◌==◌, ◌+◌, ◌-◌, ◌<◌, ◌≤◌, ◌∙◌, ◌⊎◌, ℕ, zero, suc, Bool, true, false, List, [], ◌∷◌, inl, inr, refl, ap, sym, subst, arith, length, map, replicate, None, is_some, count_by, slice_get, IsTrue}
+use Rattle.std.proofs.Common.{◌≡◌, ◌≢◌, ◌==◌, ◌<◌, ◌∙◌, ◌⊎◌, ℕ, zero, suc, Bool, true, false, List, [], ◌∷◌, inl, inr, refl, ap, sym, subst, arith, length, map, replicate, Option, None, Some, is_some, slice_get, IsTrue}
 use Rattle.std.specs.List.{list_all}
 use Rattle.std.specs.Option.{option_map_or}
 use Rattle.std.proofs.Math.Path.{fun_ext}
-use Rattle.std.proofs.lemmas.Bool.Decides.{eqb_tells, leb_tells, nat_tests}
+use Rattle.std.proofs.lemmas.Bool.Decides.{eqb_tells, nat_tests}
 use Rattle.gh_base.specs.declared.limits.TheConstants.{CPUS, OBJECT_INDICES}
 use Rattle.gh_invariant.specs.Lives.{lives}
-use Rattle.gh_invariant.specs.Valid.{ObjectsFit}
-use Rattle.gh_invariant.proofs.BootValid.{boot_valid}
-use Rattle.gh_invariant.proofs.Counting.{count_cons, one_false, one_true, unfound}
-use Rattle.gh_model.specs.QueueCalls.{one_if}
 use Rattle.gh_model.specs.Boot.{boot_fits, boot_state}
-use Rattle.gh_model.specs.Rows.{cpu_row, is_object}
+use Rattle.gh_model.specs.Rows.{cpu_row, object_row}
 use Rattle.gh_model.specs.declared.boot_line.BootLine.{BootLine}
 use Rattle.gh_model.specs.declared.rows.ObjectRow.{ObjectRow}
+use Rattle.gh_model.specs.declared.state.State.{State}
 use Rattle.gh_model.proofs.FittingLemmas.{boot_fitting, cpu_small}
-use Rattle.gh_model.proofs.Small.{boot_kept}
-use Rattle.gh_core.proofs.SoundEvents.{begins_there as begins}
-use Rattle.gh_core.specs.Config.{Config, Cpu}
-use Rattle.gh_core.specs.Running.{IsBooted, IsKept, all_made, cpu_of, cpus, event_of, has_index, index_in, no_number, placed, stands_for}
-use Rattle.gh_core.specs.Start.{AreIndices, new_cpu, start}
+use Rattle.gh_events.specs.Config.{Config, Cpu}
+use Rattle.gh_events.specs.Start.{AreIndices, new_cpu, start}
+use Rattle.gh_schedules.specs.Indices.{boot_index, row_index}
+use Rattle.gh_schedules.proofs.Ranks.{boot_indices}
+use Rattle.gh_core.specs.Booted.{booted, placed}
+use Rattle.gh_core.specs.Running.{IsKept, all_made, cpu_of, cpus, event_of, has_index, index_in, no_number, stands_for}
 use Rattle.gh_core.specs.Tables.{numbers, put_number}
 use Rattle.gh_core.specs.declared.config.Running.{Running}
 use Rattle.gh_core.specs.declared.cpu.Seat.{Seat}
 use Rattle.gh_core.specs.declared.log.Logged.{Logged}
 use Rattle.gh_core.specs.declared.table.Written.{Written}
-use Rattle.gh_core.proofs.CallTests.{is_below, joined}
+use Rattle.gh_core.proofs.CallTests.{is_below, is_equal, joined}
 use Rattle.gh_core.proofs.LookRoom.{mapped_length}
 
 -- seats
@@ -55,102 +53,54 @@ new_cpus seats new = fun_ext (λ n.
 
 -- indices
 
-count_rest : (row : ObjectRow) (rows : List ObjectRow) (serial : ℕ) → count_by (is_object serial) (row ∷ rows) ≡ 0
-    → (is_object serial row ≡ false) × (count_by (is_object serial) rows ≡ 0)
-count_rest row rows serial none = by (is_object serial row) refl
-  where
-    split : count_by (is_object serial) (row ∷ rows) ≡ one_if (is_object serial row) + count_by (is_object serial) rows
-    split = count_cons (is_object serial) row rows
-
-    by : (here : Bool) → is_object serial row ≡ here → (is_object serial row ≡ false) × (count_by (is_object serial) rows ≡ 0)
-    by true is = absurd (let one : one_if (is_object serial row) ≡ 1 = one_true (is_object serial row) is in let never : ⊥ = omega (arith, one, split, none) in never)
-    by false is = (is, (let nothing : one_if (is_object serial row) ≡ 0 = one_false (is_object serial row) is in omega (arith, nothing, split, none)))
-
-serial_small : (next : ℕ) (row : ObjectRow) → ((serial : ℕ) → next ≤ serial → is_object serial row ≡ false) → row.serial.0 < next
-serial_small next row none = elim (leb_tells next row.serial.0) as (λ _. row.serial.0 < next) [
-  | inl beyond ↦ absurd (let apart : is_object row.serial.0 row ≡ false = none row.serial.0 beyond.1 in let never : ⊥ = grind (arith, nat_tests) in never)
-  | inr less ↦ less.1
-]
-
--- the numbers before small serials are indices
-placed_small : (next : ℕ) (rows : List ObjectRow) → next ≤ OBJECT_INDICES + 1 → ((serial : ℕ) → next ≤ serial → count_by (is_object serial) rows ≡ 0)
-    → list_all has_index (map placed rows) ≡ true
-placed_small next [] few none = refl
-placed_small next (row ∷ rows) few none =
-    let small : row.serial.0 < next = serial_small next row (λ serial beyond. (count_rest row rows serial (none serial beyond)).0) in
-    joined (has_index (placed row)) (list_all has_index (map placed rows)) (is_below (row.serial.0 - 1) OBJECT_INDICES (omega (arith, small, few)))
-    (placed_small next rows few (λ serial beyond. (count_rest row rows serial (none serial beyond)).1))
-
--- a serial's number is the one before it, or no object has it
-read_placed : (rows : List ObjectRow) (values : ℕ → ℕ) (serial : ℕ)
-    → (numbers values (map placed rows) serial ≡ serial - 1) ⊎ ((lives rows serial ≡ false) × (numbers values (map placed rows) serial ≡ values serial))
-read_placed [] values serial = inr (refl, refl)
-read_placed (row ∷ rows) values serial =
-    elim (read_placed rows (put_number values (placed row)) serial) as (λ _. (numbers values (map placed (row ∷ rows)) serial ≡ serial - 1) ⊎ ((lives (row ∷ rows) serial ≡ false) × (numbers values (map placed (row ∷ rows)) serial ≡ values serial))) [
-      | inl found ↦ inl found
-      | inr others ↦ elim (eqb_tells serial row.serial.0) as (λ _. (numbers values (map placed (row ∷ rows)) serial ≡ serial - 1) ⊎ ((lives (row ∷ rows) serial ≡ false) × (numbers values (map placed (row ∷ rows)) serial ≡ values serial))) [
-        | inl same ↦ inl (others.1 ∙ rw same.0 (ap (λ (n : ℕ). n - 1) (sym same.1)))
-        | inr other ↦ inr (rw (turned serial row.serial.0 other.1) others.0, others.1 ∙ rw other.0 refl)
+module _ (s : State) where
+  -- a serial's number is its object's index at the boot, or no object has it
+  read_placed : (rows : List ObjectRow) (values : ℕ → ℕ) (serial : ℕ)
+      → (numbers values (map (placed s) rows) serial ≡ boot_index s serial) ⊎ ((lives rows serial ≡ false) × (numbers values (map (placed s) rows) serial ≡ values serial))
+  read_placed [] values serial = inr (refl, refl)
+  read_placed (row ∷ rows) values serial =
+      elim (read_placed rows (put_number values (placed s row)) serial) as (λ _. (numbers values (map (placed s) (row ∷ rows)) serial ≡ boot_index s serial) ⊎ ((lives (row ∷ rows) serial ≡ false) × (numbers values (map (placed s) (row ∷ rows)) serial ≡ values serial))) [
+        | inl found ↦ inl found
+        | inr others ↦ elim (eqb_tells serial row.serial.0) as (λ _. (numbers values (map (placed s) (row ∷ rows)) serial ≡ boot_index s serial) ⊎ ((lives (row ∷ rows) serial ≡ false) × (numbers values (map (placed s) (row ∷ rows)) serial ≡ values serial))) [
+          | inl same ↦ inl (others.1 ∙ rw same.0 (ap (boot_index s) (sym same.1)))
+          | inr other ↦ inr (rw (turned serial row.serial.0 other.1) others.0, others.1 ∙ rw other.0 refl)
+        ]
       ]
-    ]
-  where
-    turned : (a b : ℕ) → a ≢ b → (b == a) ≡ false
-    turned a b differ = grind (arith, nat_tests)
+    where
+      turned : (a b : ℕ) → a ≢ b → (b == a) ≡ false
+      turned a b differ = grind (arith, nat_tests)
 
-placed_read : (rows : List ObjectRow) (serial : ℕ) → lives rows serial ≡ true → index_in (map placed rows) [] serial ≡ serial - 1
-placed_read rows serial alive = elim (read_placed rows no_number serial) as (λ _. index_in (map placed rows) [] serial ≡ serial - 1) [
-  | inl found ↦ found
-  | inr none ↦ absurd (let none_lives : lives rows serial ≡ false = none.0 in let never : ⊥ = cc in never)
-]
+  unplaced : (found : Option ObjectRow) → is_some found ≡ false → option_map_or (row_index s) found 0 ≡ 0
+  unplaced None none = refl
+  unplaced (Some row) none = absurd (let never : ⊥ = cc in never)
 
--- the serial of an object that lives isn't 0, and was given
-lives_within : (next : ℕ) (rows : List ObjectRow) → ObjectsFit next rows → (serial : ℕ) → lives rows serial ≡ true → (0 < serial) × (serial < next)
-lives_within next rows fit serial alive = (above serial alive, below_next)
-  where
-    uncounted : (n : ℕ) → count_by (is_object n) rows ≡ 0 → lives rows n ≡ false
-    uncounted n none = ap is_some (unfound (is_object n) rows none)
+  -- the table has the index of each object of the boot, and 0 elsewhere
+  pub placed_read : index_in (map (placed s) s.objects) [] ≡ boot_index s
+  placed_read = fun_ext (λ serial. elim (read_placed s.objects no_number serial) as (λ _. index_in (map (placed s) s.objects) [] serial ≡ boot_index s serial) [
+    | inl found ↦ found
+    | inr none ↦ none.1 ∙ sym (unplaced (object_row s serial) none.0)
+  ])
 
-    above : (n : ℕ) → lives rows n ≡ true → 0 < n
-    above zero alive = absurd (let none_lives : lives rows 0 ≡ false = uncounted 0 fit.none in let never : ⊥ = cc in never)
-    above (suc n) alive = omega arith
+  lives_here : (row : ObjectRow) (rows : List ObjectRow) → lives (row ∷ rows) row.serial.0 ≡ true
+  lives_here row rows = rw (is_equal row.serial.0 row.serial.0 refl) refl
 
-    below_next : serial < next
-    below_next = elim (leb_tells next serial) as (λ _. serial < next) [
-      | inl beyond ↦ absurd (let none_lives : lives rows serial ≡ false = uncounted serial (fit.later serial beyond.1) in let never : ⊥ = cc in never)
-      | inr less ↦ less.1
-    ]
+  lives_behind : (row : ObjectRow) (rows : List ObjectRow) (serial : ℕ) → lives rows serial ≡ true → lives (row ∷ rows) serial ≡ true
+  lives_behind row rows serial alive = by (row.serial.0 == serial) refl
+    where
+      by : (here : Bool) → (row.serial.0 == serial) ≡ here → lives (row ∷ rows) serial ≡ true
+      by true is = rw is refl
+      by false is = rw is alive
 
--- serials of a boot file's objects are small
-next_small : (lines : List BootLine) → IsTrue (boot_fits lines) → (boot_state lines).next_serial ≤ OBJECT_INDICES + 1
-next_small lines fits =
-    let serials = (boot_kept (boot_state lines) lines refl fits).serials in
-    let none = begins lines in omega (arith, serials, none)
+  small_by : AreIndices s (boot_index s) → (rows : List ObjectRow) → ((serial : ℕ) → lives rows serial ≡ true → lives s.objects serial ≡ true)
+      → list_all has_index (map (placed s) rows) ≡ true
+  small_by are [] among = refl
+  small_by are (row ∷ rows) among = joined (has_index (placed s row)) (list_all has_index (map (placed s) rows))
+      (is_below (boot_index s row.serial.0) OBJECT_INDICES (are.within row.serial.0 (among row.serial.0 (lives_here row rows))))
+      (small_by are rows (λ serial alive. among serial (lives_behind row rows serial alive)))
 
-pub boot_small : (lines : List BootLine) → IsTrue (boot_fits lines) → list_all has_index (map placed (boot_state lines).objects) ≡ true
-boot_small lines fits = placed_small (boot_state lines).next_serial (boot_state lines).objects (next_small lines fits) (boot_valid lines fits).objects.later
-
--- the objects of the boot have indices, each its own
-pub boot_placed : (lines : List BootLine) → IsTrue (boot_fits lines) → AreIndices (boot_state lines) (index_in (map placed (boot_state lines).objects) [])
-boot_placed lines fits = record {
-  within = λ serial alive.
-      let there = placed_read rows serial alive in
-      let within = lives_within next rows fit serial alive in omega (arith, there, within.0, within.1, next_small lines fits);
-  unique = λ serial other alive others same.
-      let there = placed_read rows serial alive in
-      let others_there = placed_read rows other others in
-      let within = lives_within next rows fit serial alive in
-      let other_within = lives_within next rows fit other others in
-      omega (arith, there, others_there, within.0, other_within.0, same);
-}
-  where
-    rows : List ObjectRow
-    rows = (boot_state lines).objects
-
-    next : ℕ
-    next = (boot_state lines).next_serial
-
-    fit : ObjectsFit (boot_state lines).next_serial (boot_state lines).objects
-    fit = (boot_valid lines fits).objects
+-- what was given as indices are indices
+boot_small : (lines : List BootLine) → IsTrue (boot_fits lines) → list_all has_index (map (placed (boot_state lines)) (boot_state lines).objects) ≡ true
+boot_small lines fits = small_by (boot_state lines) (boot_indices lines fits) (boot_state lines).objects (λ serial alive. alive)
 
 -- a CPU of the boot is one of the nine
 pub boot_cpus : (lines : List BootLine) → IsTrue (boot_fits lines) → (at : ℕ) → is_some (cpu_row (boot_state lines) at) ≡ true → at < CPUS
@@ -160,7 +110,7 @@ boot_cpus lines fits at is = let small = cpu_small (boot_state lines) at (boot_f
 pub record IsNew (running : Running) (lines : List BootLine) : Type 0 where
   pub boot : running.boot ≡ lines
   pub log : running.log ≡ []
-  pub first : running.first ≡ map placed (boot_state lines).objects
+  pub first : running.first ≡ map (placed (boot_state lines)) (boot_state lines).objects
   pub given : running.given ≡ []
   pub caps : running.caps ≡ []
   pub counts : running.counts ≡ []
@@ -169,26 +119,25 @@ pub record IsNew (running : Running) (lines : List BootLine) : Type 0 where
   pub turn : running.turn ≡ None
   pub seats : map cpu_of running.seats ≡ replicate CPUS new_cpu
 
-pub new_booted : (running : Running) (lines : List BootLine) → IsTrue (boot_fits lines) → IsNew running lines → IsBooted lines (stands_for running)
-new_booted running lines fits new = record {
-  index = index_in (map placed (boot_state lines).objects) [];
-  indices = boot_placed lines fits;
-  is = (λ i. stands_for (record {
-    boot = new.boot i;
-    log = new.log i;
-    first = new.first i;
-    given = new.given i;
-    caps = new.caps i;
-    counts = new.counts i;
-    dead = new.dead i;
-    counters = new.counters i;
-    turn = new.turn i;
-    seats = running.seats;
-  })) ∙ ap with_cpus (new_cpus running.seats new.seats);
-}
+-- they stand for the configuration before any event
+pub new_begins : (running : Running) (lines : List BootLine) → IsNew running lines → stands_for running ≡ booted lines
+new_begins running lines new =
+    (λ i. stands_for (record {
+      boot = new.boot i;
+      log = new.log i;
+      first = new.first i;
+      given = new.given i;
+      caps = new.caps i;
+      counts = new.counts i;
+      dead = new.dead i;
+      counters = new.counters i;
+      turn = new.turn i;
+      seats = running.seats;
+    }))
+    ∙ (ap with_cpus (new_cpus running.seats new.seats) ∙ ap (start (boot_state lines)) (placed_read (boot_state lines)))
   where
     with_cpus : (ℕ → Cpu) → Config
-    with_cpus cs = record (start (boot_state lines) (index_in (map placed (boot_state lines).objects) [])) { cpu = cs }
+    with_cpus cs = record (start (boot_state lines) (index_in (map (placed (boot_state lines)) (boot_state lines).objects) [])) { cpu = cs }
 
 pub new_kept : (running : Running) (lines : List BootLine) → IsTrue (boot_fits lines) → IsNew running lines → IsKept running
 new_kept running lines fits new = record {

@@ -5,8 +5,8 @@ use Rattle.std.proofs.lemmas.Bool.Decides.{nat_tests}
 use Rattle.gh_base.specs.declared.cap_word.Need.{Need}
 use Rattle.gh_base.specs.declared.limits.TheConstants.{CPUS, OBJECT_INDICES}
 use Rattle.gh_model.specs.Marks.{Fails, Grants, Outcome, Seen, Wants}
-use Rattle.gh_core.specs.CallEvents.{IsLastAt, MayEnter, MayLeave, MayLook, MayMove, MayPin, MayUndo, MayUnpin, has_needs, leaves_from}
-use Rattle.gh_core.specs.Config.{AtAct, Config, Cpu, Current, DeadPin, Failed, Given, IsBetween, Looked, Reading, Stage, Undone, came_to, seen_index}
+use Rattle.gh_events.specs.CallEvents.{IsLastAt, MayEnter, MayLeave, MayLook, MayMove, MayPin, MayUndo, MayUnpin, has_needs, leaves_from}
+use Rattle.gh_events.specs.Config.{AtAct, Config, Cpu, Current, DeadPin, Failed, Given, IsBetween, Looked, Reading, Stage, Undone, came_to, seen_index}
 use Rattle.gh_core.specs.Tests.{asks, enters, is_between, is_dead_pin, is_looked, is_reading, is_seen_at, last_is_at, leaves, looks, may_leave, moves, next_looks, pins, undoes, unpins, wants}
 
 -- both parts of a test

@@ -6,13 +6,13 @@ use Rattle.gh_invariant.specs.Events.{changes_of}
 use Rattle.gh_model.specs.History as history
 use Rattle.gh_model.specs.declared.entry.Entry.{Entry}
 use Rattle.gh_model.specs.declared.state.State.{State}
-use Rattle.gh_core.specs.Config.{Config, Current, Holder, present}
-use Rattle.gh_core.specs.Entries.{Allows, Covers, logged, next_state, owed_after}
+use Rattle.gh_events.specs.Config.{Config, Current, Holder, present}
+use Rattle.gh_events.specs.Entries.{Allows, Covers, logged, next_state, owed_after}
 use Rattle.gh_core.specs.EntryTests.{allows, entry_goes, goes_in, kind_goes, may_commit, sets_slots}
 use Rattle.gh_core.specs.Owing.{CoversAll, next_is, owed_behind, owed_in, owing_covers, owing_of, with_event, with_owing}
 use Rattle.gh_core.specs.Running.{event_of, holder_of, is_made, no_number, stands_for}
 use Rattle.gh_core.specs.Tables.{numbers}
-use Rattle.gh_core.specs.TurnEvents.{MayCommit, committed, committed_by, with_entry}
+use Rattle.gh_events.specs.TurnEvents.{MayCommit, committed, committed_by, with_entry}
 use Rattle.gh_core.specs.declared.commit_events.Next.{Next}
 use Rattle.gh_core.specs.declared.config.Running.{Running}
 use Rattle.gh_core.specs.declared.holder.Turn.{Turn}

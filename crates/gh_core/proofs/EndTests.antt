@@ -1,10 +1,10 @@
 -- The test of a turn's end tells its condition, and what is made of the turn is its end.
 use Rattle.std.proofs.Common.{◌≡◌, ◌==◌, ◌&&◌, ◌∙◌, ℕ, Bool, true, false, refl, ap, sym, subst, Option, Some, None, not, is_some, nat_lt, option_map, if◌then◌else◌}
 use Rattle.gh_base.specs.declared.limits.TheConstants.{CPUS}
-use Rattle.gh_core.specs.Config.{AtAct, Config, Cpu, Current, Holder, some_killed}
+use Rattle.gh_events.specs.Config.{AtAct, Config, Cpu, Current, Holder, some_killed}
 use Rattle.gh_core.specs.Running.{end_of, ended_cpu, ending_in, ends, holder_of, owes_nothing, seat_end, stands_for, turn_ending, with_cpu, with_holder}
 use Rattle.gh_core.specs.Tests.{is_at_act}
-use Rattle.gh_core.specs.TurnEvents.{Ending, MayEnd, end_call, ended, ending, with_ending}
+use Rattle.gh_events.specs.TurnEvents.{Ending, MayEnd, end_call, ended, ending, with_ending}
 use Rattle.gh_core.specs.declared.config.Running.{Running}
 use Rattle.gh_core.specs.declared.holder.Turn.{Turn}
 use Rattle.gh_core.proofs.CallTests.{below, both, equal, is_below, is_equal, joined}

@@ -12,11 +12,11 @@ use Rattle.gh_model.specs.Decisions.{done}
 use Rattle.gh_model.specs.declared.change.Decision.{Decision}
 use Rattle.gh_model.specs.declared.change.Decision.TheVariants.{Refuse, Unfinished, Make}
 use Rattle.gh_model.specs.declared.state.State.{State}
-use Rattle.gh_core.specs.Config.{Current, Holder, judged}
-use Rattle.gh_core.specs.Entries.{AreScans}
+use Rattle.gh_events.specs.Config.{Current, Holder, judged}
+use Rattle.gh_events.specs.Entries.{AreScans}
 use Rattle.gh_core.specs.EntryTests.{are_scans, goes_on, has_left, have_left, is_unread, scans_are}
-use Rattle.gh_core.specs.HolderEvents.{is_done}
-use Rattle.gh_core.specs.TurnEvents.{is_scan}
+use Rattle.gh_events.specs.HolderEvents.{is_done}
+use Rattle.gh_events.specs.TurnEvents.{is_scan}
 use Rattle.gh_core.proofs.CallTests.{below, both, equal, is_below, is_equal, joined}
 
 -- verdicts

@@ -5,8 +5,8 @@ use Rattle.gh_base.specs.declared.limits.TheConstants.{CPUS, OBJECT_INDICES}
 use Rattle.gh_model.specs.References.{is_doomed}
 use Rattle.gh_model.specs.declared.rows.ObjectRow.{ObjectRow}
 use Rattle.gh_model.specs.declared.state.State.{State}
-use Rattle.gh_core.specs.Config.{AtAct, Config, Current, DeadPin, Failed, HasTurn, Holder, Looked, Reading, Stage, Undone, has_acted, has_part, judged, live_references, object_at, present, some_killed}
-use Rattle.gh_core.specs.HolderEvents.{MayKill, MayOwe, MayRevive, MayScan, MaySettle, is_create, is_done, least_owed}
+use Rattle.gh_events.specs.Config.{AtAct, Config, Current, DeadPin, Failed, HasTurn, Holder, Looked, Reading, Stage, Undone, has_acted, has_part, judged, live_references, object_at, present, some_killed}
+use Rattle.gh_events.specs.HolderEvents.{MayKill, MayOwe, MayRevive, MayScan, MaySettle, is_create, is_done, least_owed}
 use Rattle.gh_core.specs.Tests.{creates, holder_is, is_any, is_at_act, is_ending, kills, owes, owes_little, owes_more, owes_none_at, revived_none, revives, scans, settles}
 use Rattle.gh_core.proofs.CallTests.{below, both, empty_of, equal, is_below, is_equal, joined, none_of}
 

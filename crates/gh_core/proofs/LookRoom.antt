@@ -10,7 +10,7 @@ use Rattle.gh_model.specs.Marks.{Outcome, on_grant, outcome, word_of}
 use Rattle.gh_model.specs.Registers.{needs_of}
 use Rattle.gh_model.specs.Word.{look_reply}
 use Rattle.gh_model.specs.declared.word.Word.{Word}
-use Rattle.gh_core.specs.Config.{Config, Cpu, came_to}
+use Rattle.gh_events.specs.Config.{Config, Cpu, came_to}
 use Rattle.gh_core.specs.Running.{cpu_of, current_of, seen_of}
 use Rattle.gh_core.specs.Tests.{asks, is_reading, looks, wants}
 use Rattle.gh_core.specs.declared.cpu.Seat.{Seat}

@@ -6,7 +6,7 @@ use Rattle.std.proofs.lemmas.Bool.Decides.{eqb_tells, nat_tests}
 use Rattle.gh_model.specs.References.{references}
 use Rattle.gh_model.specs.declared.rows.ObjectRow.{ObjectRow}
 use Rattle.gh_model.specs.declared.state.State.{State}
-use Rattle.gh_core.specs.Config.{is_at, object_at, references_at}
+use Rattle.gh_events.specs.Config.{is_at, object_at, references_at}
 use Rattle.gh_core.specs.Owing.{owed_behind, owed_in, owing_row}
 use Rattle.gh_core.specs.Running.{no_number}
 use Rattle.gh_core.specs.Tables.{numbers, put_number}

@@ -9,13 +9,13 @@ use Rattle.gh_model.specs.History as history
 use Rattle.gh_model.specs.Word.{word_at}
 use Rattle.gh_model.specs.declared.entry.Entry.{Entry}
 use Rattle.gh_model.specs.declared.state.State.{State}
-use Rattle.gh_core.specs.Config.{Config, Current, Holder, present, put}
-use Rattle.gh_core.specs.Entries.{index_after, is_that_index, logged, makes_object, next_state, owed_after, shown, slot_set}
+use Rattle.gh_events.specs.Config.{Config, Current, Holder, present, put}
+use Rattle.gh_events.specs.Entries.{index_after, is_that_index, logged, makes_object, next_state, owed_after, shown, slot_set}
 use Rattle.gh_core.specs.EntryTests.{entry_goes}
 use Rattle.gh_core.specs.Owing.{CoversAll, later_indices, later_of, next_is, owed_in, owing_covers, owing_of, revived_for, setting_goes, slot_shows, with_event, with_owing, with_slot}
 use Rattle.gh_core.specs.Running.{event_of, has_index, holder_of, index_in, no_number, stands_for}
 use Rattle.gh_core.specs.Tables.{numbers, put_number}
-use Rattle.gh_core.specs.TurnEvents.{MaySetCap, committed_by, put_word, set_cap, with_entry}
+use Rattle.gh_events.specs.TurnEvents.{MaySetCap, committed_by, put_word, set_cap, with_entry}
 use Rattle.gh_core.specs.declared.commit_events.Next.{Next}
 use Rattle.gh_core.specs.declared.config.Running.{Running}
 use Rattle.gh_core.specs.declared.holder.Turn.{Turn}

@@ -6,9 +6,9 @@ use Rattle.std.specs.List.{list_all}
 use Rattle.std.specs.Option.{option_map_or, unwrap_or}
 use Rattle.gh_base.specs.declared.limits.TheConstants.{CPUS, OBJECT_INDICES}
 use Rattle.gh_base.specs.declared.cap_word.CapWord.{CapWord}
-use Rattle.gh_core.specs.Config.{Config, Cpu, put}
+use Rattle.gh_events.specs.Config.{Config, Cpu, put}
 use Rattle.gh_core.specs.Running.{cpu_of, cpus, has_index, index_in, no_number, stands_for, with_cpu}
-use Rattle.gh_core.specs.Start.{new_cpu}
+use Rattle.gh_events.specs.Start.{new_cpu}
 use Rattle.gh_core.proofs.CallTests.{below, both}
 use Rattle.gh_core.specs.Tables.{last_mark, last_number, last_word, later_mark, later_number, later_word, marks, numbers, options, put_mark, put_number, put_option, put_slot, words}
 use Rattle.gh_core.specs.declared.config.Running.{Running}

@@ -4,12 +4,12 @@ use Rattle.std.specs.List.{list_all}
 use Rattle.std.proofs.lemmas.Bool.Decides.{eqb_tells, nat_tests}
 use Rattle.gh_base.specs.declared.limits.TheConstants.{CPUS}
 use Rattle.gh_model.specs.Marks.{Fails, Grants, Outcome, Wants}
-use Rattle.gh_core.specs.Config.{Config, Current, Holder, OwesNothing, Pin, came_to, has_acted, has_part, pin_of, some_killed}
+use Rattle.gh_events.specs.Config.{Config, Current, Holder, OwesNothing, Pin, came_to, has_acted, has_part, pin_of, some_killed}
 use Rattle.gh_core.specs.Running.{pin_of as held_pin, seen_of}
 use Rattle.gh_core.specs.Running.{holder_of, is_paid, no_number, owes_nothing, quits, stands_for, turn_quits}
 use Rattle.gh_core.specs.Tables.{numbers, put_number}
 use Rattle.gh_core.specs.Tests.{is_before_act, is_granted, is_whole, same_pin, same_pins, takes}
-use Rattle.gh_core.specs.TurnEvents.{MayQuit, MayTake, ready}
+use Rattle.gh_events.specs.TurnEvents.{MayQuit, MayTake, ready}
 use Rattle.gh_core.specs.declared.config.Running.{Running}
 use Rattle.gh_core.specs.declared.cpu.HeldPin.{HeldPin}
 use Rattle.gh_core.specs.declared.current.SeenLook.{SeenLook}

@@ -12,11 +12,11 @@ use Rattle.gh_model.specs.Rows.{fills, object_row}
 use Rattle.gh_model.specs.declared.entry.Entry.{Entry}
 use Rattle.gh_model.specs.declared.entry.Entry.TheVariants.{Acted, Part, Retired, Reclaimed}
 use Rattle.gh_model.specs.declared.state.State.{State}
-use Rattle.gh_core.specs.Config.{Config, Current, Holder, has_acted, has_part, judged, live_references, present, references_at, some_killed}
-use Rattle.gh_core.specs.Entries.{is_least, logged}
+use Rattle.gh_events.specs.Config.{Config, Current, Holder, has_acted, has_part, judged, live_references, present, references_at, some_killed}
+use Rattle.gh_events.specs.Entries.{is_least, logged}
 use Rattle.gh_core.specs.Running.{is_made}
 use Rattle.gh_core.specs.Tests.{is_at_act}
-use Rattle.gh_core.specs.TurnEvents.{is_scan}
+use Rattle.gh_events.specs.TurnEvents.{is_scan}
 
 -- the entry is of the holder's call
 abbrev pub is_its : Holder → Current → ℕ → ℕ → Bool

@@ -5,14 +5,14 @@ use Rattle.gh_base.specs.CapWord.{object_of}
 use Rattle.gh_base.specs.declared.cap_word.CapWord.{CapWord}
 use Rattle.gh_invariant.specs.Events.{changes_of}
 use Rattle.gh_model.specs.Word.{word_at}
-use Rattle.gh_core.specs.TurnEvents.{put_word}
+use Rattle.gh_events.specs.TurnEvents.{put_word}
 use Rattle.gh_base.specs.declared.limits.TheConstants.{OBJECT_INDICES}
 use Rattle.gh_model.specs.declared.rows.ObjectRow.{ObjectRow}
 use Rattle.gh_model.specs.declared.state.State.{State}
 use Rattle.gh_model.specs.History as history
 use Rattle.gh_model.specs.declared.entry.Entry.{Entry}
-use Rattle.gh_core.specs.Config.{Config, Current, Holder, present, references_at}
-use Rattle.gh_core.specs.Entries.{is_that_index, logged, makes_object, next_state, shown, slot_set}
+use Rattle.gh_events.specs.Config.{Config, Current, Holder, present, references_at}
+use Rattle.gh_events.specs.Entries.{is_that_index, logged, makes_object, next_state, shown, slot_set}
 use Rattle.gh_core.specs.Running.{event_of, index_in, no_number, stands_for}
 use Rattle.gh_core.specs.Tables.{numbers}
 use Rattle.gh_core.specs.declared.commit_events.Next.{Next}

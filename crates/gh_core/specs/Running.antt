@@ -18,13 +18,13 @@ use Rattle.gh_model.specs.declared.entry.Entry.{Entry}
 use Rattle.gh_model.specs.declared.entry.Entry.TheVariants.{Acted, Part, Retired, Reclaimed}
 use Rattle.gh_model.specs.declared.rows.ObjectRow.{ObjectRow}
 use Rattle.gh_model.specs.declared.state.State.{State}
-use Rattle.gh_core.specs.Config as machine
-use Rattle.gh_core.specs.HolderEvents.{is_done, with_failed, with_turn, without_scans}
-use Rattle.gh_core.specs.Start.{AreIndices, boot_cap, boot_dead, new_cpu, start}
-use Rattle.gh_core.specs.CallEvents.{begun, end_of_looks, finished, found, reply_of_looks, with_call, with_end, with_look, without_pin}
-use Rattle.gh_core.specs.Config.{put, references_at}
+use Rattle.gh_events.specs.Config as machine
+use Rattle.gh_events.specs.HolderEvents.{is_done, with_failed, with_turn, without_scans}
+use Rattle.gh_events.specs.Start.{AreIndices, boot_cap, boot_dead, new_cpu, start}
+use Rattle.gh_events.specs.CallEvents.{begun, end_of_looks, finished, found, reply_of_looks, with_call, with_end, with_look, without_pin}
+use Rattle.gh_events.specs.Config.{put, references_at}
 use Rattle.gh_core.specs.Tests.{is_at_act, is_before_act}
-use Rattle.gh_core.specs.TurnEvents.{Ending, as_list, cause_of, causes, ending, has_causes, ready}
+use Rattle.gh_events.specs.TurnEvents.{Ending, as_list, cause_of, causes, ending, has_causes, ready}
 use Rattle.gh_core.specs.Tables.{marks, numbers, options, words}
 use Rattle.gh_core.specs.declared.config.Running.{Running}
 use Rattle.gh_core.specs.declared.ending.Ended.{Ended}

@@ -1,8 +1,8 @@
 -- Tables as what was written, oldest first: how the running machine keeps what is indexed.
 use Rattle.std.specs.Prelude.{◌==◌, ◌&&◌, ℕ, Bool, List, Option, Some, None, fold, if◌then◌else◌}
 use Rattle.gh_base.specs.declared.cap_word.CapWord.{CapWord}
-use Rattle.gh_core.specs.Config.{put}
-use Rattle.gh_core.specs.TurnEvents.{put_word}
+use Rattle.gh_events.specs.Config.{put}
+use Rattle.gh_events.specs.TurnEvents.{put_word}
 use Rattle.gh_core.specs.declared.table.Marked.{Marked}
 use Rattle.gh_core.specs.declared.table.SlotWritten.{SlotWritten}
 use Rattle.gh_core.specs.declared.table.Written.{Written}

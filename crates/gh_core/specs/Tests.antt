@@ -6,10 +6,10 @@ use Rattle.gh_model.specs.Marks.{Fails, Grants, Outcome, Seen, Wants}
 use Rattle.gh_model.specs.References.{is_doomed}
 use Rattle.gh_model.specs.declared.rows.ObjectRow.{ObjectRow}
 use Rattle.gh_model.specs.declared.state.State.{State}
-use Rattle.gh_core.specs.CallEvents.{has_needs, leaves_from}
-use Rattle.gh_core.specs.Config.{AtAct, Config, Cpu, Current, DeadPin, Failed, Given, Holder, Looked, Pin, Reading, Stage, Undone, came_to, has_acted, has_part, is_pin_at, judged, live_references, object_at, pin_of, present, seen_index, some_killed}
-use Rattle.gh_core.specs.HolderEvents.{is_create, is_done, least_owed}
-use Rattle.gh_core.specs.TurnEvents.{ready}
+use Rattle.gh_events.specs.CallEvents.{has_needs, leaves_from}
+use Rattle.gh_events.specs.Config.{AtAct, Config, Cpu, Current, DeadPin, Failed, Given, Holder, Looked, Pin, Reading, Stage, Undone, came_to, has_acted, has_part, is_pin_at, judged, live_references, object_at, pin_of, present, seen_index, some_killed}
+use Rattle.gh_events.specs.HolderEvents.{is_create, is_done, least_owed}
+use Rattle.gh_events.specs.TurnEvents.{ready}
 
 -- stages
 

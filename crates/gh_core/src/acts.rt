@@ -1,8 +1,8 @@
 //! What the act of a call in progress comes to.
 
 ghost use Rattle.std.specs.Prelude.{◌≡◌, ◌≤◌, length, map, IfOk};
-ghost use Rattle.gh_core.specs.Config.{judged};
-ghost use Rattle.gh_core.specs.HolderEvents.{is_done};
+ghost use Rattle.gh_events.specs.Config.{judged};
+ghost use Rattle.gh_events.specs.HolderEvents.{is_done};
 ghost use Rattle.gh_core.specs.Running.{current_of, seen_of};
 ghost use Rattle.gh_model.specs.Act.{Judges};
 ghost use Rattle.gh_model.specs.Marks.{word_of};

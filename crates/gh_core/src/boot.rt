@@ -1,34 +1,85 @@
 //! The tables before any event.
 
-ghost use Rattle.std.specs.Prelude.{◌≡◌, map, replicate, IfOk};
+ghost use Rattle.std.specs.Prelude.{◌≡◌, ◌<◌, ◌^◌, count_by, map, replicate, IfOk};
 ghost use Rattle.gh_base.specs.declared.limits.TheConstants.{CPUS};
-ghost use Rattle.gh_core.specs.Running.{cpu_of, placed as placed_of};
-ghost use Rattle.gh_core.specs.Start.{new_cpu};
+ghost use Rattle.gh_core.specs.Booted.{placed as placed_of};
+ghost use Rattle.gh_core.specs.Running.{cpu_of};
+ghost use Rattle.gh_events.specs.Start.{new_cpu};
+ghost use Rattle.gh_schedules.specs.Indices.{boot_index as boot_index_of};
+ghost use Rattle.gh_schedules.specs.Indices.{boot_place as boot_place_of, is_earlier_in};
+ghost use Rattle.gh_schedules.specs.Indices.{is_partition_kind as is_partition_kind_of};
+ghost use Rattle.gh_schedules.specs.Indices.{row_index as row_index_of};
 
 use crate::cpu::Seat;
+use crate::reads::narrow;
 use crate::table::Written;
-use gh_base::{CPUS, NoMemory, Sequence};
-use gh_model::ObjectRow;
+use gh_base::{CPUS, Kind, NoMemory, PARTITION_PLACES, Sequence, Serial};
+use gh_model::{ObjectRow, State, object_row};
 use std::alloc::Global;
 
-/// The index of an object of the boot: the number before its serial.
-fn placed(row: &ObjectRow) -> Written
-    ensures { result ≡ placed_of row.now }
+fn is_partition_kind(kind: Kind) -> bool
+    ensures { result ≡ is_partition_kind_of kind }
 {
-    let at = row.serial.0 as u64;
-    Written {
-        at,
-        value: at.saturating_sub(1),
+    matches!(kind, Kind::Partition)
+}
+
+/// The place of a partition of the boot: the number of those before it.
+fn boot_place(boot: &State, partition: Serial) -> usize
+    ensures { result ≡ boot_place_of boot.now partition.0 }
+{
+    boot.objects
+        .as_slice()
+        .iter()
+        .filter(|row| row.serial.0 < partition.0 && is_partition_kind(row.kind))
+        .count()
+}
+
+/// The objects of a partition before one of them.
+fn earlier_in(boot: &State, partition: Serial, serial: Serial) -> usize
+    ensures { result ≡ count_by (is_earlier_in partition.0 serial.0) boot.now.objects }
+{
+    boot.objects
+        .as_slice()
+        .iter()
+        .filter(|row| row.serial.0 < serial.0 && row.partition == partition)
+        .count()
+}
+
+fn row_index(boot: &State, row: &ObjectRow) -> u128
+    ensures { result ≡ row_index_of boot.now row.now }
+{
+    let place = boot_place(boot, row.partition) as u128;
+    let before = earlier_in(boot, row.partition, row.serial) as u128;
+    place * (PARTITION_PLACES as u128) + before
+}
+
+/// The index of an object of the boot: in the block of its partition's place.
+fn boot_index(boot: &State, serial: Serial) -> u128
+    ensures { result ≡ boot_index_of boot.now serial.0 }
+{
+    match object_row(boot.objects.as_slice(), serial) {
+        None => 0,
+        Some(row) => row_index(boot, &row),
     }
 }
 
-/// The indices of the boot's objects.
-pub(crate) fn boot_indices(alloc: Global, rows: &[ObjectRow]) -> Result<Sequence<Written>, NoMemory>
-    ensures { IfOk result (λ indices. indices ≡ map placed_of rows.now) }
+/// An object of the boot with its index.
+fn placed(boot: &State, row: &ObjectRow) -> Result<Written, NoMemory>
+    ensures { IfOk result (λ written. written ≡ placed_of boot.now row.now) }
 {
+    let at = row.serial.0 as u64;
+    let value = narrow(boot_index(boot, row.serial))?;
+    Ok(Written { at, value })
+}
+
+/// The indices of the boot's objects.
+pub(crate) fn boot_indices(alloc: Global, boot: &State) -> Result<Sequence<Written>, NoMemory>
+    ensures { IfOk result (λ indices. indices ≡ map (placed_of boot.now) boot.now.objects) }
+{
+    let rows = boot.objects.as_slice();
     let mut indices = Sequence::with_room(alloc, rows.len())?;
     for row in rows {
-        indices.push(placed(row))?;
+        indices.push(placed(boot, row)?)?;
     }
     Ok(indices)
 }

@@ -2,9 +2,9 @@
 
 ghost use Rattle.std.specs.Prelude.{◌≡◌, ◌<◌, find, is_some, map, IfOk, IfSome};
 ghost use Rattle.gh_base.specs.declared.limits.TheConstants.{CPUS};
-ghost use Rattle.gh_core.specs.Config.{judged, present as present_of};
-ghost use Rattle.gh_core.specs.Entries.{is_before as is_before_of, is_least as is_least_of};
-ghost use Rattle.gh_core.specs.Entries.{is_plain_of as is_plain_of_object, logged as logged_of};
+ghost use Rattle.gh_events.specs.Config.{judged, present as present_of};
+ghost use Rattle.gh_events.specs.Entries.{is_before as is_before_of, is_least as is_least_of};
+ghost use Rattle.gh_events.specs.Entries.{is_plain_of as is_plain_of_object, logged as logged_of};
 ghost use Rattle.gh_core.specs.EntryTests.{are_scans as are_scans_of, goes_on as goes_on_of};
 ghost use Rattle.gh_core.specs.EntryTests.{has_left as has_left_of, have_left as have_left_of};
 ghost use Rattle.gh_core.specs.EntryTests.{is_its as is_its_of, is_next_slot as is_next_slot_of};

@@ -2,7 +2,7 @@
 
 ghost use Rattle.std.specs.Prelude.{◌≡◌, ◌<◌, false, None, Some, is_some, option_map, true, IfOk, IfSome, OnOk};
 ghost use Rattle.gh_base.specs.declared.limits.TheConstants.{CPUS};
-ghost use Rattle.gh_core.specs.Config.{present as present_of};
+ghost use Rattle.gh_events.specs.Config.{present as present_of};
 ghost use Rattle.gh_core.specs.EntryTests.{entry_goes, goes_in};
 ghost use Rattle.gh_core.specs.EntryTests.{event_goes, kind_goes as kind_goes_of};
 ghost use Rattle.gh_core.specs.EntryTests.{may_commit as may_commit_of};
@@ -11,7 +11,7 @@ ghost use Rattle.gh_core.specs.Owing.{next_is, owing_covers, owing_of, with_even
 ghost use Rattle.gh_core.specs.Running.{IsKept, boot_of, current_of, event_of, holder_of};
 ghost use Rattle.gh_core.specs.Running.{index_in, is_made, no_number, stands_for};
 ghost use Rattle.gh_core.specs.Tables.{numbers};
-ghost use Rattle.gh_core.specs.TurnEvents.{MayCommit, committed};
+ghost use Rattle.gh_events.specs.TurnEvents.{MayCommit, committed};
 ghost use Rattle.gh_model.specs.History.{after_event};
 
 use crate::call_events::{is_at_act, is_cpu};

@@ -2,8 +2,9 @@
 
 ghost use Rattle.std.specs.Prelude.{◌≡◌, ◌<◌, option_map, IfOk, OnErr, OnOk};
 ghost use Rattle.gh_base.specs.declared.limits.TheConstants.{CPUS};
-ghost use Rattle.gh_core.specs.Start.{MayGive, given};
-ghost use Rattle.gh_core.specs.Running.{IsBooted, IsKept, cpu_of, holder_of, stands_for, with_count};
+ghost use Rattle.gh_events.specs.Start.{MayGive, given};
+ghost use Rattle.gh_core.specs.Booted.{booted};
+ghost use Rattle.gh_core.specs.Running.{IsKept, cpu_of, holder_of, stands_for, with_count};
 ghost use Rattle.gh_core.specs.Running.{with_counter, with_cpu, with_holder, with_mark};
 
 use crate::boot::{boot_indices, new_seats};
@@ -159,13 +160,13 @@ impl Model for Config {
 }
 
 impl Config {
-    /// The configuration before any event.
+    /// The configuration before any event. Each partition's objects have the indices of a block.
     pub fn boot(alloc: Global, boot: &Boot) -> Result<Config, NoMemory>
-        ensures { IfOk result (λ config. IsBooted boot.now (stands_for config)) }
+        ensures { IfOk result (λ config. stands_for config ≡ booted boot.now) }
     {
         let _lines = boot.lines();
         let plain = Plain::boot(alloc, boot)?;
-        let first = boot_indices(alloc, plain.state().objects.as_slice())?;
+        let first = boot_indices(alloc, plain.state())?;
         let seats = new_seats(alloc)?;
         let boot = copy_of_boot(alloc, boot)?;
         let running = Running {
@@ -181,6 +182,22 @@ impl Config {
             seats,
         };
         Ok(Config { running })
+    }
+
+    /// The tables.
+    pub(crate) fn running(&self) -> &Running
+        ensures same { result.now ≡ self.now }
+        ensures kept { IsKept result.now }
+    {
+        &self.running
+    }
+
+    /// The configuration of these tables.
+    pub(crate) fn of(running: Running) -> Config
+        requires { IsKept running }
+        ensures { result ≡ running }
+    {
+        Config { running }
     }
 
     /// The CPU's next call is this one; where its frame is refused, the call is finished at once.

@@ -2,7 +2,7 @@
 
 ghost use Rattle.std.specs.Prelude.{◌≡◌, IfOk};
 ghost use Rattle.gh_core.specs.Running.{cpu_of};
-ghost use Rattle.gh_core.specs.Start.{new_cpu};
+ghost use Rattle.gh_events.specs.Start.{new_cpu};
 
 use crate::current::{CurrentCall, GivenCall, MadeCall};
 use gh_base::{NoMemory, Sequence, Serial};

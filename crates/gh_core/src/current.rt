@@ -2,7 +2,7 @@
 
 ghost use Rattle.std.specs.Prelude.{◌≡◌, ◌≤◌, length, map, IfOk};
 ghost use Rattle.gh_core.specs.Running.{came_of, current_of, seen_of};
-ghost use Rattle.gh_core.specs.Config.{came_to};
+ghost use Rattle.gh_events.specs.Config.{came_to};
 ghost use Rattle.gh_model.specs.Marks.{outcome, word_of};
 
 use gh_base::{

@@ -2,7 +2,7 @@
 
 ghost use Rattle.std.specs.Prelude.{◌≡◌, Ok, Err, IfOk};
 ghost use Rattle.gh_core.specs.Running.{cpu_of, made_of};
-ghost use Rattle.gh_core.specs.Start.{refused_frame as refused_frame_of, with_next};
+ghost use Rattle.gh_events.specs.Start.{refused_frame as refused_frame_of, with_next};
 ghost use Rattle.gh_model.specs.Registers.{call_of};
 
 use crate::cpu::Seat;

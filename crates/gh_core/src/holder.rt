@@ -2,7 +2,7 @@
 
 ghost use Rattle.std.specs.Prelude.{◌≡◌, IfOk};
 ghost use Rattle.gh_core.specs.Running.{holder_of};
-ghost use Rattle.gh_core.specs.TurnEvents.{new_holder};
+ghost use Rattle.gh_events.specs.TurnEvents.{new_holder};
 
 use crate::table::Written;
 use gh_base::{CpuNo, NoMemory, Sequence};

@@ -1,15 +1,15 @@
 //! The events of the turn's holder on reference words and counters.
 
 ghost use Rattle.std.specs.Prelude.{◌≡◌, ◌<◌, ◌^◌, true, option_map, IfOk, OnOk};
-ghost use Rattle.gh_core.specs.Config.{has_acted as has_acted_of, has_part as has_part_of};
-ghost use Rattle.gh_core.specs.Config.{is_acted as is_acted_of, is_killed as is_killed_of};
-ghost use Rattle.gh_core.specs.Config.{live_references as live_references_of};
-ghost use Rattle.gh_core.specs.Config.{present as present_of, some_killed as some_killed_of};
-ghost use Rattle.gh_core.specs.HolderEvents.{killed, least_owed as least_owed_of};
-ghost use Rattle.gh_core.specs.HolderEvents.{one_less as one_less_of, one_more as one_more_of};
-ghost use Rattle.gh_core.specs.HolderEvents.{is_create as is_create_of, revived};
-ghost use Rattle.gh_core.specs.HolderEvents.{owed, scanned, settled, with_failed, with_revived};
-ghost use Rattle.gh_core.specs.HolderEvents.{with_owed, with_scan, without_scans};
+ghost use Rattle.gh_events.specs.Config.{has_acted as has_acted_of, has_part as has_part_of};
+ghost use Rattle.gh_events.specs.Config.{is_acted as is_acted_of, is_killed as is_killed_of};
+ghost use Rattle.gh_events.specs.Config.{live_references as live_references_of};
+ghost use Rattle.gh_events.specs.Config.{present as present_of, some_killed as some_killed_of};
+ghost use Rattle.gh_events.specs.HolderEvents.{killed, least_owed as least_owed_of};
+ghost use Rattle.gh_events.specs.HolderEvents.{one_less as one_less_of, one_more as one_more_of};
+ghost use Rattle.gh_events.specs.HolderEvents.{is_create as is_create_of, revived};
+ghost use Rattle.gh_events.specs.HolderEvents.{owed, scanned, settled, with_failed, with_revived};
+ghost use Rattle.gh_events.specs.HolderEvents.{with_owed, with_scan, without_scans};
 ghost use Rattle.gh_core.specs.Running.{IsKept, boot_of, holder_of, killed_with, stands_for};
 ghost use Rattle.gh_model.specs.Legal.{is_part as is_part_of};
 ghost use Rattle.gh_core.specs.Running.{current_of};

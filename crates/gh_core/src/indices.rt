@@ -1,9 +1,9 @@
 //! Indices of objects, and what lives at an index.
 
 ghost use Rattle.std.specs.Prelude.{◌≡◌, ◌<◌, ◌^◌, count_by};
-ghost use Rattle.gh_core.specs.Config.{object_at, references_at};
+ghost use Rattle.gh_events.specs.Config.{object_at, references_at};
 ghost use Rattle.gh_core.specs.Running.{index_in};
-ghost use Rattle.gh_core.specs.Start.{serial_at};
+ghost use Rattle.gh_events.specs.Start.{serial_at};
 ghost use Rattle.gh_model.specs.References.{is_attached_to, is_boot_partition, is_capability_of};
 ghost use Rattle.gh_model.specs.References.{is_child_of, is_inhabitant_of, is_link_of};
 ghost use Rattle.gh_model.specs.References.{is_mapping_of, is_root_extent, is_share as is_share_kind};

@@ -1,7 +1,7 @@
 //! The places that a CPU has come to.
 
 ghost use Rattle.std.specs.Prelude.{◌≡◌, map};
-ghost use Rattle.gh_core.specs.Config.{last_place as last_place_of};
+ghost use Rattle.gh_events.specs.Config.{last_place as last_place_of};
 ghost use Rattle.gh_core.specs.Running.{cpu_of, made_of, seen_of};
 ghost use Rattle.gh_model.specs.Marks.{place as place_of_end, place_after as place_after_of};
 ghost use Rattle.gh_model.specs.Marks.{place_after_call as place_after_call_of};

@@ -3,10 +3,10 @@
 ghost use Rattle.std.specs.Prelude.{◌≡◌, ◌+◌, ◌<◌, [], true, IfOk};
 ghost use Rattle.std.specs.List.{list_all};
 ghost use Rattle.gh_base.specs.declared.limits.TheConstants.{OBJECT_INDICES};
-ghost use Rattle.gh_core.specs.Config.{present};
-ghost use Rattle.gh_core.specs.Entries.{shown};
+ghost use Rattle.gh_events.specs.Config.{present};
+ghost use Rattle.gh_events.specs.Entries.{shown};
 ghost use Rattle.gh_core.specs.Running.{IsKept, boot_of, has_index, index_in, stands_for};
-ghost use Rattle.gh_core.specs.Start.{boot_cap};
+ghost use Rattle.gh_events.specs.Start.{boot_cap};
 ghost use Rattle.gh_model.specs.Marks.{cspace_of};
 
 use crate::config::Running;

@@ -3,16 +3,16 @@
 ghost use Rattle.std.specs.Prelude.{◌≡◌, ◌<◌, false, is_some, None, option_map, true};
 ghost use Rattle.std.specs.Prelude.{IfOk, IfSome, OnOk};
 ghost use Rattle.std.specs.List.{list_all, list_any};
-ghost use Rattle.gh_core.specs.Config.{present as present_of};
-ghost use Rattle.gh_core.specs.Entries.{is_that_index, makes_object as makes_object_of};
-ghost use Rattle.gh_core.specs.Entries.{slot_set as slot_set_of};
+ghost use Rattle.gh_events.specs.Config.{present as present_of};
+ghost use Rattle.gh_events.specs.Entries.{is_that_index, makes_object as makes_object_of};
+ghost use Rattle.gh_events.specs.Entries.{slot_set as slot_set_of};
 ghost use Rattle.gh_core.specs.Owing.{later_indices as later_indices_of, owing_covers, owing_of};
 ghost use Rattle.gh_core.specs.Owing.{revived_for as revived_for_of, setting_goes as setting_goes_of};
 ghost use Rattle.gh_core.specs.Owing.{later_of, slot_shows as slot_shows_of, with_event, with_slot};
 ghost use Rattle.gh_core.specs.Running.{IsKept, boot_of, event_of, has_index, holder_of, index_in};
 ghost use Rattle.gh_core.specs.Running.{is_made, no_number, slot_of, stands_for};
 ghost use Rattle.gh_core.specs.Tables.{numbers};
-ghost use Rattle.gh_core.specs.TurnEvents.{MaySetCap, set_cap as set_cap_of};
+ghost use Rattle.gh_events.specs.TurnEvents.{MaySetCap, set_cap as set_cap_of};
 ghost use Rattle.gh_invariant.specs.Events.{changes_of};
 
 use crate::call_events::{is_cpu, is_index};

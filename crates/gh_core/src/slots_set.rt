@@ -4,7 +4,7 @@ ghost use Rattle.std.specs.Prelude.{◌≡◌, ◌&&◌, ◌∷◌, [], if◌the
 ghost use Rattle.gh_core.specs.Running.{event_of, slot_of};
 ghost use Rattle.gh_invariant.specs.Effects.{sets as sets_of, sets_some as sets_some_of};
 ghost use Rattle.gh_invariant.specs.Effects.{slots_set as slots_set_of};
-ghost use Rattle.gh_core.specs.Entries.{slot_set as slot_set_of};
+ghost use Rattle.gh_events.specs.Entries.{slot_set as slot_set_of};
 ghost use Rattle.gh_invariant.specs.Events.{changes_of, judged_by, made_by as made_by_of};
 ghost use Rattle.gh_model.specs.Decide.{has_moved as has_moved_of, same_row as same_row_of};
 ghost use Rattle.gh_model.specs.Decide.{same_rows as same_rows_of, same_word as same_word_of};

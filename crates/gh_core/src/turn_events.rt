@@ -1,17 +1,17 @@
 //! How the turn is taken and given back.
 
 ghost use Rattle.std.specs.Prelude.{◌≡◌, true, map, option_map, IfOk, OnOk};
-ghost use Rattle.gh_core.specs.Config.{pin_of as pin_of_look};
-ghost use Rattle.gh_core.specs.Config.{present as present_of};
+ghost use Rattle.gh_events.specs.Config.{pin_of as pin_of_look};
+ghost use Rattle.gh_events.specs.Config.{present as present_of};
 ghost use Rattle.gh_core.specs.Running.{IsKept, boot_of, came_of, cpu_of, current_of, given_of};
 ghost use Rattle.gh_core.specs.Running.{holder_of, is_paid as is_paid_of, owes_nothing as owes_nothing_of, pin_of};
 ghost use Rattle.gh_core.specs.Running.{quits, seen_of, stage_of, stands_for, taken_cpu};
 ghost use Rattle.gh_core.specs.Running.{turn_quits as turn_quits_of};
 ghost use Rattle.gh_core.specs.Tests.{is_granted as is_granted_of, is_whole as is_whole_of};
 ghost use Rattle.gh_core.specs.Tests.{same_pin as same_pin_of, same_pins as same_pins_of, takes};
-ghost use Rattle.gh_core.specs.TurnEvents.{if_at_act as if_at_act_of};
-ghost use Rattle.gh_core.specs.TurnEvents.{if_lookless as if_lookless_of};
-ghost use Rattle.gh_core.specs.TurnEvents.{quit as quit_of, ready as ready_of, taken};
+ghost use Rattle.gh_events.specs.TurnEvents.{if_at_act as if_at_act_of};
+ghost use Rattle.gh_events.specs.TurnEvents.{if_lookless as if_lookless_of};
+ghost use Rattle.gh_events.specs.TurnEvents.{quit as quit_of, ready as ready_of, taken};
 
 use crate::call_events::{begun, granted, has_needs, is_cpu, seen_index};
 use crate::config::Running;

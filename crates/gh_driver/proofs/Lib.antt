@@ -1,4 +1,7 @@
-pub mod BootLemmas
+pub mod CourseLemmas
 pub mod FileRunLaw
-pub mod RunLemmas
+pub mod FollowLemmas
+pub mod MarkLemmas
+pub mod RoundLemmas
+pub mod StartLemmas
 pub mod TextLemmas

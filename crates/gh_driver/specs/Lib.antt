@@ -1,3 +1,3 @@
 pub mod FileRun
+pub mod Follows
 pub mod Mapped
-pub mod Pace

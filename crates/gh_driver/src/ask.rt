@@ -1,14 +1,12 @@
 //! What a program is asked for.
 
-ghost use Rattle.std.specs.Prelude.{◌≡◌, ◌≢◌, is_some, false, true, IfOk, OnOk, Some};
-ghost use Rattle.gh_driver.specs.Pace.{IsReady};
+ghost use Rattle.std.specs.Prelude.{◌≡◌, is_some, true, IfOk, OnOk};
+ghost use Rattle.gh_driver.specs.Follows.{IsReady};
 ghost use Rattle.gh_model.specs.Programs.{asked, next_step, next_state, step_frame, told};
-ghost use Rattle.gh_base.specs.declared.frame.Reply.{Reply};
-ghost use Rattle.std.specs.Prelude.{None};
 
 use gh_base::{CALL_NUMBERS, Frame, NoMemory, Reply};
 use gh_callfile::exit_frame;
-use gh_model::{Program, Standing, Step};
+use gh_model::{Program, Step};
 use std::alloc::Global;
 
 /// The frame of a step.
@@ -40,23 +38,24 @@ fn step_of<P: Program>(
     }
 }
 
-/// The frame of the call with this number, by the reply to the one before.
+/// The frame of the program's call with this number, by the reply to the one before.
 pub(crate) fn ask<P: Program>(
     alloc: Global,
     number: u32,
-    standing: &mut Standing<P>,
+    program: &mut P,
     last: Option<&Reply>,
-) -> Result<(), NoMemory>
-    requires { is_some last ≡ P.wants_reply standing.old.program }
-    ensures standing { OnOk result
-        (standing.new ≡ asked P.answer P.after number standing.old.program (told last.entry)) }
-    ensures ready { OnOk result (IsReady P.wants_reply standing.new) }
+) -> Result<Frame, NoMemory>
+    requires { is_some last ≡ P.wants_reply program.old }
+    ensures frame { IfOk result (λ frame. frame
+        ≡ (asked P.answer P.after number program.old (told last.entry)).frame) }
+    ensures program { OnOk result (program.new
+        ≡ (asked P.answer P.after number program.old (told last.entry)).program) }
+    ensures ready { OnOk result (IsReady P.wants_reply
+        (asked P.answer P.after number program.old (told last.entry))) }
 {
     if number == CALL_NUMBERS {
-        standing.frame = exit_frame(alloc);
-        return Ok(());
+        return Ok(exit_frame(alloc));
     }
-    let step = step_of(alloc, &mut standing.program, last)?;
-    standing.frame = frame_of(alloc, step);
-    Ok(())
+    let step = step_of(alloc, program, last)?;
+    Ok(frame_of(alloc, step))
 }

@@ -1,128 +1,99 @@
 //! One whole call of a CPU.
 
-ghost use Rattle.std.specs.Prelude.{◌≡◌, ◌<◌, Ok, None, IfOk, OnOk};
-ghost use Rattle.gh_model.specs.Calls.{call_mark, by_shape, by_looks};
-ghost use Rattle.gh_model.specs.Calls.{call_with as called_with, act_end};
-ghost use Rattle.gh_model.specs.Legal.{is_short};
+ghost use Rattle.std.specs.Prelude.{◌≡◌, ◌<◌, ◌+◌, length, true, OnOk};
+ghost use Rattle.gh_base.specs.declared.limits.TheConstants.{CPUS};
+ghost use Rattle.gh_driver.specs.Follows.{CallsNext, Follows, Tracks};
+ghost use Rattle.gh_schedules.specs.Course.{Course, goes_on, with_next_call};
+ghost use Rattle.gh_schedules.specs.Schedule.{called, with_item, with_items};
 
-use crate::looks::{grants, look_up, unlooked};
-use gh_base::{Call, End, Errno, Frame, HISTORY_ENTRIES, Mark, NoMemory, Reply, Sequence};
-use gh_frames::{needs, read_call};
-use gh_model::{CpuRun, Judged, Looked, Plain};
+use crate::ask::ask;
+use crate::reply::last_reply;
+use crate::running::Running;
+use gh_base::{CpuNo, NoMemory};
+use gh_items::{Progress, begin_call, next_item};
+use gh_model::Program;
 use std::alloc::Global;
 
-/// The mark of a call that ends so.
-fn mark(c: &CpuRun, looked: Looked, end: End, reply: Reply) -> Mark
-    requires number { c.now.number < 4294967295 }
-    ensures { result ≡ call_mark c.now looked end reply }
-{
-    let section = if looked.looks.is_empty() {
-        0
-    } else {
-        2 * c.sections as u64 + 1
-    };
-    Mark {
-        cpu: c.cpu,
-        number: c.number + 1,
-        section,
-        looks: looked.looks,
-        end,
-        reply,
-    }
-}
+/// The most items of a call behind its first: two looks and a pin on what each grants, the end of
+/// its section, and its act.
+const LATER_ITEMS: u32 = 6;
 
-fn short(call: &Call, reply: &Reply) -> bool
-    ensures { result ≡ is_short call.now reply.now }
-{
-    match call {
-        Call::Create { .. } | Call::ConfigurePartition { .. } | Call::ConfigureQueue { .. } => {
-            reply.x[0] == Errno::Nomem.number()
-        }
-        _ => false,
-    }
-}
-
-fn refused_end(alloc: Global, call: &Call, reply: &Reply, place: u32) -> End
-    ensures { result ≡ act_end call.now reply.now place }
-{
-    if short(call, reply) {
-        End::Short {
-            place,
-            held: Sequence::new(alloc),
-        }
-    } else {
-        End::Act { place }
-    }
-}
-
-/// The act, once all looks have granted.
-fn acted(
+/// The next item of the CPU's call. So many were made before: they say from which course it goes on.
+fn item<P: Program>(
+    progress: &mut Progress,
     alloc: Global,
-    plain: &mut Plain,
-    c: &CpuRun,
-    frame: &Frame,
-    call: &Call,
-    looked: Looked,
-) -> Result<Mark, NoMemory>
-    requires entries { plain.old.entries < HISTORY_ENTRIES }
-    requires number { c.now.number < 4294967295 }
-    ensures mark { IfOk result
-        (λ mark. mark ≡ (by_looks plain.old c.now frame.now call.now looked None).mark) }
-    ensures state { OnOk result
-        (plain.new ≡ (by_looks plain.old c.now frame.now call.now looked None).after) }
+    cpu: CpuNo,
+    made: u32,
+) -> Result<(), NoMemory>
+    ghost course: { Course P }
+    requires within { cpu.0 < CPUS }
+    requires tracks { Tracks progress.old course }
+    ensures { OnOk result (Tracks progress.new (with_item course cpu.0)) }
 {
-    let count = needs(call).len();
-    let grants = grants(alloc, looked.words.as_slice(), count)?;
-    let words = looked.words.as_slice();
-    match plain.judge(alloc, c.cpu, frame, call, words, grants.as_slice())? {
-        Judged::Done(reply) => {
-            let number = plain.entries();
-            Ok(mark(c, looked, End::Entry { number }, reply))
-        }
-        Judged::Refused(reply) => {
-            let end = refused_end(alloc, call, &reply, plain.entries());
-            Ok(mark(c, looked, end, reply))
-        }
-    }
+    let _ = made;
+    next_item(progress, alloc, cpu)
 }
 
-/// The looks and the act of a frame that is well formed.
-fn looked_up(
-    alloc: Global,
-    plain: &mut Plain,
-    c: &CpuRun,
-    frame: &Frame,
-    call: &Call,
-) -> Result<Mark, NoMemory>
-    requires entries { plain.old.entries < HISTORY_ENTRIES }
-    requires number { c.now.number < 4294967295 }
-    ensures mark { IfOk result
-        (λ mark. mark ≡ (by_shape plain.old c.now frame.now (Ok call.now)).mark) }
-    ensures state { OnOk result
-        (plain.new ≡ (by_shape plain.old c.now frame.now (Ok call.now)).after) }
+/// The CPU's call comes to its end. The items behind it do nothing.
+fn finish<P: Program>(progress: &mut Progress, alloc: Global, cpu: CpuNo) -> Result<(), NoMemory>
+    ghost course: { Course P }
+    requires within { cpu.0 < CPUS }
+    requires tracks { Tracks progress.old course }
+    ensures { OnOk result (Tracks progress.new
+        (with_items 6 course cpu.0)) }
 {
-    let needs = needs(call);
-    let looked = look_up(plain, c.cspace, needs.as_slice(), c.place);
-    match looked.refused {
-        Some(errno) => Ok(mark(c, looked, End::Refused, Reply::refusal(errno))),
-        None => acted(alloc, plain, c, frame, call, looked),
+    for made in 0..LATER_ITEMS {
+        item::<P>(progress, alloc, cpu, made)?;
     }
+    Ok(())
 }
 
-/// The call that makes this frame.
-pub(crate) fn make_call(
+/// One whole call of a CPU, by its program.
+fn make_call<P: Program>(
+    progress: &mut Progress,
     alloc: Global,
-    plain: &mut Plain,
-    c: &CpuRun,
-    frame: &Frame,
-) -> Result<Mark, NoMemory>
-    requires entries { plain.old.entries < HISTORY_ENTRIES }
-    requires number { c.now.number < 4294967295 }
-    ensures mark { IfOk result (λ mark. mark ≡ (called_with plain.old c.now frame.now).mark) }
-    ensures state { OnOk result (plain.new ≡ (called_with plain.old c.now frame.now).after) }
+    cpu: CpuNo,
+    program: &mut P,
+) -> Result<(), NoMemory>
+    ghost course: { Course P }
+    requires within { cpu.0 < CPUS }
+    requires tracks { Tracks progress.old course }
+    requires going { goes_on course.conf cpu.0 ≡ true }
+    requires next { CallsNext P.wants_reply course cpu.0 }
+    requires program { program.old ≡ course.programs cpu.0 }
+    ensures tracks { OnOk result (Tracks progress.new
+        (called P.answer P.after course cpu.0)) }
+    ensures program { OnOk result
+        (program.new ≡ (called P.answer P.after course cpu.0).programs cpu.0) }
+    ensures next { OnOk result
+        (goes_on (called P.answer P.after course cpu.0).conf cpu.0 ≡ true
+        → CallsNext P.wants_reply (called P.answer P.after course cpu.0) cpu.0) }
 {
-    match read_call(frame) {
-        Err(errno) => Ok(mark(c, unlooked(c.place), End::Frame, Reply::refusal(errno))),
-        Ok(call) => looked_up(alloc, plain, c, frame, &call),
+    let number = progress.seats.as_slice()[cpu.0 as usize].calls + 1;
+    let last = last_reply(progress.marks.as_slice(), cpu);
+    let frame = ask(alloc, number, program, last)?;
+    begin_call(progress, alloc, cpu, frame)?;
+    finish::<P>(progress, alloc, cpu)
+}
+
+/// The turn of a CPU: one whole call, unless it has ended.
+pub(crate) fn call<P: Program>(
+    run: &mut Running<P>,
+    alloc: Global,
+    cpu: CpuNo,
+) -> Result<(), NoMemory>
+    ghost course: { Course P }
+    requires within { cpu.0 < CPUS }
+    requires follows { Follows P.wants_reply run.old course }
+    ensures { OnOk result (Follows P.wants_reply run.new
+        (called P.answer P.after course cpu.0)) }
+{
+    let at = cpu.0 as usize;
+    if run.progress.seats.as_slice()[at].ended {
+        return Ok(());
+    }
+    match &mut run.programs.as_mut_slice()[at] {
+        None => Ok(()),
+        Some(program) => make_call(&mut run.progress, alloc, cpu, program),
     }
 }

@@ -13,7 +13,7 @@ use gh_model::{Boot, Line};
 pub fn file_run_is_legal(boot: &Boot, files: &[Sequence<Line>])
     ensures { has_manager boot.now ≡ false
         → IsRun boot.now (file_frames files.now) (file_run boot.now files.now).entries
-        (file_run boot.now files.now).marks (file_run boot.now files.now).plain }
+        (file_run boot.now files.now).marks (file_run boot.now files.now).state }
 {
     let _lines = boot.lines();
     let _ = files;

@@ -4,11 +4,11 @@
 mod ask;
 mod call;
 mod law;
-mod looks;
 mod programs;
+mod reply;
 mod run;
+mod running;
 mod text;
-mod turn;
 
 pub use law::file_run_is_legal;
 pub use run::{Finished, run_step};

@@ -1,16 +1,13 @@
 //! The programs of the VMs.
 
-ghost use Rattle.std.specs.Prelude.{◌≡◌, IfOk, map};
-ghost use Rattle.gh_callfile.specs.VmProgress.{fresh, vm_after, vm_answer};
+ghost use Rattle.std.specs.Prelude.{◌≡◌, IfOk};
 ghost use Rattle.gh_driver.specs.FileRun.{file_program};
-ghost use Rattle.gh_driver.specs.Pace.{IsReady};
-ghost use Rattle.gh_model.specs.Calls.{cpu_start, seat_start};
+ghost use Rattle.gh_driver.specs.Follows.{first_program, first_programs};
 ghost use Rattle.gh_model.specs.Run.{file_of};
 
-use crate::ask::ask;
-use gh_base::{CpuNo, Frame, NoMemory, Sequence};
+use gh_base::{CPUS, CpuNo, Frame, NoMemory, Sequence};
 use gh_callfile::VmProgram;
-use gh_model::{CpuRow, CpuRun, Line, Seat, Standing};
+use gh_model::{CpuRow, Line, cpu_row};
 use std::alloc::Global;
 
 /// The lines of the call file of a CPU's VM.
@@ -51,41 +48,42 @@ fn copies_of(alloc: Global, lines: &[Line]) -> Result<Vec<Line>, NoMemory>
     Ok(copies)
 }
 
-/// A CPU before its first call.
-fn cpu_run(row: &CpuRow) -> CpuRun
-    ensures { result ≡ cpu_start row.now }
+/// The program of the call file of a CPU's VM.
+fn vm_program(alloc: Global, files: &[Sequence<Line>], cpu: CpuNo) -> Result<VmProgram, NoMemory>
+    ensures { IfOk result (λ program. program ≡ file_program files.now cpu.0) }
 {
-    CpuRun {
-        cpu: row.cpu,
-        cspace: row.cspace,
-        ended: false,
-        number: 0,
-        sections: 0,
-        place: 0,
+    let lines = copies_of(alloc, lines_of(files, cpu))?;
+    Ok(VmProgram::new(lines))
+}
+
+/// The program of a CPU, if it has a row.
+fn program_of(
+    alloc: Global,
+    files: &[Sequence<Line>],
+    rows: &[CpuRow],
+    cpu: CpuNo,
+) -> Result<Option<VmProgram>, NoMemory>
+    ensures { IfOk result (λ program. program ≡ first_program files.now rows.now cpu.0) }
+{
+    if cpu_row(rows, cpu).is_some() {
+        let program = vm_program(alloc, files, cpu)?;
+        Ok(Some(program))
+    } else {
+        Ok(None)
     }
 }
 
-/// A CPU with the program of its call file, which is asked for its first call.
-pub(crate) fn seat_of(
+/// The programs of all CPUs, by number.
+pub(crate) fn programs_of(
     alloc: Global,
-    row: &CpuRow,
     files: &[Sequence<Line>],
-) -> Result<Seat<VmProgram>, NoMemory>
-    ensures { IfOk result
-        (λ seat. seat
-        ≡ seat_start vm_answer vm_after row.now (file_program files.now row.now.cpu.0)) }
+    rows: &[CpuRow],
+) -> Result<Sequence<Option<VmProgram>>, NoMemory>
+    ensures { IfOk result (λ programs. programs ≡ first_programs files.now rows.now) }
 {
-    let lines = copies_of(alloc, lines_of(files, row.cpu))?;
-    let mut standing = Standing {
-        program: VmProgram::new(lines),
-        frame: Frame {
-            x: [0; 9],
-            bytes: Sequence::new(alloc),
-        },
-    };
-    ask(alloc, 1, &mut standing, None)?;
-    Ok(Seat {
-        cpu: cpu_run(row),
-        standing,
-    })
+    let mut programs = Sequence::new(alloc);
+    for at in 0..CPUS {
+        programs.push(program_of(alloc, files, rows, CpuNo(at as u8))?)?;
+    }
+    Ok(programs)
 }

@@ -1,20 +1,23 @@
 //! A run by whole calls.
 
-ghost use Rattle.std.specs.Prelude.{◌≡◌, ◌+◌, ◌≤◌, [], length, map, IfOk, OnOk};
-ghost use Rattle.std.specs.List.{list_all};
-ghost use Rattle.gh_callfile.specs.VmProgress.{vm_after, vm_answer};
+ghost use Rattle.std.specs.Prelude.{◌≡◌, ◌<◌, ℕ, false, length, true, IfOk, OnOk};
+ghost use Rattle.gh_base.specs.declared.limits.TheConstants.{CPUS};
+ghost use Rattle.gh_callfile.specs.VmProgress.{Progress, has_made_one, vm_after, vm_answer};
 ghost use Rattle.gh_driver.specs.FileRun.{file_program, file_run};
-ghost use Rattle.gh_driver.specs.Pace.{IsBounded};
-ghost use Rattle.gh_model.specs.Boot.{boot_state};
-ghost use Rattle.gh_model.specs.Calls.{seat_start, round as round_of, rounds};
-ghost use Rattle.gh_model.specs.Calls.{rows_in_order, has_ended, run_start};
+ghost use Rattle.gh_driver.specs.Follows.{Follows, is_going};
+ghost use Rattle.gh_model.specs.Order.{rows_in_order};
 ghost use Rattle.gh_model.specs.Program.{last_number};
+ghost use Rattle.gh_schedules.specs.Course.{Course, begin};
+ghost use Rattle.gh_schedules.specs.Schedule.{boot_start, round as round_of, rounds};
 
-use crate::programs::seat_of;
-use crate::turn::turn;
-use gh_base::{CALL_NUMBERS, Mark, NoMemory, Sequence};
+use crate::call::call;
+use crate::programs::programs_of;
+use crate::running::Running;
+use gh_base::{CALL_NUMBERS, CPUS, CpuNo, Mark, NoMemory, Sequence};
 use gh_callfile::VmProgram;
-use gh_model::{Boot, CpuRow, Entry, Line, Plain, Program, Running, Seat};
+use gh_items::begin_run;
+use gh_model::{Boot, CpuRow, Entry, Line, Plain, Program};
+use gh_schedules::starts_are_steady;
 use std::alloc::Global;
 
 /// What a run came to.
@@ -26,40 +29,55 @@ pub struct Finished {
     pub state: Plain,
 }
 
-/// One round: each CPU in turn.
-fn round<P: Program>(alloc: Global, run: &mut Running<P>) -> Result<(), NoMemory>
-    requires cpus { length run.old.seats ≤ 9 }
-    requires bounded { IsBounded P.wants_reply run.old }
-    requires calls { length run.old.marks + 9 ≤ 4128768 }
-    ensures run { OnOk result (run.new ≡ round_of P.answer P.after run.old) }
-    ensures bounded { OnOk result (IsBounded P.wants_reply run.new) }
-    ensures calls { OnOk result (length run.new.marks ≤ length run.old.marks + 9) }
-    ensures cpus { OnOk result (length run.new.seats ≡ length run.old.seats) }
+/// One round: each CPU in turn. So many were made before: they say from which course it goes on.
+fn round<P: Program>(run: &mut Running<P>, alloc: Global, done: u32) -> Result<(), NoMemory>
+    ghost course: { Course P }
+    requires { Follows P.wants_reply run.old course }
+    ensures { OnOk result (Follows P.wants_reply run.new
+        (round_of P.answer P.after course)) }
 {
-    for at in 0..run.seats.len() {
-        turn(alloc, run, at)?;
+    let _ = done;
+    for at in 0..CPUS {
+        call(run, alloc, CpuNo(at as u8))?;
     }
     Ok(())
 }
 
-fn all_ended<P>(seats: &[Seat<P>]) -> bool
-    ensures { result ≡ list_all has_ended seats.now }
+/// Whether the CPU has more calls to make.
+fn is_going<P>(run: &Running<P>, at: usize) -> bool
+    requires programs { at < length run.now.programs }
+    requires seats { at < length run.now.progress.seats }
+    ensures { result ≡ is_going run.now at }
 {
-    seats.iter().all(|seat| seat.cpu.ended)
+    run.programs.as_slice()[at].is_some() && !run.progress.seats.as_slice()[at].ended
+}
+
+/// Whether no CPU has more calls to make.
+fn all_ended<P>(run: &Running<P>) -> bool
+    requires programs { length run.now.programs ≡ CPUS }
+    requires seats { length run.now.progress.seats ≡ CPUS }
+    ensures { result ≡ true → (at : ℕ) → at < CPUS → is_going run.now at ≡ false }
+{
+    for at in 0..CPUS {
+        if is_going(run, at) {
+            return false;
+        }
+    }
+    true
 }
 
 /// Round after round, until all have ended.
-fn run_rounds<P: Program>(alloc: Global, run: &mut Running<P>) -> Result<(), NoMemory>
-    requires cpus { length run.old.seats ≤ 9 }
-    requires bounded { IsBounded P.wants_reply run.old }
-    requires calls { run.old.marks ≡ [] }
-    ensures { OnOk result (run.new ≡ rounds P.answer P.after last_number run.old) }
+fn run_rounds<P: Program>(run: &mut Running<P>, alloc: Global) -> Result<(), NoMemory>
+    ghost course: { Course P }
+    requires { Follows P.wants_reply run.old course }
+    ensures { OnOk result (Follows P.wants_reply run.new
+        (rounds P.answer P.after last_number course)) }
 {
     for done in 0..CALL_NUMBERS {
-        if all_ended(run.seats.as_slice()) {
+        if all_ended(run) {
             return Ok(());
         }
-        round(alloc, run)?;
+        round(run, alloc, done)?;
     }
     Ok(())
 }
@@ -82,49 +100,36 @@ pub(crate) fn cpus(alloc: Global, rows: &[CpuRow]) -> Result<Sequence<CpuRow>, N
     Ok(Sequence::from_vec(cpus))
 }
 
-/// The CPUs with their programs.
-fn seats_of(
-    alloc: Global,
-    rows: &[CpuRow],
-    files: &[Sequence<Line>],
-) -> Result<Sequence<Seat<VmProgram>>, NoMemory>
-    ensures { IfOk result
-        (λ seats. seats
-        ≡ map (λ row. seat_start vm_answer vm_after row (file_program files.now row.cpu.0))
-        rows.now) }
-{
-    let mut seats = Sequence::new(alloc);
-    for row in rows {
-        seats.push(seat_of(alloc, row, files)?)?;
-    }
-    Ok(seats)
-}
-
 /// The run before its first call.
 fn start(
     alloc: Global,
-    plain: Plain,
+    boot: &Boot,
     files: &[Sequence<Line>],
 ) -> Result<Running<VmProgram>, NoMemory>
-    ensures { IfOk result
-        (λ run. run ≡ run_start vm_answer vm_after plain (file_program files.now)) }
+    ensures { IfOk result (λ run. Follows has_made_one run
+        (begin (boot_start boot.now) (file_program files.now))) }
 {
-    let rows = cpus(alloc, plain.state().cpus.as_slice())?;
-    let seats = seats_of(alloc, rows.as_slice(), files)?;
-    Ok(Running {
-        plain,
-        entries: Sequence::new(alloc),
-        marks: Sequence::new(alloc),
-        seats,
-    })
+    starts_are_steady();
+    let _lines = boot.lines();
+    let progress = begin_run(alloc, boot)?;
+    let programs = programs_of(alloc, files, progress.plain.state().cpus.as_slice())?;
+    Ok(Running { progress, programs })
 }
 
-/// A boot file makes at most nine CPUs.
-#[tactic(auto, using(crate::proofs::BootLemmas::boot_cpus))]
-fn few_cpus(boot: &Boot)
-    ensures { length (boot_state boot.now).cpus ≤ 9 }
+/// The run from there on, to its end.
+fn run_programs(
+    alloc: Global,
+    boot: &Boot,
+    files: &[Sequence<Line>],
+) -> Result<Running<VmProgram>, NoMemory>
+    ghost course: { Course Progress }
+    requires { course ≡ begin (boot_start boot.now) (file_program files.now) }
+    ensures { IfOk result (λ run. Follows has_made_one run
+        (rounds vm_answer vm_after last_number course)) }
 {
-    let _lines = boot.lines();
+    let mut run = start(alloc, boot, files)?;
+    run_rounds(&mut run, alloc)?;
+    Ok(run)
 }
 
 /// Runs the programs of the call files: the CPUs in rising order each make one call, round after
@@ -132,15 +137,12 @@ fn few_cpus(boot: &Boot)
 pub fn run_step(alloc: Global, boot: &Boot, files: &[Sequence<Line>]) -> Result<Finished, NoMemory>
     ensures history { IfOk result (λ done. done.history ≡ (file_run boot.now files.now).entries) }
     ensures marks { IfOk result (λ done. done.marks ≡ (file_run boot.now files.now).marks) }
-    ensures state { IfOk result (λ done. done.state ≡ (file_run boot.now files.now).plain) }
+    ensures state { IfOk result (λ done. done.state ≡ (file_run boot.now files.now).state) }
 {
-    few_cpus(boot);
-    let plain = Plain::boot(alloc, boot)?;
-    let mut run = start(alloc, plain, files)?;
-    run_rounds(alloc, &mut run)?;
+    let run = run_programs(alloc, boot, files)?;
     Ok(Finished {
-        history: run.entries,
-        marks: run.marks,
-        state: run.plain,
+        history: run.progress.entries,
+        marks: run.progress.marks,
+        state: run.progress.plain,
     })
 }

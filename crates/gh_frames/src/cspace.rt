@@ -1,7 +1,7 @@
 //! The calls on capabilities.
 
 ghost use Rattle.std.specs.Prelude.{◌≡◌};
-ghost use Rattle.gh_model.specs.Registers.{shape_of, function_number};
+ghost use Rattle.gh_model.specs.Registers.{call_of, function_number};
 
 use crate::functions::{CAP_COPY, CAP_DELETE, CAP_REVOKE, CAPS_REVOKE};
 use crate::refusals::accepted;
@@ -12,7 +12,7 @@ const ALL_RIGHTS: u64 = 0xffff;
 
 pub fn cap_copy(frame: &Frame) -> Result<Call, Errno>
     requires { function_number frame.now ≡ CAP_COPY }
-    ensures { result ≡ shape_of frame.now }
+    ensures { result ≡ call_of frame.now }
 {
     let [_, cspace, source, mask, zero, ..] = frame.x;
     let refusals = [(mask > ALL_RIGHTS, Errno::ArgInval)];
@@ -26,7 +26,7 @@ pub fn cap_copy(frame: &Frame) -> Result<Call, Errno>
 
 pub fn cap_delete(frame: &Frame) -> Result<Call, Errno>
     requires { function_number frame.now ≡ CAP_DELETE }
-    ensures { result ≡ shape_of frame.now }
+    ensures { result ≡ call_of frame.now }
 {
     let [_, cspace, slot, zero, ..] = frame.x;
     accepted(Call::CapDelete { cspace, slot }, zero, &[])
@@ -34,7 +34,7 @@ pub fn cap_delete(frame: &Frame) -> Result<Call, Errno>
 
 pub fn cap_revoke(frame: &Frame) -> Result<Call, Errno>
     requires { function_number frame.now ≡ CAP_REVOKE }
-    ensures { result ≡ shape_of frame.now }
+    ensures { result ≡ call_of frame.now }
 {
     let [_, cspace, slot, zero, ..] = frame.x;
     accepted(Call::CapRevoke { cspace, slot }, zero, &[])
@@ -42,7 +42,7 @@ pub fn cap_revoke(frame: &Frame) -> Result<Call, Errno>
 
 pub fn caps_revoke(frame: &Frame) -> Result<Call, Errno>
     requires { function_number frame.now ≡ CAPS_REVOKE }
-    ensures { result ≡ shape_of frame.now }
+    ensures { result ≡ call_of frame.now }
 {
     let [_, cap, zero, ..] = frame.x;
     accepted(Call::CapsRevoke { cap }, zero, &[])

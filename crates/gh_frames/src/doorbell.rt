@@ -1,7 +1,7 @@
 //! The calls on doorbells.
 
 ghost use Rattle.std.specs.Prelude.{◌≡◌};
-ghost use Rattle.gh_model.specs.Registers.{shape_of, function_number};
+ghost use Rattle.gh_model.specs.Registers.{call_of, function_number};
 
 use crate::functions::{BELL_RECEIVE, BELL_RESET, BELL_SEND, BELL_SET_MASK};
 use crate::refusals::accepted;
@@ -9,7 +9,7 @@ use gh_base::{Call, Errno, Frame};
 
 pub fn bell_send(frame: &Frame) -> Result<Call, Errno>
     requires { function_number frame.now ≡ BELL_SEND }
-    ensures { result ≡ shape_of frame.now }
+    ensures { result ≡ call_of frame.now }
 {
     let [_, cap, flags, zero, ..] = frame.x;
     let refusals = [(flags == 0, Errno::ArgInval)];
@@ -18,7 +18,7 @@ pub fn bell_send(frame: &Frame) -> Result<Call, Errno>
 
 pub fn bell_set_mask(frame: &Frame) -> Result<Call, Errno>
     requires { function_number frame.now ≡ BELL_SET_MASK }
-    ensures { result ≡ shape_of frame.now }
+    ensures { result ≡ call_of frame.now }
 {
     let [_, cap, enable, ack, zero, ..] = frame.x;
     accepted(Call::BellSetMask { cap, enable, ack }, zero, &[])
@@ -26,7 +26,7 @@ pub fn bell_set_mask(frame: &Frame) -> Result<Call, Errno>
 
 pub fn bell_receive(frame: &Frame) -> Result<Call, Errno>
     requires { function_number frame.now ≡ BELL_RECEIVE }
-    ensures { result ≡ shape_of frame.now }
+    ensures { result ≡ call_of frame.now }
 {
     let [_, cap, clear, zero, ..] = frame.x;
     accepted(Call::BellReceive { cap, clear }, zero, &[])
@@ -34,7 +34,7 @@ pub fn bell_receive(frame: &Frame) -> Result<Call, Errno>
 
 pub fn bell_reset(frame: &Frame) -> Result<Call, Errno>
     requires { function_number frame.now ≡ BELL_RESET }
-    ensures { result ≡ shape_of frame.now }
+    ensures { result ≡ call_of frame.now }
 {
     let [_, cap, zero, ..] = frame.x;
     accepted(Call::BellReset { cap }, zero, &[])

@@ -13,7 +13,7 @@ mod read;
 mod refusals;
 
 pub use capabilities::needs;
-pub use read::{BUILT, read_call, read_shape};
+pub use read::read_call;
 
 #[cfg(test)]
 mod tests;

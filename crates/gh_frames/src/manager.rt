@@ -1,7 +1,7 @@
 //! The calls of the resource manager.
 
 ghost use Rattle.std.specs.Prelude.{◌≡◌, ◌||◌, nat_lt};
-ghost use Rattle.gh_model.specs.Registers.{shape_of, function_number};
+ghost use Rattle.gh_model.specs.Registers.{call_of, function_number};
 
 use crate::functions::{RM_ACT, RM_POLL};
 use crate::refusals::{accepted, is_outside};
@@ -15,7 +15,7 @@ const MOST_BYTES: usize = 14_620;
 
 pub fn rm_act(frame: &Frame) -> Result<Call, Errno>
     requires { function_number frame.now ≡ RM_ACT }
-    ensures { result ≡ shape_of frame.now }
+    ensures { result ≡ call_of frame.now }
 {
     let [_, cap, vm, zero, ..] = frame.x;
     let refusals = [
@@ -27,7 +27,7 @@ pub fn rm_act(frame: &Frame) -> Result<Call, Errno>
 
 pub fn rm_poll(frame: &Frame) -> Result<Call, Errno>
     requires { function_number frame.now ≡ RM_POLL }
-    ensures { result ≡ shape_of frame.now }
+    ensures { result ≡ call_of frame.now }
 {
     let [_, cap, zero, ..] = frame.x;
     accepted(Call::RmPoll { cap }, zero, &[])

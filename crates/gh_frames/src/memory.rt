@@ -2,7 +2,7 @@
 
 ghost use Rattle.std.specs.Prelude.{◌≡◌, ◌==◌, ◌||◌, ◌&&◌, ◌%◌, nat_lt};
 ghost use Rattle.gh_model.specs.Registers as Table;
-ghost use Rattle.gh_model.specs.Registers.{shape_of, function_number};
+ghost use Rattle.gh_model.specs.Registers.{call_of, function_number};
 
 use crate::functions::{AS_LOOKUP, DERIVE, DONATE, MAP, UNMAP};
 use crate::refusals::accepted;
@@ -25,7 +25,7 @@ const TO_SIBLING: u64 = 2;
 
 pub fn map(frame: &Frame) -> Result<Call, Errno>
     requires { function_number frame.now ≡ MAP }
-    ensures { result ≡ shape_of frame.now }
+    ensures { result ≡ call_of frame.now }
 {
     let [
         _,
@@ -66,7 +66,7 @@ pub fn map(frame: &Frame) -> Result<Call, Errno>
 
 pub fn unmap(frame: &Frame) -> Result<Call, Errno>
     requires { function_number frame.now ≡ UNMAP }
-    ensures { result ≡ shape_of frame.now }
+    ensures { result ≡ call_of frame.now }
 {
     let [_, space, extent, base, flags, offset, size, zero, _] = frame.x;
     let refusals = [
@@ -90,7 +90,7 @@ pub fn unmap(frame: &Frame) -> Result<Call, Errno>
 
 pub fn donate(frame: &Frame) -> Result<Call, Errno>
     requires { function_number frame.now ≡ DONATE }
-    ensures { result ≡ shape_of frame.now }
+    ensures { result ≡ call_of frame.now }
 {
     let [_, options, from, to, offset, size, zero, _, _] = frame.x;
     let refusals = [
@@ -111,7 +111,7 @@ pub fn donate(frame: &Frame) -> Result<Call, Errno>
 
 pub fn derive(frame: &Frame) -> Result<Call, Errno>
     requires { function_number frame.now ≡ DERIVE }
-    ensures { result ≡ shape_of frame.now }
+    ensures { result ≡ call_of frame.now }
 {
     let [_, child, parent, offset, size, access, zero, _, _] = frame.x;
     let refusals = [
@@ -131,7 +131,7 @@ pub fn derive(frame: &Frame) -> Result<Call, Errno>
 
 pub fn as_lookup(frame: &Frame) -> Result<Call, Errno>
     requires { function_number frame.now ≡ AS_LOOKUP }
-    ensures { result ≡ shape_of frame.now }
+    ensures { result ≡ call_of frame.now }
 {
     let [_, space, address, zero, ..] = frame.x;
     accepted(Call::AsLookup { space, address }, zero, &[])

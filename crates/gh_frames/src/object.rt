@@ -1,7 +1,7 @@
 //! The calls that make, configure and activate objects.
 
 ghost use Rattle.std.specs.Prelude.{◌≡◌};
-ghost use Rattle.gh_model.specs.Registers.{shape_of, function_number};
+ghost use Rattle.gh_model.specs.Registers.{call_of, function_number};
 
 use crate::functions::{ACTIVATE, CONFIGURE_PARTITION, CREATE};
 use crate::refusals::{accepted, is_outside};
@@ -12,7 +12,7 @@ const KINDS: u64 = 6;
 
 pub fn create(frame: &Frame) -> Result<Call, Errno>
     requires { function_number frame.now ≡ CREATE }
-    ensures { result ≡ shape_of frame.now }
+    ensures { result ≡ call_of frame.now }
 {
     let [_, partition, cspace, kind, zero, ..] = frame.x;
     let refusals = [(is_outside(kind, KINDS), Errno::ArgInval)];
@@ -26,7 +26,7 @@ pub fn create(frame: &Frame) -> Result<Call, Errno>
 
 pub fn configure_partition(frame: &Frame) -> Result<Call, Errno>
     requires { function_number frame.now ≡ CONFIGURE_PARTITION }
-    ensures { result ≡ shape_of frame.now }
+    ensures { result ≡ call_of frame.now }
 {
     let [_, cap, quota, zero, ..] = frame.x;
     let refusals = [(is_outside(quota, PARTITION_UNITS as u64), Errno::ArgInval)];
@@ -35,7 +35,7 @@ pub fn configure_partition(frame: &Frame) -> Result<Call, Errno>
 
 pub fn activate(frame: &Frame) -> Result<Call, Errno>
     requires { function_number frame.now ≡ ACTIVATE }
-    ensures { result ≡ shape_of frame.now }
+    ensures { result ≡ call_of frame.now }
 {
     let [_, cap, zero, ..] = frame.x;
     accepted(Call::Activate { cap }, zero, &[])

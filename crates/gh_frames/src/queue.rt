@@ -1,7 +1,7 @@
 //! The calls on message queues.
 
 ghost use Rattle.std.specs.Prelude.{◌≡◌, ◌==◌, ◌||◌, nat_lt};
-ghost use Rattle.gh_model.specs.Registers.{shape_of, function_number};
+ghost use Rattle.gh_model.specs.Registers.{call_of, function_number};
 
 use crate::functions::{CONFIGURE_QUEUE, MSGQ_FLUSH, MSGQ_RECV, MSGQ_SEND};
 use crate::refusals::{accepted, is_outside};
@@ -12,7 +12,7 @@ const PUSH: u64 = 1;
 
 pub fn msgq_send(frame: &Frame) -> Result<Call, Errno>
     requires { function_number frame.now ≡ MSGQ_SEND }
-    ensures { result ≡ shape_of frame.now }
+    ensures { result ≡ call_of frame.now }
 {
     let [_, cap, size, buffer, flags, zero, ..] = frame.x;
     let refusals = [
@@ -31,7 +31,7 @@ pub fn msgq_send(frame: &Frame) -> Result<Call, Errno>
 
 pub fn msgq_recv(frame: &Frame) -> Result<Call, Errno>
     requires { function_number frame.now ≡ MSGQ_RECV }
-    ensures { result ≡ shape_of frame.now }
+    ensures { result ≡ call_of frame.now }
 {
     let [_, cap, buffer, size, zero, ..] = frame.x;
     let refusals = [(size == 0, Errno::ArgSize)];
@@ -40,7 +40,7 @@ pub fn msgq_recv(frame: &Frame) -> Result<Call, Errno>
 
 pub fn msgq_flush(frame: &Frame) -> Result<Call, Errno>
     requires { function_number frame.now ≡ MSGQ_FLUSH }
-    ensures { result ≡ shape_of frame.now }
+    ensures { result ≡ call_of frame.now }
 {
     let [_, cap, zero, ..] = frame.x;
     accepted(Call::MsgqFlush { cap }, zero, &[])
@@ -48,7 +48,7 @@ pub fn msgq_flush(frame: &Frame) -> Result<Call, Errno>
 
 pub fn configure_queue(frame: &Frame) -> Result<Call, Errno>
     requires { function_number frame.now ≡ CONFIGURE_QUEUE }
-    ensures { result ≡ shape_of frame.now }
+    ensures { result ≡ call_of frame.now }
 {
     let [_, cap, depth, size, zero, ..] = frame.x;
     let refusals = [

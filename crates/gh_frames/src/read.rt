@@ -1,8 +1,7 @@
 //! Frames by the register table.
 
-ghost use Rattle.std.specs.Prelude.{◌≡◌, ◌==◌};
-ghost use Rattle.std.specs.List.{list_any};
-ghost use Rattle.gh_model.specs.Registers.{built, call_of, shape_of};
+ghost use Rattle.std.specs.Prelude.{◌≡◌};
+ghost use Rattle.gh_model.specs.Registers.{call_of};
 
 use crate::cspace::{cap_copy, cap_delete, cap_revoke, caps_revoke};
 use crate::doorbell::{bell_receive, bell_reset, bell_send, bell_set_mask};
@@ -17,21 +16,11 @@ use crate::object::{activate, configure_partition, create};
 use crate::queue::{configure_queue, msgq_flush, msgq_recv, msgq_send};
 use gh_base::{Call, Errno, Frame};
 
-/// The functions that the hypervisor has by now: identify, bell_send and exit. A frame of another
-/// is refused as of no function.
-pub const BUILT: [u64; 3] = [IDENTIFY, BELL_SEND, EXIT];
-
-fn is_built(number: u64) -> bool
-    ensures { result ≡ list_any (λ built_number. built_number == number) built }
-{
-    BUILT.contains(&number)
-}
-
-/// The call of a frame, whether it is built or not. It is refused with -1 where it names no
-/// function, then with 1 for a register that must be zero and isn't, then for its shape. Bits of
-/// x0 above 31 aren't looked at. It takes no memory.
-pub fn read_shape(frame: &Frame) -> Result<Call, Errno>
-    ensures { result ≡ shape_of frame.now }
+/// The call of a frame. It is refused with -1 where it names no function, then with 1 for a
+/// register that must be zero and isn't, then for its shape. Bits of x0 above 31 aren't looked at.
+/// It takes no memory.
+pub fn read_call(frame: &Frame) -> Result<Call, Errno>
+    ensures { result ≡ call_of frame.now }
 {
     match function(frame) {
         IDENTIFY => Ok(Call::Identify),
@@ -59,17 +48,5 @@ pub fn read_shape(frame: &Frame) -> Result<Call, Errno>
         RM_ACT => rm_act(frame),
         RM_POLL => rm_poll(frame),
         _ => Err(Errno::Unimplemented),
-    }
-}
-
-/// The call of a frame by the functions that are built: -1 where the frame names none of these, and
-/// else what `read_shape` answers. It takes no memory.
-pub fn read_call(frame: &Frame) -> Result<Call, Errno>
-    ensures { result ≡ call_of frame.now }
-{
-    if is_built(function(frame)) {
-        read_shape(frame)
-    } else {
-        Err(Errno::Unimplemented)
     }
 }

@@ -18,7 +18,7 @@ use Rattle.gh_model.specs.declared.rows.CpuRow.{CpuRow}
 use Rattle.gh_model.specs.declared.state.State.{State}
 use Rattle.gh_model.proofs.CpuRows.{empty_numbered, line_numbered}
 use Rattle.gh_model.proofs.FittingLemmas.{moved_pages}
-use Rattle.gh_model.proofs.RunLaw.{IsFresh, boot_fresh, line_fresh}
+use Rattle.gh_model.proofs.BootFresh.{IsFresh, boot_fresh, line_fresh}
 use Rattle.gh_invariant.specs.BootChanges.{boot_changes, changes_of_lines}
 use Rattle.gh_invariant.specs.Grants as grants
 use Rattle.gh_invariant.specs.Lives.{is_parentless}

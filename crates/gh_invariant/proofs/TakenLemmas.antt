@@ -15,7 +15,7 @@ use Rattle.gh_model.specs.declared.entry.Entry.{Entry}
 use Rattle.gh_model.specs.declared.entry.Entry.TheVariants.{Acted, Part, Retired, Reclaimed}
 use Rattle.gh_model.specs.declared.rows.TakenSlot.{TakenSlot}
 use Rattle.gh_model.specs.declared.state.State.{State}
-use Rattle.gh_model.proofs.RunLaw.{boot_fresh}
+use Rattle.gh_model.proofs.BootFresh.{boot_fresh}
 use Rattle.gh_invariant.specs.Events.{judged_by}
 use Rattle.gh_invariant.specs.Taken.{AllowsEach, allows, allows_entry, is_made, parts_at_end, taken_by, taken_on}
 

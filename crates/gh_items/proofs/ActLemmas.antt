@@ -5,31 +5,31 @@ use Rattle.gh_base.specs.declared.call.Call.{Call}
 use Rattle.gh_base.specs.declared.call.Call.TheVariants as calls
 use Rattle.gh_base.specs.declared.frame.Reply.{Reply}
 use Rattle.gh_base.specs.declared.limits.TheConstants.{HISTORY_ENTRIES}
-use Rattle.gh_core.specs.Committing.{cpu_no}
-use Rattle.gh_core.specs.Config.{AtAct, Config, Cpu, Current, Stage, judged, present}
-use Rattle.gh_core.specs.Entries.{logged}
-use Rattle.gh_core.specs.HolderEvents.{is_create}
-use Rattle.gh_core.specs.Items.{act, acting, freeing, object_revoked, parts, plain_caps, preparing, prepares, sweeps, taking, unpins}
+use Rattle.gh_schedules.specs.Committing.{cpu_no}
+use Rattle.gh_events.specs.Config.{AtAct, Config, Cpu, Current, Stage, judged, present}
+use Rattle.gh_events.specs.Entries.{logged}
+use Rattle.gh_events.specs.HolderEvents.{is_create}
+use Rattle.gh_schedules.specs.Items.{act, acting, freeing, object_revoked, parts, plain_caps, preparing, prepares, sweeps, taking, unpins}
 use Rattle.gh_core.specs.Running.{current_of}
-use Rattle.gh_core.specs.Sound.{IsSound}
-use Rattle.gh_core.specs.Sweep.{HasNotBegun, sweep}
-use Rattle.gh_core.specs.Trace.{AreDone, after_all, and_then}
-use Rattle.gh_core.specs.TurnEvents.{call_at_act, if_at_act, ready, taken}
+use Rattle.gh_events.specs.Sound.{IsSound}
+use Rattle.gh_schedules.specs.Sweep.{HasNotBegun, sweep}
+use Rattle.gh_schedules.specs.Trace.{AreDone, after_all, and_then}
+use Rattle.gh_events.specs.TurnEvents.{call_at_act, if_at_act, ready, taken}
 use Rattle.gh_core.specs.declared.current.CurrentCall.{CurrentCall}
-use Rattle.gh_core.specs.declared.event.Event.{Event}
-use Rattle.gh_core.specs.declared.event.Event.TheVariants.{Take}
-use Rattle.gh_core.proofs.Acting.{IsDone, acted_allows}
-use Rattle.gh_core.proofs.ActItems.{IsPrepared, preparing_leads}
-use Rattle.gh_core.proofs.EntryReferences.{MakesNone, Objects, event_objects}
-use Rattle.gh_core.proofs.Finding.{put_here, put_other}
-use Rattle.gh_core.proofs.LengthBound.{history_is_short}
-use Rattle.gh_core.proofs.LookCalls.{entries_all}
-use Rattle.gh_core.proofs.SoundEvents.{event_keeps_sound}
-use Rattle.gh_core.proofs.SweepLaw.{is_sweeping}
-use Rattle.gh_core.proofs.SweepSteps.{IsSweeping}
-use Rattle.gh_core.proofs.TraceLaws.{after_append}
-use Rattle.gh_core.proofs.TurnItems.{may_take, take_begins}
-use Rattle.gh_core.proofs.ValidEntries.{event_fits}
+use Rattle.gh_events.specs.declared.event.Event.{Event}
+use Rattle.gh_events.specs.declared.event.Event.TheVariants.{Take}
+use Rattle.gh_schedules.proofs.Acting.{IsDone, acted_allows}
+use Rattle.gh_schedules.proofs.ActItems.{IsPrepared, preparing_leads}
+use Rattle.gh_schedules.proofs.EntryReferences.{MakesNone, Objects, event_objects}
+use Rattle.gh_events.proofs.Finding.{put_here, put_other}
+use Rattle.gh_events.proofs.LengthBound.{history_is_short}
+use Rattle.gh_events.proofs.LookCalls.{entries_all}
+use Rattle.gh_events.proofs.SoundEvents.{event_keeps_sound}
+use Rattle.gh_schedules.proofs.SweepLaw.{is_sweeping}
+use Rattle.gh_schedules.proofs.SweepSteps.{IsSweeping}
+use Rattle.gh_schedules.proofs.TraceLaws.{after_append}
+use Rattle.gh_schedules.proofs.TurnItems.{may_take, take_begins}
+use Rattle.gh_events.proofs.ValidEntries.{event_fits}
 use Rattle.gh_items.specs.Acts.{ActsNext, act_entry, after_judged, judged_in, in_state, with_judged}
 use Rattle.gh_items.specs.Stands.{Stands, with_call}
 use Rattle.gh_items.specs.declared.progress.Progress.{Progress}
@@ -54,7 +54,7 @@ module _ (conf : Config) (at : ℕ) (call : Current) (next : ActsNext conf at ca
   pub taken_sound : IsSound (taken conf at)
   taken_sound = event_keeps_sound conf (Take (cpu_no at)) next.steady.sound (may_take conf at next.steady.sound next.is_cpu next.steady.free call next.is_ready)
 
-  begins : HasNotBegun (taken conf at) at
+  pub begins : HasNotBegun (taken conf at) at
   begins = take_begins conf at next.steady.sound next.is_cpu next.steady.free call next.is_ready
 
   its_call : begins.call ≡ call
@@ -162,7 +162,7 @@ module _ (progress : Progress) (conf : Config) (at : ℕ) (call : CurrentCall) (
   judged_stands (says.Refused reply) new is =
       subst (λ (s : State). Stands (with_judged (in_state progress s) at seat call (says.Refused reply)) (after_all conf (act at conf))) (sym is.1)
       (subst (Stands (with_judged progress at seat call (says.Refused reply))) (sym (act_is conf at (current_of call) next))
-      (refused_stands progress (judged_in conf at) at call stands next.is_cpu seat seated is_prepared reply unswept (sym there ∙ is.0)))
+      (refused_stands progress (judged_in conf at) at call stands next.is_cpu seat seated is_prepared reply (sym there ∙ is.0) unswept))
 
   -- the history has room for an entry
   pub entries_few : progress.plain.entries < HISTORY_ENTRIES

@@ -11,11 +11,11 @@ use Rattle.gh_base.specs.declared.frame.Reply.{Reply}
 use Rattle.gh_base.specs.declared.limits.TheConstants.{CPUS}
 use Rattle.gh_base.specs.declared.mark.End.{End}
 use Rattle.gh_base.specs.declared.mark.Mark.{Mark}
-use Rattle.gh_core.specs.CallEvents.{finished, with_end as ended_cpu}
-use Rattle.gh_core.specs.Config.{Config, Cpu, Holder}
+use Rattle.gh_events.specs.CallEvents.{finished, with_end as ended_cpu}
+use Rattle.gh_events.specs.Config.{Config, Cpu, Holder}
 use Rattle.gh_core.specs.Running.{current_of, seen_of}
 use Rattle.gh_core.specs.declared.current.CurrentCall.{CurrentCall}
-use Rattle.gh_core.proofs.Finding.{same_number}
+use Rattle.gh_events.proofs.Finding.{same_number}
 use Rattle.gh_items.specs.Stands.{SeatStands, Stands, mark_at, seat_behind, sections_of, with_call, with_end}
 use Rattle.gh_items.specs.declared.progress.Progress.{Progress}
 use Rattle.gh_items.specs.declared.progress.Seat.{Seat}
@@ -25,7 +25,7 @@ use Rattle.gh_model.specs.Marks.{Made, cspace_of, has_looks, mark_of, place_afte
 use Rattle.gh_model.specs.Program.{is_exit}
 use Rattle.gh_model.specs.Run.{is_mark_of}
 use Rattle.gh_model.proofs.RunLists.{count_snoc}
-use Rattle.gh_model.proofs.RunWhole.{set_cases}
+use Rattle.gh_model.proofs.RunLists.{set_cases}
 
 -- the marks of a CPU with one more of it, and of another
 

@@ -3,13 +3,13 @@ use Rattle.std.proofs.Common.{◌≡◌, ◌==◌, ◌+◌, ◌*◌, ◌<◌, �
 use Rattle.std.specs.Prelude.{count_by, slice_index_or}
 use Rattle.std.proofs.lemmas.Option.{slice_get-get_or}
 use Rattle.gh_base.specs.declared.limits.TheConstants.{CPUS}
-use Rattle.gh_core.specs.CallEvents.{begun, entered}
-use Rattle.gh_core.specs.Calls.{HasCalls, counted, steps}
-use Rattle.gh_core.specs.Config.{Config, Cpu, Reading}
+use Rattle.gh_events.specs.CallEvents.{begun, entered}
+use Rattle.gh_events.specs.Calls.{HasCalls, counted, steps}
+use Rattle.gh_events.specs.Config.{Config, Cpu, Reading}
 use Rattle.gh_core.specs.Running.{given_of}
-use Rattle.gh_core.specs.Start.{MayGive, given as given_next, with_next}
+use Rattle.gh_events.specs.Start.{MayGive, given as given_next, with_next}
 use Rattle.gh_core.specs.declared.current.GivenCall.{GivenCall}
-use Rattle.gh_core.proofs.Finding.{put_here, put_other}
+use Rattle.gh_events.proofs.Finding.{put_here, put_other}
 use Rattle.gh_items.specs.Stands.{SeatStands, Stands, begun_call, with_call}
 use Rattle.gh_items.specs.declared.progress.Progress.{Progress}
 use Rattle.gh_items.specs.declared.progress.Seat.{Seat}

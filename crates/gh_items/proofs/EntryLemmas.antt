@@ -3,10 +3,10 @@ use Rattle.std.proofs.Common.{◌≡◌, ◌<◌, ◌∙◌, ℕ, Bool, List, []
 use Rattle.std.proofs.lemmas.List.{map_push}
 use Rattle.std.proofs.lemmas.List.Sums.{fold-append}
 use Rattle.gh_base.specs.declared.cap_word.CapWord.{CapWord}
-use Rattle.gh_core.specs.Committing.{added}
-use Rattle.gh_core.specs.Config.{Config, Current, Holder, present}
-use Rattle.gh_core.specs.Entries.{logged, next_state}
-use Rattle.gh_core.proofs.Commits.{IsCommitted}
+use Rattle.gh_schedules.specs.Committing.{added}
+use Rattle.gh_events.specs.Config.{Config, Current, Holder, present}
+use Rattle.gh_events.specs.Entries.{logged, next_state}
+use Rattle.gh_schedules.proofs.Commits.{IsCommitted}
 use Rattle.gh_invariant.specs.Events.{changes_of}
 use Rattle.gh_items.specs.Acts.{in_state, with_entry}
 use Rattle.gh_items.specs.Stands.{Stands}

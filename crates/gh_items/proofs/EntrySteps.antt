@@ -4,15 +4,15 @@ use Rattle.std.proofs.Common.{◌≡◌, ◌∙◌, ℕ, Bool, false, List, [], 
 use Rattle.gh_base.specs.CapWord.{object_of}
 use Rattle.gh_base.specs.declared.cap_word.CapWord.{CapWord}
 use Rattle.gh_base.specs.declared.ids.Serial.{Serial}
-use Rattle.gh_core.specs.Committing.{added, commits_of, committing, entry_event, gains_owed, is_made, losses_settled, owe, revives, settle, slot_word, with_new}
-use Rattle.gh_core.specs.Config.{Config, Cpu, Current, present, put}
-use Rattle.gh_core.specs.Entries.{index_after, logged, makes_object, next_state, slot_set}
-use Rattle.gh_core.specs.Events.{after}
-use Rattle.gh_core.specs.HolderEvents.{owed, settled}
-use Rattle.gh_core.specs.Trace.{after_all}
-use Rattle.gh_core.specs.TurnEvents.{committed, committed_by, put_word, set_cap}
-use Rattle.gh_core.specs.declared.event.Event.{Event}
-use Rattle.gh_core.proofs.TraceLaws.{after_append}
+use Rattle.gh_schedules.specs.Committing.{added, commits_of, committing, entry_event, gains_owed, is_made, losses_settled, owe, revives, settle, slot_word, with_new}
+use Rattle.gh_events.specs.Config.{Config, Cpu, Current, present, put}
+use Rattle.gh_events.specs.Entries.{index_after, logged, makes_object, next_state, slot_set}
+use Rattle.gh_events.specs.Events.{after}
+use Rattle.gh_events.specs.HolderEvents.{owed, settled}
+use Rattle.gh_schedules.specs.Trace.{after_all}
+use Rattle.gh_events.specs.TurnEvents.{committed, committed_by, put_word, set_cap}
+use Rattle.gh_events.specs.declared.event.Event.{Event}
+use Rattle.gh_schedules.proofs.TraceLaws.{after_append}
 use Rattle.gh_invariant.specs.Effects.{gained, lost}
 use Rattle.gh_invariant.specs.Events.{changes_of}
 use Rattle.gh_items.specs.Acts.{in_state, with_entry}

@@ -10,10 +10,10 @@ use Rattle.gh_base.specs.declared.errno.Errno.{Errno}
 use Rattle.gh_base.specs.declared.frame.Frame.{Frame}
 use Rattle.gh_base.specs.declared.limits.TheConstants.{CPUS}
 use Rattle.gh_base.specs.declared.mark.Mark.{Mark}
-use Rattle.gh_core.specs.Config.{Config}
-use Rattle.gh_core.specs.Start.{MayGive, given, refused_frame, with_next}
+use Rattle.gh_events.specs.Config.{Config}
+use Rattle.gh_events.specs.Start.{MayGive, given, refused_frame, with_next}
 use Rattle.gh_core.specs.declared.current.CurrentCall.{CurrentCall}
-use Rattle.gh_core.proofs.Finding.{put_here, put_other}
+use Rattle.gh_events.proofs.Finding.{put_here, put_other}
 use Rattle.gh_items.specs.Stands.{SeatStands, Stands, frame_mark, seat_refused, with_refused}
 use Rattle.gh_items.specs.declared.progress.Progress.{Progress}
 use Rattle.gh_items.specs.declared.progress.Seat.{Seat}
@@ -24,7 +24,7 @@ use Rattle.gh_model.specs.Marks.{Made, cspace_of, has_looks, mark_of, place_afte
 use Rattle.gh_model.specs.Program.{is_exit}
 use Rattle.gh_model.specs.Registers.{call_of}
 use Rattle.gh_model.proofs.RunLists.{count_snoc}
-use Rattle.gh_model.proofs.RunWhole.{set_cases}
+use Rattle.gh_model.proofs.RunLists.{set_cases}
 
 module _ (progress : Progress) (conf : Config) (stands : Stands progress conf) (at : ℕ) (within : at < CPUS) (number : ℕ)
     (may : MayGive conf at number) (seat : Seat) (seated : slice_get progress.seats at ≡ Some seat) where

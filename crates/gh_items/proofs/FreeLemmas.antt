@@ -1,14 +1,14 @@
 -- The turn is given back with the call's end, and its pins are dropped.
 use Rattle.std.proofs.Common.{◌≡◌, ◌<◌, ◌∙◌, ℕ, [], ap, Option, Some, None, slice_get}
 use Rattle.gh_base.specs.declared.limits.TheConstants.{CPUS}
-use Rattle.gh_core.specs.CallEvents.{finished, with_end as ended_cpu}
-use Rattle.gh_core.specs.Config.{Config, Cpu, Holder}
-use Rattle.gh_core.specs.Items.{freeing, unpins}
+use Rattle.gh_events.specs.CallEvents.{finished, with_end as ended_cpu}
+use Rattle.gh_events.specs.Config.{Config, Cpu, Holder}
+use Rattle.gh_schedules.specs.Items.{freeing, unpins}
 use Rattle.gh_core.specs.Running.{current_of}
-use Rattle.gh_core.specs.Trace.{after_all, and_then}
-use Rattle.gh_core.specs.TurnEvents.{Ending, end_call, ended, ending, with_ending}
+use Rattle.gh_schedules.specs.Trace.{after_all, and_then}
+use Rattle.gh_events.specs.TurnEvents.{Ending, end_call, ended, ending, with_ending}
 use Rattle.gh_core.specs.declared.current.CurrentCall.{CurrentCall}
-use Rattle.gh_core.proofs.Finding.{put_here, put_other}
+use Rattle.gh_events.proofs.Finding.{put_here, put_other}
 use Rattle.gh_items.specs.Stands.{Stands, with_call, with_end}
 use Rattle.gh_items.specs.declared.progress.Progress.{Progress}
 use Rattle.gh_items.specs.declared.progress.Seat.{Seat}

@@ -4,11 +4,11 @@ use Rattle.std.specs.List.{last_or}
 use Rattle.gh_base.specs.declared.cap_word.Need.{Need}
 use Rattle.gh_base.specs.declared.errno.Errno.{Errno}
 use Rattle.gh_base.specs.declared.ids.Serial.{Serial}
-use Rattle.gh_core.specs.CallEvents.{left, looked, pinned, undone}
-use Rattle.gh_core.specs.Config.{Config, Current, DeadPin, Failed, Looked, Reading, Stage, Undone, came_to, seen_index}
-use Rattle.gh_core.specs.Items.{item, item_in, item_of, leave, leave_ended, pins_last, reads, undoes_last}
+use Rattle.gh_events.specs.CallEvents.{left, looked, pinned, undone}
+use Rattle.gh_events.specs.Config.{Config, Current, DeadPin, Failed, Looked, Reading, Stage, Undone, came_to, seen_index}
+use Rattle.gh_schedules.specs.Items.{item, item_in, item_of, leave, leave_ended, pins_last, reads, undoes_last}
 use Rattle.gh_core.specs.Running.{seen_of}
-use Rattle.gh_core.specs.Trace.{after_all}
+use Rattle.gh_schedules.specs.Trace.{after_all}
 use Rattle.gh_core.specs.declared.current.SeenLook.{SeenLook}
 use Rattle.gh_model.specs.Marks.{Fails, Grants, Seen, Wants, on_grant, outcome}
 use Rattle.gh_model.specs.Word.{look_reply}

@@ -4,16 +4,16 @@ use Rattle.std.specs.Prelude.{◌||◌}
 use Rattle.gh_base.specs.declared.frame.Reply.{Reply}
 use Rattle.gh_base.specs.declared.limits.TheConstants.{CALL_NUMBERS, CPUS}
 use Rattle.gh_base.specs.declared.mark.End.{End}
-use Rattle.gh_core.specs.CallEvents.{after_leave, end_of_looks, finished, left, reply_of_looks, with_end as ended_cpu, with_left}
-use Rattle.gh_core.specs.Config.{Config, Cpu, Current, Failed, Undone, came_to}
-use Rattle.gh_core.specs.Items.{leave, leave_ended, unpins}
-use Rattle.gh_core.specs.Length.{calls_given}
+use Rattle.gh_events.specs.CallEvents.{after_leave, end_of_looks, finished, left, reply_of_looks, with_end as ended_cpu, with_left}
+use Rattle.gh_events.specs.Config.{Config, Cpu, Current, Failed, Undone, came_to}
+use Rattle.gh_schedules.specs.Items.{leave, leave_ended, unpins}
+use Rattle.gh_events.specs.Length.{calls_given}
 use Rattle.gh_core.specs.Running.{current_of, stage_of}
-use Rattle.gh_core.specs.Sound.{IsSound}
-use Rattle.gh_core.specs.Trace.{after_all, and_then}
+use Rattle.gh_events.specs.Sound.{IsSound}
+use Rattle.gh_schedules.specs.Trace.{after_all, and_then}
 use Rattle.gh_core.specs.declared.current.CurrentCall.{CurrentCall}
-use Rattle.gh_core.proofs.Finding.{put_here, put_other}
-use Rattle.gh_core.proofs.LengthBound.{count_all}
+use Rattle.gh_events.proofs.Finding.{put_here, put_other}
+use Rattle.gh_events.proofs.LengthBound.{count_all}
 use Rattle.gh_items.specs.Stands.{Stands, with_call, with_end}
 use Rattle.gh_items.specs.declared.progress.Progress.{Progress}
 use Rattle.gh_items.specs.declared.progress.Seat.{Seat}

@@ -1,11 +1,11 @@
 -- Configurations that a run's progress can't tell apart: their words differ alone.
 use Rattle.std.proofs.Common.{◌≡◌, ◌==◌, ◌<◌, ◌∙◌, inl, inr, ℕ, true, false, List, [], ◌∷◌, map, refl, sym, ap, subst, Some}
 use Rattle.std.proofs.lemmas.Bool.{cases_Bool, eqb-true}
-use Rattle.gh_core.specs.CallEvents.{unpinned, without_pin}
-use Rattle.gh_core.specs.Config.{Config, Cpu, Pin, present, put}
-use Rattle.gh_core.specs.Items.{unpin, unpins}
-use Rattle.gh_core.specs.Trace.{after_all}
-use Rattle.gh_core.proofs.Finding.{put_here, put_other, same_number}
+use Rattle.gh_events.specs.CallEvents.{unpinned, without_pin}
+use Rattle.gh_events.specs.Config.{Config, Cpu, Pin, present, put}
+use Rattle.gh_schedules.specs.Items.{unpin, unpins}
+use Rattle.gh_schedules.specs.Trace.{after_all}
+use Rattle.gh_events.proofs.Finding.{put_here, put_other, same_number}
 use Rattle.gh_items.specs.Stands.{SeatStands, Stands}
 use Rattle.gh_items.specs.declared.progress.Progress.{Progress}
 use Rattle.gh_model.specs.History.{Event, entry_of, replay}

@@ -10,17 +10,17 @@ use Rattle.gh_base.specs.declared.errno.Errno.{Errno}
 use Rattle.gh_base.specs.declared.ids.ObjIndex.{ObjIndex}
 use Rattle.gh_base.specs.declared.ids.Serial.{Serial}
 use Rattle.gh_base.specs.declared.limits.TheConstants.{CPUS, OBJECT_INDICES}
-use Rattle.gh_core.specs.CallEvents.{MayLook, found, loaded, looked, stage_after_look, with_look}
-use Rattle.gh_core.specs.Config.{Config, Current, came_to, last_place, present}
-use Rattle.gh_core.specs.Entries.{row_shown, shown}
+use Rattle.gh_events.specs.CallEvents.{MayLook, found, loaded, looked, stage_after_look, with_look}
+use Rattle.gh_events.specs.Config.{Config, Current, came_to, last_place, present}
+use Rattle.gh_events.specs.Entries.{row_shown, shown}
 use Rattle.gh_core.specs.Running.{current_of, seen_of, stage_of}
-use Rattle.gh_core.specs.Sound.{IsSound}
+use Rattle.gh_events.specs.Sound.{IsSound}
 use Rattle.gh_core.specs.declared.current.CallStage.TheVariants as stages
 use Rattle.gh_core.specs.declared.current.CurrentCall.{CurrentCall}
 use Rattle.gh_core.specs.declared.current.SeenLook.{SeenLook}
-use Rattle.gh_core.proofs.Finding.{put_here, put_other}
-use Rattle.gh_core.proofs.LengthBound.{has_room}
-use Rattle.gh_core.proofs.LookCalls.{loaded_is, setting_is}
+use Rattle.gh_events.proofs.Finding.{put_here, put_other}
+use Rattle.gh_events.proofs.LengthBound.{has_room}
+use Rattle.gh_events.proofs.LookCalls.{loaded_is, setting_is}
 use Rattle.gh_invariant.proofs.Counting.{found_all}
 use Rattle.gh_invariant.proofs.SlotsFit.{SlotParts, slot_parts}
 use Rattle.gh_invariant.specs.Lives.{slot_fits}
@@ -64,7 +64,7 @@ look_stage (first ∷ needs) (one ∷ words) word slot need wants = by_reply (lo
 
 -- indices
 
-index_is : (next : ℕ) (places : List ObjIndex) (index : ℕ → ℕ) → AreIndexed next places index → (serial : ℕ) → 0 < serial → serial < next
+pub index_is : (next : ℕ) (places : List ObjIndex) (index : ℕ → ℕ) → AreIndexed next places index → (serial : ℕ) → 0 < serial → serial < next
     → index_in places serial ≡ index serial
 index_is next places index are serial some made = by_found (slice_get places (serial - 1)) (are serial some made)
   where

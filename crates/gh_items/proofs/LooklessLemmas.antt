@@ -4,14 +4,14 @@ use Rattle.std.specs.Prelude.{nat_lt}
 use Rattle.gh_base.specs.declared.call.Call.{Call}
 use Rattle.gh_base.specs.declared.call.Call.TheVariants as calls
 use Rattle.gh_base.specs.declared.limits.TheConstants.{CPUS}
-use Rattle.gh_core.specs.CallEvents.{begun, has_needs}
-use Rattle.gh_core.specs.Config.{AtAct, Config, Cpu, Current, Pin}
-use Rattle.gh_core.specs.Items.{sweeps}
+use Rattle.gh_events.specs.CallEvents.{begun, has_needs}
+use Rattle.gh_events.specs.Config.{AtAct, Config, Cpu, Current, Pin}
+use Rattle.gh_schedules.specs.Items.{sweeps}
 use Rattle.gh_core.specs.Running.{given_of}
-use Rattle.gh_core.specs.Start.{MayGive, given as given_next, with_next}
-use Rattle.gh_core.specs.TurnEvents.{call_at_act, ready, taken}
+use Rattle.gh_events.specs.Start.{MayGive, given as given_next, with_next}
+use Rattle.gh_events.specs.TurnEvents.{call_at_act, ready, taken}
 use Rattle.gh_core.specs.declared.current.GivenCall.{GivenCall}
-use Rattle.gh_core.proofs.Finding.{put_here, put_other}
+use Rattle.gh_events.proofs.Finding.{put_here, put_other}
 use Rattle.gh_items.specs.Acts.{lookless_call}
 use Rattle.gh_items.specs.Stands.{SeatStands, Stands, with_call}
 use Rattle.gh_items.specs.declared.progress.Progress.{Progress}

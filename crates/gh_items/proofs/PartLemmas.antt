@@ -8,20 +8,20 @@ use Rattle.gh_base.specs.declared.call.Call.TheVariants as calls
 use Rattle.gh_base.specs.declared.errno.Errno.{Errno}
 use Rattle.gh_base.specs.declared.errno.Errno.TheVariants as errno
 use Rattle.gh_base.specs.declared.limits.TheConstants.{CPUS, HISTORY_ENTRIES}
-use Rattle.gh_core.specs.Committing.{committing}
-use Rattle.gh_core.specs.Config.{Config, Current, judged, present}
-use Rattle.gh_core.specs.Entries.{logged, makes_object, next_state}
-use Rattle.gh_core.specs.Items.{goes_on, next_part, object_revoked, part, part_at, part_by, part_of}
+use Rattle.gh_schedules.specs.Committing.{committing}
+use Rattle.gh_events.specs.Config.{Config, Current, judged, present}
+use Rattle.gh_events.specs.Entries.{logged, makes_object, next_state}
+use Rattle.gh_schedules.specs.Items.{goes_on, next_part, object_revoked, part, part_at, part_by, part_of}
 use Rattle.gh_core.specs.Running.{current_of, seen_of}
-use Rattle.gh_core.specs.Sound.{IsSound}
-use Rattle.gh_core.specs.Trace.{after_all}
+use Rattle.gh_events.specs.Sound.{IsSound}
+use Rattle.gh_schedules.specs.Trace.{after_all}
 use Rattle.gh_core.specs.declared.current.CurrentCall.{CurrentCall}
 use Rattle.gh_core.specs.declared.current.SeenLook.{SeenLook}
-use Rattle.gh_core.specs.declared.event.Event.{Event}
-use Rattle.gh_core.proofs.EntryReferences.{MakesNone, Objects, event_objects}
-use Rattle.gh_core.proofs.LengthBound.{history_is_short}
-use Rattle.gh_core.proofs.LookCalls.{entries_all}
-use Rattle.gh_core.proofs.Revokes.{NextPart, next_is}
+use Rattle.gh_events.specs.declared.event.Event.{Event}
+use Rattle.gh_schedules.proofs.EntryReferences.{MakesNone, Objects, event_objects}
+use Rattle.gh_events.proofs.LengthBound.{history_is_short}
+use Rattle.gh_events.proofs.LookCalls.{entries_all}
+use Rattle.gh_schedules.proofs.Revokes.{NextPart, next_is}
 use Rattle.gh_invariant.specs.Lives.{lives}
 use Rattle.gh_items.specs.Parts.{is_unfinished, part_row, with_part}
 use Rattle.gh_items.specs.Stands.{Stands, with_call}

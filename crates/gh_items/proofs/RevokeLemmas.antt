@@ -3,16 +3,16 @@ use Rattle.std.proofs.Common.{◌≡◌, ◌+◌, ◌≤◌, ◌∙◌, ℕ, zer
 use Rattle.std.specs.Prelude.{count_by}
 use Rattle.gh_base.specs.declared.call.Call.{Call}
 use Rattle.gh_base.specs.declared.call.Call.TheVariants as calls
-use Rattle.gh_core.specs.Config.{Config, Current}
-use Rattle.gh_core.specs.Items.{part, parts, preparing, prepares, sweeps, taking}
-use Rattle.gh_core.specs.Sound.{IsSound}
-use Rattle.gh_core.specs.Sweep.{sweep}
-use Rattle.gh_core.specs.Trace.{AreDone, after_all, and_then}
-use Rattle.gh_core.specs.TurnEvents.{taken}
-use Rattle.gh_core.specs.Events.{after}
-use Rattle.gh_core.specs.declared.event.Event.{Event}
-use Rattle.gh_core.proofs.TraceLaws.{after_append, done_append}
-use Rattle.gh_core.proofs.TraceSound.{trace_keeps_sound}
+use Rattle.gh_events.specs.Config.{Config, Current}
+use Rattle.gh_schedules.specs.Items.{part, parts, preparing, prepares, sweeps, taking}
+use Rattle.gh_events.specs.Sound.{IsSound}
+use Rattle.gh_schedules.specs.Sweep.{sweep}
+use Rattle.gh_schedules.specs.Trace.{AreDone, after_all, and_then}
+use Rattle.gh_events.specs.TurnEvents.{taken}
+use Rattle.gh_events.specs.Events.{after}
+use Rattle.gh_events.specs.declared.event.Event.{Event}
+use Rattle.gh_schedules.proofs.TraceLaws.{after_append, done_append}
+use Rattle.gh_schedules.proofs.TraceSound.{trace_keeps_sound}
 use Rattle.gh_invariant.proofs.Counting.{count_cons, one_false, one_true}
 use Rattle.gh_items.specs.Acts.{ActsNext, judged_in}
 use Rattle.gh_items.specs.Parts.{all_parts}
@@ -30,7 +30,7 @@ counted_plain p (x ∷ xs) = by_kept (p x) refl (counted_plain p xs)
     by_kept false is rest = omega (arith, count_cons p x xs, one_false (p x) is, rest)
 
 -- what is done in front, and what behind it
-done_parts : (conf : Config) (first second : List Event) → AreDone conf (first ++ second)
+pub done_parts : (conf : Config) (first second : List Event) → AreDone conf (first ++ second)
     → AreDone conf first × AreDone (after_all conf first) second
 done_parts conf [] second done = (tt, done)
 done_parts conf (event ∷ first) second done =

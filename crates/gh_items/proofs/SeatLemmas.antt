@@ -6,8 +6,8 @@ use Rattle.std.proofs.lemmas.Bool.{ne_eqb}
 use Rattle.std.proofs.lemmas.List.{get_or-set_same, length-set}
 use Rattle.std.proofs.lemmas.Option.{slice_get-get_or}
 use Rattle.gh_base.specs.declared.limits.TheConstants.{CPUS}
-use Rattle.gh_core.specs.CallEvents.{at_stage}
-use Rattle.gh_core.specs.Config.{Config, Cpu, Pin}
+use Rattle.gh_events.specs.CallEvents.{at_stage}
+use Rattle.gh_events.specs.Config.{Config, Cpu, Pin}
 use Rattle.gh_core.specs.Running.{current_of, stage_of}
 use Rattle.gh_core.specs.declared.current.CallStage.{CallStage}
 use Rattle.gh_core.specs.declared.current.CurrentCall.{CurrentCall}
@@ -15,7 +15,7 @@ use Rattle.gh_items.specs.Stands.{SeatStands, Stands, with_call}
 use Rattle.gh_items.specs.declared.progress.Progress.{Progress}
 use Rattle.gh_items.specs.declared.progress.Seat.{Seat}
 use Rattle.gh_model.specs.Marks.{cspace_of}
-use Rattle.gh_model.proofs.RunWhole.{set_cases}
+use Rattle.gh_model.proofs.RunLists.{set_cases}
 
 -- an item that was put
 
@@ -34,6 +34,12 @@ set_twice : {X : Type 0} (xs : List X) (at : ℕ) (x y : X) → slice_set (slice
 set_twice [] at x y = refl
 set_twice (z ∷ xs) zero x y = refl
 set_twice (z ∷ xs) (suc at) x y = ap (λ (others : List _). z ∷ others) (set_twice xs at x y)
+
+-- an item that was there is put back
+pub set_back : {X : Type 0} (xs : List X) (at : ℕ) (x y : X) → slice_get xs at ≡ Some x → xs ≡ slice_set (slice_set xs at y) at x
+set_back [] at x y is = refl
+set_back (z ∷ xs) zero x y is = ap (λ (w : _). w ∷ xs) (let same : z ≡ x = cc in same)
+set_back (z ∷ xs) (suc at) x y is = ap (λ (others : List _). z ∷ others) (set_back xs at x y is)
 
 pub put_twice : (progress : Progress) (at : ℕ) (call later : Option CurrentCall)
     → with_call (with_call progress at call) at later ≡ with_call progress at later

@@ -3,17 +3,17 @@ use Rattle.std.proofs.Common.{◌≡◌, ◌<◌, ◌∙◌, ℕ, Bool, true, fa
 use Rattle.std.specs.List.{last_or}
 use Rattle.std.specs.Option.{option_map_or}
 use Rattle.gh_base.specs.declared.limits.TheConstants.{CPUS}
-use Rattle.gh_core.specs.CallEvents.{after_leave, at_stage as staged, left, pin_of_call, pinned, undone, with_left, with_pin}
-use Rattle.gh_core.specs.Config.{Config, Current, DeadPin, Reading, Undone, is_killed, present, seen_index}
-use Rattle.gh_core.specs.References.{IsGranted, IsRow, grants_at}
+use Rattle.gh_events.specs.CallEvents.{after_leave, at_stage as staged, left, pin_of_call, pinned, undone, with_left, with_pin}
+use Rattle.gh_events.specs.Config.{Config, Current, DeadPin, Reading, Undone, is_killed, present, seen_index}
+use Rattle.gh_events.specs.References.{IsGranted, IsRow, grants_at}
 use Rattle.gh_core.specs.Running.{current_of, seen_of, stage_of}
-use Rattle.gh_core.specs.Sound.{IsSound}
+use Rattle.gh_events.specs.Sound.{IsSound}
 use Rattle.gh_core.specs.declared.current.CallStage.{CallStage}
 use Rattle.gh_core.specs.declared.current.CallStage.TheVariants as stages
 use Rattle.gh_core.specs.declared.current.CurrentCall.{CurrentCall}
 use Rattle.gh_core.specs.declared.current.SeenLook.{SeenLook}
-use Rattle.gh_core.proofs.Finding.{put_here, put_other}
-use Rattle.gh_core.proofs.Living.{LivesAt, lives_there}
+use Rattle.gh_events.proofs.Finding.{put_here, put_other}
+use Rattle.gh_events.proofs.Living.{LivesAt, lives_there}
 use Rattle.gh_items.specs.Stands.{Stands, at_stage, pin_stage, with_call}
 use Rattle.gh_items.specs.declared.progress.Progress.{Progress}
 use Rattle.gh_items.proofs.SeatLemmas.{current_is, stage_stands}

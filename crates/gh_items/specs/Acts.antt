@@ -2,11 +2,11 @@
 use Rattle.std.specs.Prelude.{◌≡◌, ◌<◌, ℕ, [], ◌∷◌, ◌++◌, Some}
 use Rattle.gh_base.specs.declared.limits.TheConstants.{CPUS}
 use Rattle.gh_base.specs.declared.mark.End.TheVariants as ends
-use Rattle.gh_core.specs.Committing.{cpu_no}
-use Rattle.gh_core.specs.Config.{Config, Current}
-use Rattle.gh_core.specs.Items.{IsSteady, acting, freeing, preparing, taking, unpins}
-use Rattle.gh_core.specs.Trace.{after_all, and_then}
-use Rattle.gh_core.specs.TurnEvents.{ready}
+use Rattle.gh_schedules.specs.Committing.{cpu_no}
+use Rattle.gh_events.specs.Config.{Config, Current}
+use Rattle.gh_schedules.specs.Items.{IsSteady, acting, freeing, preparing, taking, unpins}
+use Rattle.gh_schedules.specs.Trace.{after_all, and_then}
+use Rattle.gh_events.specs.TurnEvents.{ready}
 use Rattle.gh_core.specs.declared.current.CallStage.TheVariants as stages
 use Rattle.gh_core.specs.declared.current.CurrentCall.{CurrentCall}
 use Rattle.gh_core.specs.declared.current.GivenCall.{GivenCall}

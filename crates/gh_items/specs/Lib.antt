@@ -1,3 +1,9 @@
 pub mod Acts
+pub mod Beginning
+pub mod Calling
+pub mod NewIndex
 pub mod Parts
 pub mod Stands
+pub mod SweepReads
+pub mod Sweeps
+pub mod Swept

@@ -1,11 +1,11 @@
 -- The parts of a call that revokes the capabilities of an object one slot after another, on a run's
 -- progress.
 use Rattle.std.specs.Prelude.{ℕ, Bool, true, false, List, length, Option, None, if◌then◌else◌}
-use Rattle.gh_core.specs.Committing.{cpu_no}
-use Rattle.gh_core.specs.Config.{Config, Current, judged, present}
-use Rattle.gh_core.specs.Items.{goes_on, next_part, object_revoked, parts, plain_caps}
-use Rattle.gh_core.specs.Sound.{IsSound}
-use Rattle.gh_core.specs.declared.event.Event.{Event}
+use Rattle.gh_schedules.specs.Committing.{cpu_no}
+use Rattle.gh_events.specs.Config.{Config, Current, judged, present}
+use Rattle.gh_schedules.specs.Items.{goes_on, next_part, object_revoked, parts, plain_caps}
+use Rattle.gh_events.specs.Sound.{IsSound}
+use Rattle.gh_events.specs.declared.event.Event.{Event}
 use Rattle.gh_items.specs.Acts.{in_state, with_entry}
 use Rattle.gh_items.specs.Stands.{Stands}
 use Rattle.gh_items.specs.declared.progress.Progress.{Progress}

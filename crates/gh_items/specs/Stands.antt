@@ -15,8 +15,8 @@ use Rattle.gh_base.specs.declared.limits.TheConstants.{CPUS, OBJECT_INDICES}
 use Rattle.gh_base.specs.declared.mark.End.{End}
 use Rattle.gh_base.specs.declared.mark.End.TheVariants as ends
 use Rattle.gh_base.specs.declared.mark.Mark.{Mark}
-use Rattle.gh_core.specs.CallEvents.{finished}
-use Rattle.gh_core.specs.Config.{Config, Cpu, present}
+use Rattle.gh_events.specs.CallEvents.{finished}
+use Rattle.gh_events.specs.Config.{Config, Cpu, present}
 use Rattle.gh_core.specs.Running.{current_of, seen_of}
 use Rattle.gh_core.specs.declared.current.CallStage.{CallStage}
 use Rattle.gh_core.specs.declared.current.CallStage.TheVariants as stages

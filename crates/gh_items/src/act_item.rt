@@ -1,15 +1,16 @@
 //! The item of a call that is its act.
 
 ghost use Rattle.std.specs.Prelude.{◌≡◌, ◌+◌, ◌<◌, length, false, true, Ok, OnOk, Some};
-ghost use Rattle.gh_core.specs.CallEvents.{has_needs};
-ghost use Rattle.gh_core.specs.Config.{Config};
-ghost use Rattle.gh_core.specs.Items.{act, sweeps};
+ghost use Rattle.gh_events.specs.CallEvents.{has_needs};
+ghost use Rattle.gh_events.specs.Config.{Config};
+ghost use Rattle.gh_schedules.specs.Items.{act, sweeps};
 ghost use Rattle.gh_core.specs.Running.{current_of, given_of};
-ghost use Rattle.gh_core.specs.Start.{MayGive, given as given_next};
-ghost use Rattle.gh_core.specs.Trace.{after_all};
-ghost use Rattle.gh_core.specs.TurnEvents.{taken};
+ghost use Rattle.gh_events.specs.Start.{MayGive, given as given_next};
+ghost use Rattle.gh_schedules.specs.Trace.{after_all};
+ghost use Rattle.gh_events.specs.TurnEvents.{taken};
 ghost use Rattle.gh_core.specs.declared.current.CallStage.TheVariants.{AtAct};
 ghost use Rattle.gh_items.specs.Acts.{ActsNext, judged_in, lookless_call, with_judged};
+ghost use Rattle.gh_items.specs.Calling.{AddsMark};
 ghost use Rattle.gh_items.specs.Stands.{Stands, with_call};
 ghost use Rattle.gh_model.specs.Legal.{is_revoke};
 ghost use Rattle.gh_model.specs.Registers.{call_of};
@@ -18,6 +19,7 @@ use crate::end::end_call;
 use crate::judge::judge;
 use crate::parts::make_all_parts;
 use crate::progress::{Progress, Seat, seat_of};
+use crate::swept_act::swept_act;
 use gh_base::{BoundedSequence, Call, CpuNo, End, NoMemory};
 use gh_core::{CallStage, CurrentCall, GivenCall};
 use gh_model::{Entry, Judged};
@@ -65,7 +67,8 @@ fn judged_act(
     requires stands { Stands (with_call progress.old cpu.0 (Some call)) (judged_in conf cpu.0) }
     requires next { ActsNext conf cpu.0 (current_of call) }
     requires unswept { sweeps call.given.call ≡ false }
-    ensures { OnOk result (Stands progress.new (after_all conf (act cpu.0 conf))) }
+    ensures stands { OnOk result (Stands progress.new (after_all conf (act cpu.0 conf))) }
+    ensures marks { OnOk result (AddsMark progress.old.marks progress.new.marks) }
 {
     let seat = seat_of(progress, cpu);
     let judged = judge(progress, alloc, cpu, &call)?;
@@ -84,7 +87,8 @@ fn plain_act(
     requires next { ActsNext conf cpu.0 (current_of call) }
     requires unswept { sweeps call.given.call ≡ false }
     requires other { is_revoke call.given.call ≡ false }
-    ensures { OnOk result (Stands progress.new (after_all conf (act cpu.0 conf))) }
+    ensures stands { OnOk result (Stands progress.new (after_all conf (act cpu.0 conf))) }
+    ensures marks { OnOk result (AddsMark progress.old.marks progress.new.marks) }
 {
     judged_act(progress, alloc, cpu, call)
 }
@@ -101,7 +105,8 @@ fn revoke_act(
     requires stands { Stands (with_call progress.old cpu.0 (Some call)) (taken conf cpu.0) }
     requires next { ActsNext conf cpu.0 (current_of call) }
     requires revokes { is_revoke call.given.call ≡ true }
-    ensures { OnOk result (Stands progress.new (after_all conf (act cpu.0 conf))) }
+    ensures stands { OnOk result (Stands progress.new (after_all conf (act cpu.0 conf))) }
+    ensures marks { OnOk result (AddsMark progress.old.marks progress.new.marks) }
 {
     make_all_parts(progress, alloc, cpu, &call)?;
     judged_act(progress, alloc, cpu, call)
@@ -115,7 +120,7 @@ fn is_revoke(call: &Call) -> bool
 }
 
 /// The act of a call that doesn't sweep, and begins with its turn.
-pub(crate) fn unswept_act(
+fn unswept_act(
     progress: &mut Progress,
     alloc: Global,
     cpu: CpuNo,
@@ -125,7 +130,8 @@ pub(crate) fn unswept_act(
     requires stands { Stands (with_call progress.old cpu.0 (Some call)) (taken conf cpu.0) }
     requires next { ActsNext conf cpu.0 (current_of call) }
     requires unswept { sweeps call.given.call ≡ false }
-    ensures { OnOk result (Stands progress.new (after_all conf (act cpu.0 conf))) }
+    ensures stands { OnOk result (Stands progress.new (after_all conf (act cpu.0 conf))) }
+    ensures marks { OnOk result (AddsMark progress.old.marks progress.new.marks) }
 {
     if is_revoke(&call.given.call) {
         revoke_act(progress, alloc, cpu, call)
@@ -134,8 +140,18 @@ pub(crate) fn unswept_act(
     }
 }
 
-/// The act of a call in progress that doesn't sweep.
-pub(crate) fn unswept_act_item(
+/// Whether the call sweeps before its act.
+fn sweeps(call: &Call) -> bool
+    ensures { result ≡ sweeps call.now }
+{
+    matches!(
+        call,
+        Call::Create { .. } | Call::ConfigurePartition { .. } | Call::ConfigureQueue { .. }
+    )
+}
+
+/// The act of a call in progress.
+pub(crate) fn act_item(
     progress: &mut Progress,
     alloc: Global,
     cpu: CpuNo,
@@ -145,10 +161,14 @@ pub(crate) fn unswept_act_item(
     requires stands { Stands (with_call progress.old cpu.0 (Some call)) conf }
     requires next { ActsNext conf cpu.0 (current_of call) }
     requires acts { call.stage ≡ AtAct }
-    requires unswept { sweeps call.given.call ≡ false }
-    ensures { OnOk result (Stands progress.new (after_all conf (act cpu.0 conf))) }
+    ensures stands { OnOk result (Stands progress.new (after_all conf (act cpu.0 conf))) }
+    ensures marks { OnOk result (AddsMark progress.old.marks progress.new.marks) }
 {
-    unswept_act(progress, alloc, cpu, call)
+    if sweeps(&call.given.call) {
+        swept_act(progress, alloc, cpu, call)
+    } else {
+        unswept_act(progress, alloc, cpu, call)
+    }
 }
 
 /// A call without looks at its begin.
@@ -177,9 +197,10 @@ pub(crate) fn lookless_act(
     requires lookless { has_needs (given_of given) ≡ false }
     requires next { ActsNext (given_next conf cpu.0 given.number given.frame) cpu.0
         (current_of (lookless_call given)) }
-    ensures { OnOk result (Stands progress.new
+    ensures stands { OnOk result (Stands progress.new
         (after_all (given_next conf cpu.0 given.number given.frame)
         (act cpu.0 (given_next conf cpu.0 given.number given.frame)))) }
+    ensures marks { OnOk result (AddsMark progress.old.marks progress.new.marks) }
 {
     let call = lookless_call(given);
     unswept_act(progress, alloc, cpu, call)

@@ -2,8 +2,9 @@
 
 ghost use Rattle.std.specs.Prelude.{◌≡◌, ◌+◌, ◌<◌, length, Err, OnOk};
 ghost use Rattle.gh_base.specs.declared.limits.TheConstants.{CPUS};
-ghost use Rattle.gh_core.specs.Config.{Config};
-ghost use Rattle.gh_core.specs.Start.{MayGive, given};
+ghost use Rattle.gh_events.specs.Config.{Config};
+ghost use Rattle.gh_events.specs.Start.{MayGive, given};
+ghost use Rattle.gh_items.specs.Calling.{AddsMark};
 ghost use Rattle.gh_items.specs.Stands.{Stands, frame_mark, seat_refused, with_refused};
 ghost use Rattle.gh_model.specs.Registers.{call_of};
 
@@ -57,7 +58,7 @@ fn end_frame(
 }
 
 /// The CPU is given a call whose frame is refused, which ends it.
-pub fn refuse_frame(
+pub(crate) fn refuse_frame(
     progress: &mut Progress,
     cpu: CpuNo,
     number: u32,
@@ -69,7 +70,8 @@ pub fn refuse_frame(
     requires within { cpu.0 < CPUS }
     requires may { MayGive conf cpu.0 number }
     requires refused { call_of frame.now ≡ Err errno }
-    ensures { OnOk result (Stands progress.new (given conf cpu.0 number frame.now)) }
+    ensures stands { OnOk result (Stands progress.new (given conf cpu.0 number frame.now)) }
+    ensures marks { OnOk result (AddsMark progress.old.marks progress.new.marks) }
 {
     let seat = seat_of(progress, cpu);
     end_frame(progress, cpu, seat, number, frame, errno)

@@ -2,7 +2,7 @@
 
 ghost use Rattle.std.specs.Prelude.{◌≡◌, ◌<◌, ◌≤◌, length, map, IfOk};
 ghost use Rattle.gh_base.specs.declared.limits.TheConstants.{HISTORY_ENTRIES};
-ghost use Rattle.gh_core.specs.Config.{judged};
+ghost use Rattle.gh_events.specs.Config.{judged};
 ghost use Rattle.gh_core.specs.Running.{current_of, seen_of};
 ghost use Rattle.gh_items.specs.Acts.{in_state};
 ghost use Rattle.gh_model.specs.Act.{Judges, grants_of};

@@ -2,12 +2,13 @@
 
 ghost use Rattle.std.specs.Prelude.{◌≡◌, ◌<◌, ◌⊎◌, OnOk, Some};
 ghost use Rattle.gh_base.specs.declared.limits.TheConstants.{CPUS};
-ghost use Rattle.gh_core.specs.CallEvents.{end_of_looks, reply_of_looks};
-ghost use Rattle.gh_core.specs.Config.{Config, Failed, Undone, came_to};
-ghost use Rattle.gh_core.specs.Items.{leave_ended};
+ghost use Rattle.gh_events.specs.CallEvents.{end_of_looks, reply_of_looks};
+ghost use Rattle.gh_events.specs.Config.{Config, Failed, Undone, came_to};
+ghost use Rattle.gh_schedules.specs.Items.{leave_ended};
 ghost use Rattle.gh_core.specs.Running.{current_of, stage_of};
-ghost use Rattle.gh_core.specs.Sound.{IsSound};
-ghost use Rattle.gh_core.specs.Trace.{after_all};
+ghost use Rattle.gh_events.specs.Sound.{IsSound};
+ghost use Rattle.gh_schedules.specs.Trace.{after_all};
+ghost use Rattle.gh_items.specs.Calling.{AddsMark};
 ghost use Rattle.gh_items.specs.Stands.{Stands, with_call};
 
 use crate::end::end_call;
@@ -31,7 +32,9 @@ pub(crate) fn leave_ended(
     requires ended { (stage_of call.stage ≡ Undone) ⊎ (stage_of call.stage ≡ Failed) }
     requires its_end { end ≡ end_of_looks (came_to (current_of call)) }
     requires its_reply { reply ≡ reply_of_looks (came_to (current_of call)) }
-    ensures { OnOk result (Stands progress.new (after_all conf (leave_ended cpu.0 conf))) }
+    ensures stands { OnOk result
+        (Stands progress.new (after_all conf (leave_ended cpu.0 conf))) }
+    ensures marks { OnOk result (AddsMark progress.old.marks progress.new.marks) }
 {
     let seat = seat_of(progress, cpu);
     end_call(progress, cpu, seat, call, end, reply)

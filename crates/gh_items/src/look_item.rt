@@ -2,11 +2,11 @@
 
 ghost use Rattle.std.specs.Prelude.{◌≡◌, ◌<◌, ◌≤◌, length, map, Some};
 ghost use Rattle.gh_base.specs.declared.limits.TheConstants.{CPUS, OBJECT_INDICES};
-ghost use Rattle.gh_core.specs.CallEvents.{looked};
-ghost use Rattle.gh_core.specs.Config.{Config, came_to};
-ghost use Rattle.gh_core.specs.Entries.{shown};
+ghost use Rattle.gh_events.specs.CallEvents.{looked};
+ghost use Rattle.gh_events.specs.Config.{Config, came_to};
+ghost use Rattle.gh_events.specs.Entries.{shown};
 ghost use Rattle.gh_core.specs.Running.{current_of, seen_of};
-ghost use Rattle.gh_core.specs.Sound.{IsSound};
+ghost use Rattle.gh_events.specs.Sound.{IsSound};
 ghost use Rattle.gh_core.specs.declared.current.CallStage.TheVariants.{Reading};
 ghost use Rattle.gh_items.specs.Stands.{IsNamed, Stands, index_in, looked_call, stage_by, with_call};
 ghost use Rattle.gh_model.specs.Marks.{Wants, place_after_looks};
@@ -87,7 +87,8 @@ pub(crate) fn look(progress: &mut Progress, cpu: CpuNo, call: CurrentCall, slot:
     requires reading { call.stage ≡ Reading }
     requires asked { came_to (current_of call) ≡ Wants slot need }
     requires room { length call.seen < 2 }
-    ensures { Stands progress.new (looked conf cpu.0 slot) }
+    ensures stands { Stands progress.new (looked conf cpu.0 slot) }
+    ensures marks { progress.new.marks ≡ progress.old.marks }
 {
     let seat = seat_of(progress, cpu);
     let word = progress.plain.word(seat.cspace, slot);

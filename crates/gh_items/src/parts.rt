@@ -2,12 +2,12 @@
 
 ghost use Rattle.std.specs.Prelude.{◌≡◌, ◌<◌, length, drop, filter, find, if◌then◌else◌, map, true, false, IfOk, OnOk, Some, None};
 ghost use Rattle.gh_base.specs.declared.limits.TheConstants.{CPUS, HISTORY_ENTRIES};
-ghost use Rattle.gh_core.specs.Config.{Config, judged};
-ghost use Rattle.gh_core.specs.Entries.{is_before, is_plain_of};
-ghost use Rattle.gh_core.specs.Items.{goes_on, least, lesser, object_revoked, part, parts};
+ghost use Rattle.gh_events.specs.Config.{Config, judged};
+ghost use Rattle.gh_events.specs.Entries.{is_before, is_plain_of};
+ghost use Rattle.gh_schedules.specs.Items.{goes_on, least, lesser, object_revoked, part, parts};
 ghost use Rattle.gh_core.specs.Running.{current_of};
-ghost use Rattle.gh_core.specs.Sound.{IsSound};
-ghost use Rattle.gh_core.specs.Trace.{AreDone, after_all};
+ghost use Rattle.gh_events.specs.Sound.{IsSound};
+ghost use Rattle.gh_schedules.specs.Trace.{AreDone, after_all};
 ghost use Rattle.gh_items.specs.Parts.{StandsSoundly, all_parts, is_unfinished, part_row, with_part};
 ghost use Rattle.gh_items.specs.Stands.{Stands, with_call};
 ghost use Rattle.gh_model.specs.History.{may_part};
@@ -183,9 +183,10 @@ fn part(
     requires stands { StandsSoundly (with_call progress.old cpu.0 (Some call.now)) }
     requires within { cpu.0 < CPUS }
     requires revokes { is_revoke call.now.given.call ≡ true }
-    ensures { (conf : Config) → Stands (with_call progress.old cpu.0 (Some call.now)) conf
+    ensures stands { (conf : Config) → Stands (with_call progress.old cpu.0 (Some call.now)) conf
         → IsSound conf → OnOk result
         (Stands (with_call progress.new cpu.0 (Some call.now)) (after_all conf (part cpu.0 conf))) }
+    ensures marks { OnOk result (progress.new.marks ≡ progress.old.marks) }
 {
     match part_row(progress, alloc, cpu, call)? {
         None => Ok(()),
@@ -215,8 +216,9 @@ fn make_parts(
     requires within { cpu.0 < CPUS }
     requires revokes { is_revoke call.now.given.call ≡ true }
     requires done { AreDone conf (parts cpu.0 count conf) }
-    ensures { OnOk result (Stands (with_call progress.new cpu.0 (Some call.now))
+    ensures stands { OnOk result (Stands (with_call progress.new cpu.0 (Some call.now))
         (after_all conf (parts cpu.0 count conf))) }
+    ensures marks { OnOk result (progress.new.marks ≡ progress.old.marks) }
 {
     for made in 0..count {
         part(progress, alloc, cpu, call)?;
@@ -237,8 +239,9 @@ pub(crate) fn make_all_parts(
     requires within { cpu.0 < CPUS }
     requires revokes { is_revoke call.now.given.call ≡ true }
     requires done { AreDone conf (all_parts cpu.0 (current_of call.now) conf) }
-    ensures { OnOk result (Stands (with_call progress.new cpu.0 (Some call.now))
+    ensures stands { OnOk result (Stands (with_call progress.new cpu.0 (Some call.now))
         (after_all conf (all_parts cpu.0 (current_of call.now) conf))) }
+    ensures marks { OnOk result (progress.new.marks ≡ progress.old.marks) }
 {
     let state = progress.plain.state();
     let count = plain_count(state.caps.as_slice(), object_revoked(call));

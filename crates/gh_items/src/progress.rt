@@ -1,6 +1,6 @@
 //! How far a run has come.
 
-ghost use Rattle.std.specs.Prelude.{◌≡◌, ◌<◌, length, slice_get, Some};
+ghost use Rattle.std.specs.Prelude.{◌≡◌, ◌<◌, length, slice_get, None, Some};
 ghost use Rattle.gh_items.specs.Stands.{with_call};
 
 use gh_base::{CpuNo, Mark, ObjIndex, Sequence, Serial};
@@ -53,4 +53,13 @@ pub(crate) fn put_call(progress: &mut Progress, cpu: CpuNo, call: CurrentCall)
     ensures { progress.new ≡ with_call progress.old cpu.0 (Some call) }
 {
     progress.calls.set(cpu.0 as usize, Some(call));
+}
+
+/// The call of a CPU that is in progress is taken out.
+pub(crate) fn take_call(progress: &mut Progress, cpu: CpuNo) -> Option<CurrentCall>
+    requires { cpu.0 < length progress.old.calls }
+    ensures taken { progress.new ≡ with_call progress.old cpu.0 None }
+    ensures back { progress.old ≡ with_call progress.new cpu.0 result }
+{
+    progress.calls.as_mut_slice()[cpu.0 as usize].take()
 }

@@ -3,13 +3,14 @@
 ghost use Rattle.std.specs.Prelude.{◌≡◌, ◌≢◌, ◌<◌, ◌⊎◌, map, None, OnOk, Some, slice_get};
 ghost use Rattle.std.specs.List.{last_or};
 ghost use Rattle.gh_base.specs.declared.limits.TheConstants.{CPUS};
-ghost use Rattle.gh_core.specs.CallEvents.{end_of_looks, reply_of_looks};
-ghost use Rattle.gh_core.specs.Config.{Config};
+ghost use Rattle.gh_events.specs.CallEvents.{end_of_looks, reply_of_looks};
+ghost use Rattle.gh_events.specs.Config.{Config};
 ghost use Rattle.gh_core.specs.declared.current.CallStage.TheVariants.{AtAct, DeadPin, Failed, Looked, Reading, Undone};
-ghost use Rattle.gh_core.specs.Items.{item};
+ghost use Rattle.gh_schedules.specs.Items.{item};
 ghost use Rattle.gh_core.specs.Running.{came_of, stage_of};
-ghost use Rattle.gh_core.specs.Sound.{IsSound};
-ghost use Rattle.gh_core.specs.Trace.{after_all};
+ghost use Rattle.gh_events.specs.Sound.{IsSound};
+ghost use Rattle.gh_schedules.specs.Trace.{after_all};
+ghost use Rattle.gh_items.specs.Calling.{AddsMark};
 ghost use Rattle.gh_items.specs.Stands.{Stands, with_call};
 
 use crate::leave_item::leave_ended;
@@ -52,7 +53,8 @@ fn read(progress: &mut Progress, cpu: CpuNo, call: CurrentCall)
     requires sound { IsSound conf }
     requires within { cpu.0 < CPUS }
     requires reading { call.stage ≡ Reading }
-    ensures { Stands progress.new (after_all conf (item conf cpu.0)) }
+    ensures stands { Stands progress.new (after_all conf (item conf cpu.0)) }
+    ensures marks { progress.new.marks ≡ progress.old.marks }
 {
     match call.came_to() {
         Came::Wants { slot, need } => look(progress, cpu, call, slot, need),
@@ -69,7 +71,8 @@ fn pin_last(progress: &mut Progress, cpu: CpuNo, call: CurrentCall)
     requires within { cpu.0 < CPUS }
     requires free { conf.turn ≡ None }
     requires looked { call.stage ≡ Looked }
-    ensures { Stands progress.new (after_all conf (item conf cpu.0)) }
+    ensures stands { Stands progress.new (after_all conf (item conf cpu.0)) }
+    ensures marks { progress.new.marks ≡ progress.old.marks }
 {
     match last_look(&call) {
         None => put_call(progress, cpu, call),
@@ -83,7 +86,8 @@ fn undo_last(progress: &mut Progress, cpu: CpuNo, call: CurrentCall)
     requires stands { Stands (with_call progress.old cpu.0 (Some call)) conf }
     requires within { cpu.0 < CPUS }
     requires dead { call.stage ≡ DeadPin }
-    ensures { Stands progress.new (after_all conf (item conf cpu.0)) }
+    ensures stands { Stands progress.new (after_all conf (item conf cpu.0)) }
+    ensures marks { progress.new.marks ≡ progress.old.marks }
 {
     match last_look(&call) {
         None => put_call(progress, cpu, call),
@@ -98,21 +102,27 @@ fn end_of_section(progress: &mut Progress, cpu: CpuNo, call: CurrentCall) -> Res
     requires sound { IsSound conf }
     requires within { cpu.0 < CPUS }
     requires ended { (call.stage ≡ Undone) ⊎ (call.stage ≡ Failed) }
-    ensures { OnOk result (Stands progress.new (after_all conf (item conf cpu.0))) }
+    ensures stands { OnOk result (Stands progress.new (after_all conf (item conf cpu.0))) }
+    ensures marks { OnOk result (AddsMark progress.old.marks progress.new.marks) }
 {
     let came = call.came_to();
     leave_ended(progress, cpu, call, end_of(came), reply_of(came))
 }
 
 /// The next item of a call that isn't at its act.
-pub fn section_item(progress: &mut Progress, cpu: CpuNo, call: CurrentCall) -> Result<(), NoMemory>
+pub(crate) fn section_item(
+    progress: &mut Progress,
+    cpu: CpuNo,
+    call: CurrentCall,
+) -> Result<(), NoMemory>
     ghost conf: { Config }
     requires stands { Stands (with_call progress.old cpu.0 (Some call)) conf }
     requires sound { IsSound conf }
     requires within { cpu.0 < CPUS }
     requires free { conf.turn ≡ None }
     requires reads { call.stage ≢ AtAct }
-    ensures { OnOk result (Stands progress.new (after_all conf (item conf cpu.0))) }
+    ensures stands { OnOk result (Stands progress.new (after_all conf (item conf cpu.0))) }
+    ensures marks { OnOk result (AddsMark progress.old.marks progress.new.marks) }
 {
     match call.stage {
         CallStage::Reading => read(progress, cpu, call),

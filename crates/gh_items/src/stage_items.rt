@@ -4,10 +4,10 @@
 ghost use Rattle.std.specs.Prelude.{◌≡◌, ◌<◌, is_some, map, true, None, Some};
 ghost use Rattle.std.specs.List.{last_or};
 ghost use Rattle.gh_base.specs.declared.limits.TheConstants.{CPUS};
-ghost use Rattle.gh_core.specs.CallEvents.{left, pinned, undone};
-ghost use Rattle.gh_core.specs.Config.{Config, seen_index};
+ghost use Rattle.gh_events.specs.CallEvents.{left, pinned, undone};
+ghost use Rattle.gh_events.specs.Config.{Config, seen_index};
 ghost use Rattle.gh_core.specs.Running.{current_of, seen_of};
-ghost use Rattle.gh_core.specs.Sound.{IsSound};
+ghost use Rattle.gh_events.specs.Sound.{IsSound};
 ghost use Rattle.gh_core.specs.declared.current.CallStage.TheVariants.{DeadPin, Looked, Reading};
 ghost use Rattle.gh_items.specs.Stands.{Stands, at_stage, pin_stage, with_call};
 ghost use Rattle.gh_model.specs.Act.{granted};
@@ -57,7 +57,8 @@ pub(crate) fn pin(progress: &mut Progress, cpu: CpuNo, call: CurrentCall, last: 
     requires free { conf.turn ≡ None }
     requires looked { call.stage ≡ Looked }
     requires last { last_or None (map seen_of call.seen) ≡ Some (seen_of last) }
-    ensures { Stands progress.new (pinned conf cpu.0 (seen_index (seen_of last))) }
+    ensures stands { Stands progress.new (pinned conf cpu.0 (seen_index (seen_of last))) }
+    ensures marks { progress.new.marks ≡ progress.old.marks }
 {
     let dead = progress.plain.retired(granted(last.word)).is_some();
     let call = at_stage(call, pin_stage(dead));
@@ -69,7 +70,8 @@ pub(crate) fn undo(progress: &mut Progress, cpu: CpuNo, call: CurrentCall, last:
     ghost conf: { Config }
     requires stands { Stands (with_call progress.old cpu.0 (Some call)) conf }
     requires within { cpu.0 < CPUS }
-    ensures { Stands progress.new (undone conf cpu.0 (seen_index (seen_of last))) }
+    ensures stands { Stands progress.new (undone conf cpu.0 (seen_index (seen_of last))) }
+    ensures marks { progress.new.marks ≡ progress.old.marks }
 {
     let call = at_stage(call, CallStage::Undone);
     put_call(progress, cpu, call);
@@ -81,7 +83,8 @@ pub(crate) fn leave(progress: &mut Progress, cpu: CpuNo, call: CurrentCall)
     requires stands { Stands (with_call progress.old cpu.0 (Some call)) conf }
     requires within { cpu.0 < CPUS }
     requires reading { call.stage ≡ Reading }
-    ensures { Stands progress.new (left conf cpu.0) }
+    ensures stands { Stands progress.new (left conf cpu.0) }
+    ensures marks { progress.new.marks ≡ progress.old.marks }
 {
     let call = at_stage(call, CallStage::AtAct);
     put_call(progress, cpu, call);

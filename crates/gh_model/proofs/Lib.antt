@@ -1,11 +1,10 @@
 pub mod ActLemmas
+pub mod BootFresh
 pub mod BootLemmas
-pub mod CallsLemmas
 pub mod ChangedRows
 pub mod CpuRows
 pub mod DecideLemmas
 pub mod DecimalLaw
-pub mod Ends
 pub mod EntryLemmas
 pub mod FittingLemmas
 pub mod KeptLemmas
@@ -16,10 +15,7 @@ pub mod PieceLemmas
 pub mod ReadyLemmas
 pub mod RoomLemmas
 pub mod RowLemmas
-pub mod RunLaw
 pub mod RunLists
-pub mod RunSteps
-pub mod RunWhole
 pub mod Small
 pub mod Stays
 pub mod SumLemmas

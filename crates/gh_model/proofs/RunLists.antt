@@ -1,9 +1,9 @@
--- Lists that grow at their end.
-use Rattle.std.proofs.Common.{◌≡◌, ◌+◌, ◌<◌, ℕ, zero, suc, Bool, List, [], ◌∷◌, ◌++◌, ◌⊎◌, inl, inr, length, take, refl, subst, sym, ap, arith, Option, Some, slice_get, if◌then◌else◌}
+-- Lists that grow at their end, and lists of which one item is set.
+use Rattle.std.proofs.Common.{◌≡◌, ◌≢◌, ◌+◌, ◌<◌, ℕ, zero, suc, Bool, List, [], ◌∷◌, ◌++◌, ◌⊎◌, inl, inr, length, take, refl, subst, sym, ap, arith, Option, Some, slice_get, if◌then◌else◌}
 use Rattle.std.proofs.lemmas.List.{take-append-le}
 use Rattle.std.proofs.Math.Seq.{take-append_seam}
 use Rattle.std.proofs.lemmas.List.Sums.{fold-append}
-use Rattle.std.specs.Prelude.{count_by}
+use Rattle.std.specs.Prelude.{count_by, slice_set}
 use Rattle.std.specs.List.{last_or}
 use Rattle.gh_model.specs.Marks.{InTurn}
 
@@ -46,3 +46,13 @@ take_all (x ∷ xs) = ap (λ ys. x ∷ ys) (take_all xs)
 
 pub no_item : {X : Type 0} (i : ℕ) (x : X) → slice_get {X = X} [] i ≡ Some x → ⊥
 no_item i x is = cc
+
+-- an item of a list of which one was set: it is the one that was set, or was there
+pub set_cases : {X : Type 0} (xs : List X) (at i : ℕ) (x y z : X) → slice_get xs at ≡ Some x → slice_get (slice_set xs at y) i ≡ Some z → ((i ≡ at) × (y ≡ z)) ⊎ ((i ≢ at) × (slice_get xs i ≡ Some z))
+set_cases [] at i x y z here is = absurd (no_item at x here)
+set_cases (w ∷ xs) zero zero x y z here is = inl (refl, (let same : y ≡ z = cc in same))
+set_cases (w ∷ xs) zero (suc i) x y z here is = inr ((λ same. omega arith), is)
+set_cases (w ∷ xs) (suc at) zero x y z here is = inr ((λ same. omega arith), is)
+set_cases (w ∷ xs) (suc at) (suc i) x y z here is =
+    elim (set_cases xs at i x y z here is) as (λ _. ((suc i ≡ suc at) × (y ≡ z)) ⊎ ((suc i ≢ suc at) × (slice_get (w ∷ xs) (suc i) ≡ Some z)))
+    [ inl same ↦ inl (ap (λ (n : ℕ). suc n) same.0, same.1) | inr other ↦ inr ((λ (same : suc i ≡ suc at). other.0 (omega arith)), other.1) ]

@@ -2,7 +2,6 @@ pub mod Access
 pub mod Act
 pub mod BellCalls
 pub mod Boot
-pub mod Calls
 pub mod CapabilityCalls
 pub mod Changes
 pub mod Decide
@@ -19,6 +18,7 @@ pub mod MemoryCalls
 pub mod Nouns
 pub mod Numeral
 pub mod ObjectCalls
+pub mod Order
 pub mod Pieces
 pub mod Program
 pub mod Programs

@@ -6,7 +6,6 @@ use Rattle.std.specs.Prelude.{◌==◌, ◌&&◌, ◌||◌, ◌+◌, ◌-◌, �
 use Rattle.std.specs.Prelude.{◌%◌, ◌^◌, ℕ, Bool, true, false, not, List, []}
 use Rattle.std.specs.Prelude.{◌∷◌, length, Option, Some, None, Result, Ok, Err}
 use Rattle.std.specs.Prelude.{find, slice_index, nat_lt, if◌then◌else◌}
-use Rattle.std.specs.List.{list_any}
 use Rattle.gh_base.specs.declared.call.Call.{Call}
 use Rattle.gh_base.specs.declared.call.Call.TheVariants.{Identify, Exit, BellSend, BellSetMask}
 use Rattle.gh_base.specs.declared.call.Call.TheVariants.{BellReceive, BellReset, MsgqSend}
@@ -79,10 +78,6 @@ functions =
     ∷ taking 0x8241 2 (λ x. RmAct (slice_index x 1) (slice_index x 2))
     ∷ taking 0x8242 1 (λ x. RmPoll (slice_index x 1))
     ∷ []
-
--- the functions that the hypervisor has by now; a frame of another is refused as of no function
-abbrev pub built : List ℕ
-built = 0x8000 ∷ 0x8012 ∷ 0x8240 ∷ []
 
 -- a fast 64-bit call to the vendor hypervisor: 0xC6000000 and the function, in the low 32 bits of
 -- x0
@@ -187,14 +182,8 @@ read_function frame (Some row) =
 
 -- the call of a frame: it is refused where it names no function, then for its zero register, then
 -- for its shape
-abbrev pub shape_of : Frame → Result Call Errno
-shape_of frame = read_function frame (find (λ row. row.number == function_number frame) functions)
-
--- the same, with the functions that are built
 abbrev pub call_of : Frame → Result Call Errno
-call_of frame =
-    if list_any (λ number. number == function_number frame) built then shape_of frame
-    else Err Unimplemented
+call_of frame = read_function frame (find (λ row. row.number == function_number frame) functions)
 
 -- a capability of this kind with these rights
 abbrev pub of_kind : Kind → Rights → Need

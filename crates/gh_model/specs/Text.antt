@@ -22,7 +22,7 @@ use Rattle.gh_model.specs.declared.access.PageRun.{PageRun}
 use Rattle.gh_model.specs.declared.state.State.{State}
 use Rattle.gh_model.specs.Units.{used_units, free_units, given_units}
 use Rattle.gh_model.specs.Access.{access_at}
-use Rattle.gh_model.specs.Calls.{cpus_in_order}
+use Rattle.gh_model.specs.Order.{cpus_in_order}
 use Rattle.gh_model.specs.Run.{is_mark_of}
 
 -- a space and a number

@@ -40,7 +40,6 @@ mod references;
 mod row_filter;
 mod row_reads;
 mod rows;
-mod running;
 mod slot_lines;
 mod slots;
 mod state;
@@ -55,7 +54,7 @@ pub use change::{Change, Decision};
 pub use decide::decision;
 pub use entry::Entry;
 pub use file_err::FileErr;
-pub use law::{calls_stay_legal, run_is_legal};
+pub use law::calls_stay_legal;
 pub use lookup::{cpu_row, extent_row, object_row};
 pub use memory::{Holders, MapRow, Span};
 pub use numeral::{all_digits, number};
@@ -66,7 +65,6 @@ pub use rows::{
     BellRow, Borrower, CapabilityRow, CpuRow, ExtentRow, LinkRow, MappingRow, ObjectRow, Parcel,
     ParcelKind, PartitionRow, QueueRow, SetAtRow, TakenSlot,
 };
-pub use running::{CpuRun, Looked, Running, Seat};
 pub use state::State;
 pub use state_reads::{QueueFill, StateReads};
 pub use word::Word;

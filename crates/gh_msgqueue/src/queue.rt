@@ -152,6 +152,13 @@ impl Queue {
         self.size as u16
     }
 
+    /// How many messages there are.
+    pub fn count(&self) -> usize
+        ensures { result ≡ length self.now.messages }
+    {
+        self.count
+    }
+
     /// The first message; none where the queue is empty.
     pub fn first(&self) -> Option<&[u8]>
         ensures first { option_copied result ≡ slice_get self.now.messages 0 }

@@ -45,6 +45,13 @@ impl Partition {
         }
     }
 
+    /// All its units.
+    pub fn quota(&self) -> u16
+        ensures { result ≡ self.now.quota }
+    {
+        self.quota
+    }
+
     /// The units that are free.
     pub fn free(&self) -> u16
         ensures value { result ≡ free_units self.now }

@@ -1,8 +1,6 @@
 -- What a step makes of its files: the run of the boot file's VMs by whole calls, and its text.
 use Rattle.std.specs.Prelude.{ℕ, List, [], IfOk, Result, Ok, Err}
-use Rattle.gh_callfile.specs.VmProgress.{Progress}
-use Rattle.gh_driver.specs.FileRun.{file_run}
-use Rattle.gh_model.specs.declared.running.Running.{Running}
+use Rattle.gh_driver.specs.FileRun.{FinishedRun, file_run}
 use Rattle.gh_model.specs.Run.{IsRun, file_frames}
 use Rattle.gh_model.specs.Text.{history_text}
 use Rattle.gunyah.specs.Input.{step_input}
@@ -10,11 +8,11 @@ use Rattle.gunyah.specs.declared.input.StepInput.{StepInput}
 use Rattle.gunyah.specs.declared.read_err.BadFile.{BadFile}
 
 -- the text of a run
-abbrev pub text_of_run : Running Progress → List ℕ
-text_of_run run = history_text run.entries run.marks run.plain
+abbrev pub text_of_run : FinishedRun → List ℕ
+text_of_run run = history_text run.entries run.marks run.state
 
 -- the run of what was read
-abbrev pub input_run : StepInput → Running Progress
+abbrev pub input_run : StepInput → FinishedRun
 input_run input = file_run input.boot input.calls
 
 -- the text of the run of what was read
@@ -44,7 +42,7 @@ step_text texts = text_or_nothing (step_output texts)
 abbrev pub InputRuns : StepInput → Type 0
 InputRuns input =
     IsRun input.boot (file_frames input.calls) (input_run input).entries (input_run input).marks
-    (input_run input).plain
+    (input_run input).state
 
 -- where the texts are an input, its run is a run
 abbrev pub StepRuns : List (List ℕ) → Type 0

@@ -230,8 +230,7 @@ fn faulty_files_are_told_by_their_place(rt: HostRuntime) -> Result<(), Fail> {
     Ok(())
 }
 
-/// Frames that are refused at once or at a look, of functions that aren't built, of none, and with
-/// high bits in x0.
+/// Frames that are refused at once or at a look, of no function, and with high bits in x0.
 fn refused_calls() -> &'static str {
     "c6008012 1 0\nc6008012 7 1 9\nc6008012 1 1\nc6008012 0 1\nc6008012 8 1\n\
      c600801b 7 1 0 0 : 00\nc6009999\nc6008065 7\n1c6008000\n"
@@ -242,7 +241,7 @@ fn refused_text() -> &'static str {
      call 1 1 0 frame = 1 0 0 0\ncall 1 2 0 frame = 1 0 0 0\n\
      call 1 3 1 look 1 0 refused = 32 0 0 0\ncall 1 4 3 look 0 0 refused = 32 0 0 0\n\
      call 1 5 5 look 8 0 refused = 35 0 0 0\n\
-     call 1 6 0 frame = ffffffffffffffff 0 0 0\ncall 1 7 0 frame = ffffffffffffffff 0 0 0\n\
+     call 1 6 7 look 7 0 refused = 34 0 0 0\ncall 1 7 0 frame = ffffffffffffffff 0 0 0\n\
      call 1 8 0 frame = ffffffffffffffff 0 0 0\ncall 1 9 0 entry 1 = 8001 46 0 0\n\
      call 1 10 0 entry 2 = 0 0 0 0\nstate\nunits 1 11 29 0\nend\n"
 }

@@ -17,36 +17,6 @@ fn joined(alloc: Global, front: &str, rest: &str) -> Result<String, NoMemory> {
     Ok(text)
 }
 
-/// A doorbell in slot 7 to send and receive, and in slot 8 to receive alone.
-pub(crate) fn doorbell(alloc: Global) -> Result<String, NoMemory> {
-    joined(
-        alloc,
-        ONE,
-        "doorbell 1\ncap 2 7 5 3 1\ncap 2 8 5 2 0\nvm 2 3\n",
-    )
-}
-
-/// A capability space whose 127 slots are filled.
-pub(crate) fn full(alloc: Global) -> Result<String, NoMemory> {
-    let mut text = joined(alloc, ONE, "doorbell 1\ncap 2 1 1 1 0\ncap 2 2 2 15 0\n")?;
-    for slot in 3..128u8 {
-        let line = format!(in alloc; "cap 2 {slot} 5 3 0\n")?;
-        text.push_str(line.as_str())?;
-    }
-    text.push_str("vm 2 3\n")?;
-    Ok(text)
-}
-
-/// Two VMs: the first may change the capability space of the second, which has a doorbell in slot
-/// 7.
-pub(crate) fn shared_doorbell(alloc: Global) -> Result<String, NoMemory> {
-    joined(
-        alloc,
-        TWO,
-        "cap 2 1 7 3 1\ncap 2 6 3 15 0\ncap 3 2 3 15 0\ncap 3 7 7 3 0\nvm 2 4\nvm 3 5\n",
-    )
-}
-
 /// The first VM has a doorbell's master capability, the second three capabilities of it.
 pub(crate) fn three_copies(alloc: Global) -> Result<String, NoMemory> {
     joined(
@@ -56,11 +26,6 @@ pub(crate) fn three_copies(alloc: Global) -> Result<String, NoMemory> {
     )
 }
 
-/// One page that isn't mapped yet.
-pub(crate) fn one_page(alloc: Global) -> Result<String, NoMemory> {
-    joined(alloc, ONE, "extent 1 4 3 1 7 0 1\ncap 2 4 5 7 1\nvm 2 3\n")
-}
-
 /// All pages mapped, and what is needed to make objects.
 pub(crate) fn maker(alloc: Global) -> Result<String, NoMemory> {
     joined(
@@ -68,15 +33,5 @@ pub(crate) fn maker(alloc: Global) -> Result<String, NoMemory> {
         ONE,
         "extent 1 4 0 8 7 0 8\nmap 3 5 0 0 8 7\ncap 2 1 1 1 0\ncap 2 2 2 15 0\n\
          cap 2 4 5 7 1\nvm 2 3\n",
-    )
-}
-
-/// Two extents of one span, each of which holds half of it.
-pub(crate) fn siblings(alloc: Global) -> Result<String, NoMemory> {
-    joined(
-        alloc,
-        ONE,
-        "extent 1 4 0 8 7 0 4\nextent 1 4 0 8 7 4 4\nmap 3 5 0 0 8 7\ncap 2 1 5 7 1\n\
-         cap 2 2 6 7 1\nvm 2 3\n",
     )
 }

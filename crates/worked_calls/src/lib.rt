@@ -1,18 +1,11 @@
-//! Worked calls of every kind on the slow machine: what each answers, and what it leaves.
+//! Calls of every kind on the slow machine: the parts of a revoke, and a long walk after each call of
+//! which all sums are taken anew.
 #![tactic(auto)]
 
 #[cfg(test)]
 mod boots;
 #[cfg(test)]
-mod capabilities;
-#[cfg(test)]
-mod doorbells;
-#[cfg(test)]
-mod memory;
-#[cfg(test)]
-mod objects;
-#[cfg(test)]
-mod queues;
+mod revokes;
 #[cfg(test)]
 mod session;
 #[cfg(test)]

@@ -3,7 +3,7 @@
 use gh_base::{CpuNo, Frame, HISTORY_ENTRIES, Need, Reply, Sequence, Serial};
 use gh_bootfile::read_boot;
 use gh_callfile::read_calls;
-use gh_frames::{needs, read_shape};
+use gh_frames::{needs, read_call};
 use gh_model::{Judged, Plain};
 use std::alloc::Global;
 use std::fmt::Write;
@@ -41,7 +41,7 @@ pub(crate) fn made(
     cpu: CpuNo,
     frame: &Frame,
 ) -> Result<Reply, Fail> {
-    let call = match read_shape(frame) {
+    let call = match read_call(frame) {
         Ok(call) => call,
         Err(errno) => return Ok(Reply::refusal(errno)),
     };

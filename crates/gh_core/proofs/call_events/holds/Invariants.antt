@@ -1,7 +1,7 @@
 -- None so far is at the index.
 use Rattle.std.proofs.Common.{◌≡◌, drop, map}
 use Rattle.std.specs.List.{list_any}
-use Rattle.gh_core.specs.Config.{is_pin_at}
+use Rattle.gh_events.specs.Config.{is_pin_at}
 use Rattle.gh_core.specs.Running.{pin_of}
 use Rattle.gh_core.proofs.call_events.holds.Given as goal
 

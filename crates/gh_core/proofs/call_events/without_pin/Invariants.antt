@@ -1,6 +1,6 @@
 -- The pins so far, and of those that are left all but the first at the index if none was found.
 use Rattle.std.proofs.Common.{◌≡◌, ◌++◌, drop, map, if◌then◌else◌}
-use Rattle.gh_core.specs.CallEvents.{without_pin}
+use Rattle.gh_events.specs.CallEvents.{without_pin}
 use Rattle.gh_core.specs.Running.{pin_of}
 use Rattle.gh_core.proofs.call_events.without_pin.Given as goal
 

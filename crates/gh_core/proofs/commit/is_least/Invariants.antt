@@ -2,7 +2,7 @@
 use Rattle.std.proofs.Common.{◌≡◌, ◌||◌, not, drop}
 use Rattle.std.specs.List.{list_all}
 use Rattle.gh_model.specs.declared.rows.CapabilityRow.{CapabilityRow}
-use Rattle.gh_core.specs.Entries.{is_before, is_least, is_plain_of}
+use Rattle.gh_events.specs.Entries.{is_before, is_least, is_plain_of}
 use Rattle.gh_core.proofs.commit.is_least.Given as goal
 
 abbrev pub invariant-loop-row : goal.invariant-loop-row

@@ -1,7 +1,7 @@
 -- None so far is killed: some is among those that are left where some is at all.
 use Rattle.std.proofs.Common.{◌≡◌, drop}
 use Rattle.std.specs.List.{list_any}
-use Rattle.gh_core.specs.Config.{is_killed}
+use Rattle.gh_events.specs.Config.{is_killed}
 use Rattle.gh_core.specs.Running.{stands_for}
 use Rattle.gh_core.proofs.holder_events.some_killed.Given as goal
 

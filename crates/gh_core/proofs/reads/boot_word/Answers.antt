@@ -2,9 +2,9 @@
 use Rattle.std.proofs.Common.{◌∙◌, ap, ℕ, List, []}
 use Rattle.gh_model.specs.Word.{word_at}
 use Rattle.gh_model.specs.declared.word.Word.{Word}
-use Rattle.gh_core.specs.Entries.{shown}
+use Rattle.gh_events.specs.Entries.{shown}
 use Rattle.gh_core.specs.Running.{index_in}
-use Rattle.gh_core.specs.Start.{serial_at}
+use Rattle.gh_events.specs.Start.{serial_at}
 use Rattle.gh_core.specs.declared.table.Written.{Written}
 use Rattle.gh_core.proofs.TableLemmas.{the_word}
 use Rattle.gh_core.proofs.reads.boot_word.Goals as goal

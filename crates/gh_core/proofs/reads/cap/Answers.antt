@@ -2,7 +2,7 @@
 use Rattle.std.proofs.Common.{◌∙◌, ap}
 use Rattle.gh_model.specs.declared.state.State.{State}
 use Rattle.gh_core.specs.Running.{boot_index, boot_of}
-use Rattle.gh_core.specs.Start.{boot_cap}
+use Rattle.gh_events.specs.Start.{boot_cap}
 use Rattle.gh_core.specs.Tables.{last_word}
 use Rattle.gh_core.proofs.TableLemmas.{none_read, some_read, word_read}
 use Rattle.gh_core.proofs.reads.cap.Goals as goal

@@ -1,7 +1,7 @@
 -- A count that was written, or the references at the boot.
 use Rattle.std.proofs.Common.{◌≡◌, ◌∙◌, ap, subst, ℕ, IfOk, List, []}
 use Rattle.gh_model.specs.declared.state.State.{State}
-use Rattle.gh_core.specs.Config.{references_at}
+use Rattle.gh_events.specs.Config.{references_at}
 use Rattle.gh_core.specs.Running.{boot_index, boot_of, index_in}
 use Rattle.gh_core.specs.Tables.{last_number}
 use Rattle.gh_core.specs.declared.table.Written.{Written}

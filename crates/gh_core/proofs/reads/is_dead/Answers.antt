@@ -1,9 +1,9 @@
 -- A mark that was written, or that of the boot.
 use Rattle.std.proofs.Common.{◌∙◌, ap, not, is_some, List, []}
 use Rattle.gh_model.specs.declared.state.State.{State}
-use Rattle.gh_core.specs.Config.{object_at}
+use Rattle.gh_events.specs.Config.{object_at}
 use Rattle.gh_core.specs.Running.{boot_index, boot_of, index_in}
-use Rattle.gh_core.specs.Start.{boot_dead}
+use Rattle.gh_events.specs.Start.{boot_dead}
 use Rattle.gh_core.specs.Tables.{last_mark}
 use Rattle.gh_core.specs.declared.table.Written.{Written}
 use Rattle.gh_core.proofs.TableLemmas.{mark_read, none_read, some_read}

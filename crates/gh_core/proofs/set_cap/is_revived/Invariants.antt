@@ -1,7 +1,7 @@
 -- None so far is the index.
 use Rattle.std.proofs.Common.{◌≡◌, drop}
 use Rattle.std.specs.List.{list_any}
-use Rattle.gh_core.specs.Entries.{is_that_index}
+use Rattle.gh_events.specs.Entries.{is_that_index}
 use Rattle.gh_core.proofs.set_cap.is_revived.Given as goal
 
 abbrev pub invariant-loop-one : goal.invariant-loop-one

@@ -1,6 +1,6 @@
 -- The event, and then the indices and the word of the slot.
 use Rattle.std.proofs.Common.{◌≡◌, subst, IfSome, List, Option}
-use Rattle.gh_core.specs.Config.{present}
+use Rattle.gh_events.specs.Config.{present}
 use Rattle.gh_core.specs.Owing.{later_indices, owing_of}
 use Rattle.gh_core.specs.Running.{event_of, index_in, stands_for}
 use Rattle.gh_core.specs.declared.table.Written.{Written}

@@ -1,14 +1,17 @@
--- A turn's step along the round, and what it keeps.
-use Rattle.std.proofs.Common.{arith, ◌∙◌, ◌≤◌, ◌+◌, length}
-use Rattle.gh_driver.proofs.RunLemmas.{along_turns, turn_marks, turn_seats}
+-- Each turn leads to the next.
+use Rattle.std.proofs.Common.{◌≡◌, arith, subst}
+use Rattle.gh_base.specs.declared.limits.TheConstants.{CPUS}
+use Rattle.gh_driver.specs.Follows.{Follows}
+use Rattle.gh_driver.proofs.RoundLemmas.{turns, turns_more}
 use Rattle.gh_driver.proofs.run.round.Goals as goal
 
 pub loop-at-preserved : goal.loop-at-preserved
-loop-at-preserved g c =
-    let one : length c.turn.new.run.marks ≤ length c.loop-at.run.marks + 1 = turn_marks g.P.Program.answer g.P.Program.after c.loop-at.run c.turn.new.run c.loop-at.at c.in_ok-turn.ensures.run in
-    record {
-      rest = along_turns g.P.Program.answer g.P.Program.after c.loop-at.run c.turn.new.run _ c.loop-at.at c.len-at-end.result c.loop-at-test.true c.in_ok-turn.ensures.run c.loop-at.invariant.rest;
-      bounded = c.in_ok-turn.ensures.bounded;
-      calls = omega (arith, one, c.loop-at.invariant.calls);
-      cpus = turn_seats g.P.Program.answer g.P.Program.after c.loop-at.run c.turn.new.run c.loop-at.at c.in_ok-turn.ensures.run ∙ c.loop-at.invariant.cpus;
-    }
+loop-at-preserved g c = record {
+  follows = subst (λ course. Follows g.P.Program.wants_reply c.call.new.run course) (turns_more g.P.Program.answer g.P.Program.after g.course c.loop-at.at) c.in_ok-call.ensures;
+}
+
+pub returns : goal.returns
+returns g c =
+    subst (λ n. Follows g.P.Program.wants_reply c.loop-at.run (turns g.P.Program.answer g.P.Program.after g.course n))
+    (let all : c.loop-at.at ≡ CPUS = omega (arith, c.loop-at.auto.at-end, c.loop-at-test.false) in all)
+    c.loop-at.invariant.follows

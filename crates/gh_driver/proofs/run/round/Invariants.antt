@@ -1,13 +1,12 @@
--- The turns that are left make of the run what all turns make of the first.
-use Rattle.std.proofs.Common.{◌≡◌, ◌+◌, ◌-◌, ◌≤◌, length}
-use Rattle.gh_driver.specs.Pace.{IsBounded}
-use Rattle.gh_model.specs.Calls.{turns}
+-- Each CPU's turn begins where those before it led.
+use Rattle.gh_driver.specs.Follows.{Follows}
+use Rattle.gh_driver.proofs.RoundLemmas.{turns}
 use Rattle.gh_driver.proofs.run.round.Given as goal
+
+abbrev pub ghost-call : goal.ghost-call
+ghost-call g a = turns g.P.Program.answer g.P.Program.after g.course a.cpu.0
 
 abbrev pub invariant-loop-at : goal.invariant-loop-at
 invariant-loop-at g l = record {
-  rest : turns g.P.Program.answer g.P.Program.after l.run l.at (l.at-end - l.at) ≡ turns g.P.Program.answer g.P.Program.after l.initial.run 0 l.at-end;
-  bounded : IsBounded g.P.Program.wants_reply l.run;
-  calls : length l.run.marks ≤ length l.initial.run.marks + l.at;
-  cpus : length l.run.seats ≡ l.at-end;
+  follows : Follows g.P.Program.wants_reply l.run (turns g.P.Program.answer g.P.Program.after g.course l.at);
 }

@@ -1,9 +1,9 @@
 -- The call is at its act where the turn is taken, and it doesn't sweep.
 use Rattle.std.proofs.Common.{◌≡◌, Some, false, subst, sym}
-use Rattle.gh_core.specs.Items.{sweeps}
+use Rattle.gh_schedules.specs.Items.{sweeps}
 use Rattle.gh_core.specs.Running.{current_of}
-use Rattle.gh_core.specs.Start.{given as given_next}
-use Rattle.gh_core.specs.TurnEvents.{taken}
+use Rattle.gh_events.specs.Start.{given as given_next}
+use Rattle.gh_events.specs.TurnEvents.{taken}
 use Rattle.gh_core.specs.declared.current.CurrentCall.{CurrentCall}
 use Rattle.gh_items.specs.Acts.{ActsNext}
 use Rattle.gh_items.specs.Stands.{Stands, with_call}

@@ -1,5 +1,5 @@
 -- The parts begin where the turn is taken, and the act is judged behind them.
-use Rattle.gh_core.specs.TurnEvents.{taken}
+use Rattle.gh_events.specs.TurnEvents.{taken}
 use Rattle.gh_items.proofs.act_item.revoke_act.Given as goal
 
 abbrev pub ghost-make_all_parts : goal.ghost-make_all_parts

@@ -1,8 +1,8 @@
 -- The word that is found has its object's index, and the call goes on from the look.
 use Rattle.std.proofs.Common.{◌∙◌, List, Some, ap, map, max, subst, sym}
 use Rattle.gh_base.specs.declared.ids.ObjIndex.{ObjIndex}
-use Rattle.gh_core.specs.CallEvents.{looked}
-use Rattle.gh_core.specs.Entries.{shown}
+use Rattle.gh_events.specs.CallEvents.{looked}
+use Rattle.gh_events.specs.Entries.{shown}
 use Rattle.gh_core.specs.Running.{seen_of}
 use Rattle.gh_core.specs.declared.current.CurrentCall.{CurrentCall}
 use Rattle.gh_core.specs.declared.current.SeenLook.{SeenLook}
@@ -21,8 +21,8 @@ cap_word-requires g c =
     ∙ word_is c.args.progress.now g.conf c.args.cpu.0 c.args.call c.requires.0 c.requires.1.0 c.requires.1.1.0 c.requires.1.1.1.0
     c.args.slot c.args.need c.requires.1.1.1.1.0 c.seat_of-seat.result c.seat_of-seat.ensures))
 
-pub returns : goal.returns
-returns g c =
+pub returns-clause-stands : goal.returns-clause-stands
+returns-clause-stands g c =
     subst (λ (p : Progress). Stands p (looked g.conf c.args.cpu.0 c.args.slot))
     (sym (c.put_call.ensures ∙ ap (λ (call : CurrentCall). with_call c.args.progress.now c.args.cpu.0 (Some call)) c.looked_up-call.ensures))
     (look_stands c.args.progress.now g.conf c.args.cpu.0 c.args.call c.requires.0 c.requires.1.0 c.requires.1.1.0 c.requires.1.1.1.0

@@ -1,7 +1,7 @@
 -- The least of those behind the place that is reached.
 use Rattle.std.proofs.Common.{◌≡◌, ◌≤◌, drop, filter, length}
-use Rattle.gh_core.specs.Entries.{is_plain_of}
-use Rattle.gh_core.specs.Items.{least}
+use Rattle.gh_events.specs.Entries.{is_plain_of}
+use Rattle.gh_schedules.specs.Items.{least}
 use Rattle.gh_items.proofs.parts.next_part.Given as goal
 
 abbrev pub invariant-loop-at : goal.invariant-loop-at

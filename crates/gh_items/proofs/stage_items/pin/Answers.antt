@@ -1,8 +1,8 @@
 -- The pin is too late just where the object is retired.
 use Rattle.std.proofs.Common.{◌∙◌, Some, ap, subst, sym}
 use Rattle.gh_base.specs.declared.ids.Serial.{Serial}
-use Rattle.gh_core.specs.CallEvents.{pinned}
-use Rattle.gh_core.specs.Config.{seen_index}
+use Rattle.gh_events.specs.CallEvents.{pinned}
+use Rattle.gh_events.specs.Config.{seen_index}
 use Rattle.gh_core.specs.Running.{seen_of}
 use Rattle.gh_core.specs.declared.current.CallStage.{CallStage}
 use Rattle.gh_core.specs.declared.current.CurrentCall.{CurrentCall}
@@ -12,8 +12,8 @@ use Rattle.gh_items.proofs.StageLemmas.{dead_is, pin_stands}
 use Rattle.gh_items.proofs.stage_items.pin.Goals as goal
 use Rattle.gh_model.specs.Reads.{retired_counters}
 
-pub returns : goal.returns
-returns g c =
+pub returns-clause-stands : goal.returns-clause-stands
+returns-clause-stands g c =
     subst (λ (p : Progress). Stands p (pinned g.conf c.args.cpu.0 (seen_index (seen_of c.args.last))))
     (sym (c.put_call.ensures ∙ ap (λ (call : CurrentCall). with_call c.args.progress.now c.args.cpu.0 (Some call))
     (c.at_stage-call.ensures ∙ ap (λ (stage : CallStage). at_stage c.args.call stage) c.pin_stage.ensures)))

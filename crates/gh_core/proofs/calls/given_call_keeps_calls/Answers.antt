@@ -1,6 +1,0 @@
--- The law is the lemma.
-use Rattle.gh_core.proofs.GivenCalls.{given_keeps_calls}
-use Rattle.gh_core.proofs.calls.given_call_keeps_calls.Goals as goal
-
-pub returns : goal.returns
-returns c = λ conf at number frame sound may. given_keeps_calls conf at number frame sound may

@@ -1,6 +1,0 @@
--- The law is the lemma.
-use Rattle.gh_core.proofs.TakeCalls.{take_keeps_calls}
-use Rattle.gh_core.proofs.calls.take_keeps_calls.Goals as goal
-
-pub returns : goal.returns
-returns c = λ conf cpu sound may. take_keeps_calls conf cpu.0 sound may

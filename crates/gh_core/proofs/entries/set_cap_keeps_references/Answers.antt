@@ -1,5 +1,0 @@
-use Rattle.gh_core.proofs.EntryKeeps.{set_cap_keeps}
-use Rattle.gh_core.proofs.entries.set_cap_keeps_references.Goals as goal
-
-pub returns : goal.returns
-returns c = λ conf cpu entry space slot word sound state may. set_cap_keeps conf cpu.0 entry space.0 slot word sound state may

@@ -1,5 +1,0 @@
-use Rattle.gh_core.proofs.StateKeeps.{start_keeps_state}
-use Rattle.gh_core.proofs.entries.start_has_state.Goals as goal
-
-pub returns : goal.returns
-returns c = λ lines index fits indices. start_keeps_state lines index fits indices

@@ -1,5 +1,0 @@
-use Rattle.gh_core.proofs.GraceActs.{commit_graced}
-use Rattle.gh_core.proofs.grace.commit_keeps_grace.Goals as goal
-
-pub returns : goal.returns
-returns c = λ conf cpu entry graced may. commit_graced conf cpu.0 graced entry may

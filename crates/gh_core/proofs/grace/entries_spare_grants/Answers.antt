@@ -1,5 +1,0 @@
-use Rattle.gh_core.proofs.GraceSpares.{entry_spares}
-use Rattle.gh_core.proofs.grace.entries_spare_grants.Goals as goal
-
-pub returns : goal.returns
-returns c = λ conf cpu entry graced may. entry_spares conf cpu.0 entry graced may

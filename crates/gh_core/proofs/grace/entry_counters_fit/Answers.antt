@@ -1,5 +1,0 @@
-use Rattle.gh_core.proofs.GraceCounters.{counters_fit}
-use Rattle.gh_core.proofs.grace.entry_counters_fit.Goals as goal
-
-pub returns : goal.returns
-returns c = λ conf cpu entry seen at graced may keeps within. counters_fit conf cpu.0 entry seen at graced may keeps within

@@ -1,5 +1,0 @@
-use Rattle.gh_core.proofs.GraceScans.{kill_graced}
-use Rattle.gh_core.proofs.grace.kill_keeps_grace.Goals as goal
-
-pub returns : goal.returns
-returns c = λ conf cpu object sound graced may. kill_graced conf cpu.0 object.0 sound graced may

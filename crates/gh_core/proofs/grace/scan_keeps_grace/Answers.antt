@@ -1,5 +1,0 @@
-use Rattle.gh_core.proofs.GraceScans.{scan_graced}
-use Rattle.gh_core.proofs.grace.scan_keeps_grace.Goals as goal
-
-pub returns : goal.returns
-returns c = λ conf cpu of_cpu graced may. scan_graced conf of_cpu.0 graced

@@ -1,5 +1,0 @@
-use Rattle.gh_core.proofs.GraceTurn.{start_graced}
-use Rattle.gh_core.proofs.grace.start_has_grace.Goals as goal
-
-pub returns : goal.returns
-returns c = λ boot index indices unretired. start_graced boot index indices unretired

@@ -1,5 +1,0 @@
-use Rattle.gh_core.proofs.GraceEnds.{take_graced}
-use Rattle.gh_core.proofs.grace.take_keeps_grace.Goals as goal
-
-pub returns : goal.returns
-returns c = λ conf cpu graced may. take_graced conf cpu.0 graced may

@@ -1,5 +1,0 @@
-use Rattle.gh_core.proofs.TakeKeeps.{end_keeps}
-use Rattle.gh_core.proofs.references.end_keeps_references.Goals as goal
-
-pub returns : goal.returns
-returns c = λ conf cpu sound may. end_keeps conf cpu.0 sound may

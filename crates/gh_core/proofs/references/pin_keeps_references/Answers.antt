@@ -1,5 +1,0 @@
-use Rattle.gh_core.proofs.PinKeeps.{pin_keeps}
-use Rattle.gh_core.proofs.references.pin_keeps_references.Goals as goal
-
-pub returns : goal.returns
-returns c = λ conf cpu object sound may. pin_keeps conf cpu.0 object.0 sound may

@@ -1,5 +1,0 @@
-use Rattle.gh_core.proofs.TurnKeeps.{scan_keeps}
-use Rattle.gh_core.proofs.references.scan_keeps_references.Goals as goal
-
-pub returns : goal.returns
-returns c = λ conf cpu of_cpu sound may. scan_keeps conf of_cpu.0 sound

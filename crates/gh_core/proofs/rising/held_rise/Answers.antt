@@ -1,5 +1,0 @@
-use Rattle.gh_core.proofs.RisingRows.{held_rising}
-use Rattle.gh_core.proofs.rising.held_rise.Goals as goal
-
-pub returns : goal.returns
-returns c = λ s held rising are. held_rising s held rising are

@@ -1,5 +1,0 @@
-use Rattle.gh_core.proofs.RisingRows.{objects_rising}
-use Rattle.gh_core.proofs.rising.objects_rise.Goals as goal
-
-pub returns : goal.returns
-returns c = λ lines history n fit events. objects_rising lines history n fit events

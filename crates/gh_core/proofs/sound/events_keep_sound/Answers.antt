@@ -1,6 +1,0 @@
--- The law is the lemma.
-use Rattle.gh_core.proofs.SoundEvents.{event_keeps_sound}
-use Rattle.gh_core.proofs.sound.events_keep_sound.Goals as goal
-
-pub returns : goal.returns
-returns c = λ conf event sound may. event_keeps_sound conf event sound may

@@ -1,5 +1,0 @@
-use Rattle.gh_core.proofs.ValidLaw.{event_keeps_valid}
-use Rattle.gh_core.proofs.validity.events_keep_validity.Goals as goal
-
-pub returns : goal.returns
-returns c = λ conf event fit may. event_keeps_valid conf event fit may

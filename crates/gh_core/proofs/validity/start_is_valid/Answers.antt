@@ -1,5 +1,0 @@
-use Rattle.gh_core.proofs.ValidEvents.{start_valid}
-use Rattle.gh_core.proofs.validity.start_is_valid.Goals as goal
-
-pub returns : goal.returns
-returns c = λ lines index fit. start_valid lines index fit

@@ -1,5 +1,0 @@
-use Rattle.gh_core.proofs.WordsKeep.{commit_shows}
-use Rattle.gh_core.proofs.words.commit_keeps_words.Goals as goal
-
-pub returns : goal.returns
-returns c = λ conf cpu entry fit words may. commit_shows conf cpu.0 entry fit words may

@@ -1,0 +1,17 @@
+pub mod Bounded
+pub mod CallEvents
+pub mod Calls
+pub mod Config
+pub mod Entries
+pub mod Events
+pub mod Grace
+pub mod HolderEvents
+pub mod Length
+pub mod References
+pub mod Replayed
+pub mod Rising
+pub mod Sound
+pub mod Start
+pub mod TurnEvents
+pub mod ValidState
+pub mod Words

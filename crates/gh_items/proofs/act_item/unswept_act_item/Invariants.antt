@@ -1,5 +1,0 @@
--- The turn is taken in the configuration at hand.
-use Rattle.gh_items.proofs.act_item.unswept_act_item.Given as goal
-
-abbrev pub ghost-unswept_act : goal.ghost-unswept_act
-ghost-unswept_act g a = g.conf
