@@ -3,8 +3,19 @@
 
 use crate::{FileErr, read_boot, write_boot};
 use gh_base::NoMemory;
+use gh_model::Boot;
 use std::alloc::Global;
-use std::test::Fail;
+use std::ops::Range;
+
+// What is read and written stands behind functions without clauses, so that no proof carries it.
+
+/// Whether it holds, and there was memory to find out.
+fn holds(found: Result<bool, NoMemory>) -> bool {
+    match found {
+        Ok(found) => found,
+        Err(NoMemory) => false,
+    }
+}
 
 /// The partition is object 1, its capability space 2, its address space 3, the root extent 4.
 fn one_vm() -> &'static str {
@@ -37,19 +48,24 @@ fn joined(alloc: Global, front: &str, back: &str) -> Result<String, NoMemory> {
     Ok(text)
 }
 
-/// The number of the first bad line; 0 where the text is a boot file, and is written back.
-fn bad_line(alloc: Global, text: &str) -> Result<u32, NoMemory> {
+/// Whether the boot file is written as this text.
+fn is_written(alloc: Global, boot: &Boot, text: &str) -> Result<bool, NoMemory> {
+    let written = write_boot(alloc, boot)?;
+    Ok(written.as_slice() == text.as_bytes())
+}
+
+/// 0, or else a number that no line has.
+fn zero_if(good: bool) -> u32 {
+    if good { 0 } else { u32::MAX }
+}
+
+/// The number of the first bad line; 0 where the text is a boot file, and is written back. For want
+/// of memory it is a number that no line has.
+fn bad_line(alloc: Global, text: &str) -> u32 {
     match read_boot(alloc, text.as_bytes()) {
-        Ok(boot) => {
-            let written = write_boot(alloc, &boot)?;
-            Ok(if written.as_slice() == text.as_bytes() {
-                0
-            } else {
-                u32::MAX
-            })
-        }
-        Err(FileErr::Bad(line)) => Ok(line),
-        Err(FileErr::NoMemory) => Err(NoMemory),
+        Ok(boot) => zero_if(holds(is_written(alloc, &boot, text))),
+        Err(FileErr::Bad(line)) => line,
+        Err(FileErr::NoMemory) => u32::MAX,
     }
 }
 
@@ -87,14 +103,22 @@ fn boot_files() -> [(&'static str, &'static str); 7] {
     ]
 }
 
-#[test]
-fn boot_files_are_written_back(rt: HostRuntime) -> Result<(), Fail> {
-    let alloc = rt.alloc();
+fn is_boot_file(alloc: Global, front: &str, back: &str) -> Result<bool, NoMemory> {
+    let text = joined(alloc, front, back)?;
+    Ok(bad_line(alloc, &text) == 0)
+}
+
+fn are_boot_files(alloc: Global) -> bool {
+    let mut all = true;
     for (front, back) in boot_files() {
-        let text = joined(alloc, front, back)?;
-        assert_eq!(rt; bad_line(alloc, &text)?, 0, "{text}");
+        all = all && holds(is_boot_file(alloc, front, back));
     }
-    Ok(())
+    all
+}
+
+#[test]
+fn boot_files_are_written_back(rt: HostRuntime) {
+    assert!(rt; are_boot_files(rt.alloc()));
 }
 
 /// Whole texts, and the number of the first bad line.
@@ -118,13 +142,17 @@ fn whole_texts() -> [(&'static str, u32); 12] {
     ]
 }
 
-#[test]
-fn a_text_that_is_no_boot_file_has_a_bad_line(rt: HostRuntime) -> Result<(), Fail> {
-    let alloc = rt.alloc();
+fn have_their_bad_line(alloc: Global) -> bool {
+    let mut all = true;
     for (text, line) in whole_texts() {
-        assert_eq!(rt; bad_line(alloc, text)?, line, "{text}");
+        all = all && bad_line(alloc, text) == line;
     }
-    Ok(())
+    all
+}
+
+#[test]
+fn a_text_that_is_no_boot_file_has_a_bad_line(rt: HostRuntime) {
+    assert!(rt; have_their_bad_line(rt.alloc()));
 }
 
 /// Twelve lines of one VM: a doorbell 5, an extent 6 of four pages that holds two, message queues 7
@@ -134,19 +162,29 @@ fn twelve_lines() -> &'static str {
      extent 1 4 0 4 7 0 2\nmsgqueue 1 4 240\nmsgqueue 1 4 16\ncap 2 1 5 3 1\nvm 2 3\n"
 }
 
-/// Whether the first bad line is the last of a run behind the twelve. A stroke parts two lines.
-fn last_is_bad(alloc: Global, run: &str) -> Result<bool, NoMemory> {
-    let mut text = String::from_str(alloc, twelve_lines())?;
-    for line in run.split('/') {
-        text.push_str(line)?;
-        text.push_str("\n")?;
+/// The twelve, further lines, and behind them a run.
+fn with_run(alloc: Global, further: &str, run: &str) -> Result<String, NoMemory> {
+    let mut text = joined(alloc, twelve_lines(), further)?;
+    text.push_str(run)?;
+    text.push_str("\n")?;
+    Ok(text)
+}
+
+/// Whether the first bad line is the last of a run behind the twelve and further lines.
+fn last_is_bad(alloc: Global, further: &str, run: &str) -> Result<bool, NoMemory> {
+    let text = with_run(alloc, further, run)?;
+    let pieces = text.split('\n').count();
+    // The last piece is what stands behind the last line's end.
+    Ok(bad_line(alloc, &text) as usize + 1 == pieces)
+}
+
+/// Whether that is so of each run of a table, in which a bar parts two runs.
+fn last_are_bad(alloc: Global, further: &str, table: &str) -> bool {
+    let mut all = true;
+    for run in table.split('|') {
+        all = all && holds(last_is_bad(alloc, further, run));
     }
-    let lines = text
-        .as_bytes()
-        .iter()
-        .filter(|byte| **byte == b'\n')
-        .count();
-    Ok(bad_line(alloc, &text)? as usize == lines)
+    all
 }
 
 /// Lines without the form of a boot line.
@@ -159,114 +197,155 @@ fn misspelled() -> &'static str {
 
 /// Object lines of which each breaks one condition.
 fn misfit_objects() -> &'static str {
-    "pages 8|partition 0|partition 129|cspace 2|partition 3/cspace 9|partition 3/addrspace 9|\
-     doorbell 0|doorbell 1/partition 1/doorbell 10|rootextent 1|msgqueue 5 4 16|msgqueue 1 0 16|\
-     msgqueue 1 65 16|msgqueue 1 4 0|msgqueue 1 4 1025|msgqueue 1 64 1024/msgqueue 1 64 1024"
+    "pages 8|partition 0|partition 129|cspace 2|partition 3\ncspace 9|partition 3\naddrspace 9|\
+     doorbell 0|doorbell 1\npartition 1\ndoorbell 10|rootextent 1|msgqueue 5 4 16|msgqueue 1 0 16|\
+     msgqueue 1 65 16|msgqueue 1 4 0|msgqueue 1 4 1025|msgqueue 1 64 1024\nmsgqueue 1 64 1024"
 }
 
 /// The same of extents and mappings.
 fn misfit_pages() -> &'static str {
-    "extent 4 4 4 2 7 0 0|partition 1/extent 9 4 4 2 7 0 0|extent 1 5 0 1 7 0 0|\
+    "extent 4 4 4 2 7 0 0|partition 1\nextent 9 4 4 2 7 0 0|extent 1 5 0 1 7 0 0|\
      extent 1 4 7 2 7 0 0|extent 1 4 4 0 7 0 0|extent 1 4 4 2 0 0 2|extent 1 4 4 2 3 0 2|\
      extent 1 4 4 2 8 0 2|extent 1 4 4 2 7 1 2|extent 1 4 0 3 7 1 2|\
-     extent 1 4 4 2 4 0 2/extent 1 9 0 1 6 0 0|map 2 4 0 0 1 7|map 3 5 0 0 1 7|map 3 4 0 0 0 7|\
+     extent 1 4 4 2 4 0 2\nextent 1 9 0 1 6 0 0|map 2 4 0 0 1 7|map 3 5 0 0 1 7|map 3 4 0 0 0 7|\
      map 3 4 0 0 9 7|map 3 4 4095 0 2 7|map 3 4 0 0 1 0|map 3 4 0 0 1 3|\
-     extent 1 4 4 2 4 0 2/map 3 9 0 0 1 6|map 3 4 0 0 2 7/map 3 4 1 0 1 7"
+     extent 1 4 4 2 4 0 2\nmap 3 9 0 0 1 6|map 3 4 0 0 2 7\nmap 3 4 1 0 1 7"
 }
 
 /// The same of capabilities and CPUs.
 fn misfit_cpus() -> &'static str {
     "cap 3 2 5 3 0|cap 2 0 5 3 0|cap 2 128 5 3 0|cap 2 1 5 3 0|cap 2 2 9 0 0|cap 2 2 5 4 0|\
-     cap 2 2 5 3 1|doorbell 1/cap 2 2 9 259 0/cap 2 3 9 260 0|vm 3 2|cspace 1/vm 9 3|\
-     addrspace 1/vm 2 9|rm 2 3 1|addrspace 1/rm 2 9 1|cspace 1/rm 9 3 1|\
-     cspace 1/addrspace 1/rm 9 10 2|cspace 1/addrspace 1/cap 9 1 5 1 0/rm 9 10 1|\
-     cspace 1/addrspace 1/rm 9 10 1/cspace 1/addrspace 1/rm 11 12 1|link 1 6 7 8"
+     cap 2 2 5 3 1|doorbell 1\ncap 2 2 9 259 0\ncap 2 3 9 260 0|vm 3 2|cspace 1\nvm 9 3|\
+     addrspace 1\nvm 2 9|rm 2 3 1|addrspace 1\nrm 2 9 1|cspace 1\nrm 9 3 1|\
+     cspace 1\naddrspace 1\nrm 9 10 2|cspace 1\naddrspace 1\ncap 9 1 5 1 0\nrm 9 10 1|\
+     cspace 1\naddrspace 1\nrm 9 10 1\ncspace 1\naddrspace 1\nrm 11 12 1|link 1 6 7 8"
 }
 
 /// The same of links, behind a resource manager of capability space 9.
 fn misfit_links() -> &'static str {
     "link 0 6 7 8|link 2 6 7 8|link 1 5 7 8|link 1 6 5 8|link 1 6 7 5|link 1 6 7 7|\
-     msgqueue 1 4 241/link 1 6 11 8|cap 9 2 5 1 0/link 1 6 7 8|cap 9 3 5 1 0/link 1 6 7 8|\
-     link 1 6 7 8/link 1 6 7 8|\
-     cspace 1/addrspace 1/vm 11 12/link 1 6 7 8/msgqueue 1 4 16/link 2 6 7 13|\
-     cspace 1/addrspace 1/vm 11 12/link 1 6 7 8/msgqueue 1 4 16/link 2 6 13 8"
+     msgqueue 1 4 241\nlink 1 6 11 8|cap 9 2 5 1 0\nlink 1 6 7 8|cap 9 3 5 1 0\nlink 1 6 7 8|\
+     link 1 6 7 8\nlink 1 6 7 8|\
+     cspace 1\naddrspace 1\nvm 11 12\nlink 1 6 7 8\nmsgqueue 1 4 16\nlink 2 6 7 13|\
+     cspace 1\naddrspace 1\nvm 11 12\nlink 1 6 7 8\nmsgqueue 1 4 16\nlink 2 6 13 8"
+}
+
+/// The resource manager and its spaces.
+fn manager() -> &'static str {
+    "cspace 1\naddrspace 1\nrm 9 10 1\n"
+}
+
+fn conditions_are_kept(alloc: Global) -> bool {
+    last_are_bad(alloc, "", misspelled())
+        && last_are_bad(alloc, "", misfit_objects())
+        && last_are_bad(alloc, "", misfit_pages())
+        && last_are_bad(alloc, "", misfit_cpus())
+        && last_are_bad(alloc, manager(), misfit_links())
 }
 
 #[test]
-fn a_line_that_breaks_a_condition_is_bad(rt: HostRuntime) -> Result<(), Fail> {
-    let alloc = rt.alloc();
-    for table in [
-        misspelled(),
-        misfit_objects(),
-        misfit_pages(),
-        misfit_cpus(),
-    ] {
-        for run in table.split('|') {
-            assert!(rt; last_is_bad(alloc, run)?, "{run}");
-        }
-    }
-    for run in misfit_links().split('|') {
-        let run = joined(alloc, "cspace 1/addrspace 1/rm 9 10 1/", run)?;
-        assert!(rt; last_is_bad(alloc, &run)?, "{run}");
-    }
+fn a_line_that_breaks_a_condition_is_bad(rt: HostRuntime) {
+    assert!(rt; conditions_are_kept(rt.alloc()));
+}
+
+fn put_line(text: &mut String, word: &str, number: u32, back: &str) -> Result<(), NoMemory> {
+    text.push_str(word)?;
+    write!(text, "{number}")?;
+    text.push_str(back)?;
+    text.push_str("\n")?;
     Ok(())
 }
 
-/// Puts so many lines behind a text, each with its number from a first one.
 fn put_lines(
     text: &mut String,
     word: &str,
-    numbers: std::ops::Range<u32>,
+    numbers: Range<u32>,
     back: &str,
 ) -> Result<(), NoMemory> {
     for number in numbers {
-        write!(text, "{word}{number}{back}\n")?;
+        put_line(text, word, number, back)?;
     }
     Ok(())
 }
 
-/// Lines with the numbers up to a limit, and a line past it.
-#[test]
-fn a_line_past_a_limit_is_bad(rt: HostRuntime) -> Result<(), Fail> {
-    let alloc = rt.alloc();
-    for (word, from, to, past, back, bad) in [
+/// Lines behind the twelve, each with its number, and the first bad line.
+fn numbered_lines() -> [(&'static str, (u32, u32), &'static str, u32); 6] {
+    [
         // eight partitions, the first among them
-        ("partition ", 1, 8, 9, "", 20),
+        ("partition ", (1, 8), "", 0),
+        ("partition ", (1, 9), "", 20),
         // 64 mappings of an address space
-        ("map 3 4 ", 0, 64, 65, " 0 1 7", 77),
+        ("map 3 4 ", (0, 64), " 0 1 7", 0),
+        ("map 3 4 ", (0, 65), " 0 1 7", 77),
         // all slots of a capability space
-        ("cap 2 ", 2, 128, 129, " 5 3 0", 139),
-    ] {
-        let mut text = String::from_str(alloc, twelve_lines())?;
-        put_lines(&mut text, word, from..to, back)?;
-        assert_eq!(rt; bad_line(alloc, &text)?, 0, "{word}");
-        put_lines(&mut text, word, to..past, back)?;
-        assert_eq!(rt; bad_line(alloc, &text)?, bad, "{word}");
+        ("cap 2 ", (2, 128), " 5 3 0", 0),
+        ("cap 2 ", (2, 129), " 5 3 0", 139),
+    ]
+}
+
+/// The first bad line where there is a line with each of these numbers behind the twelve.
+fn bad_line_of(
+    alloc: Global,
+    word: &str,
+    numbers: (u32, u32),
+    back: &str,
+) -> Result<u32, NoMemory> {
+    let mut text = String::from_str(alloc, twelve_lines())?;
+    put_lines(&mut text, word, numbers.0..numbers.1, back)?;
+    Ok(bad_line(alloc, &text))
+}
+
+fn limits_are_kept(alloc: Global) -> bool {
+    let mut all = true;
+    for (word, numbers, back, line) in numbered_lines() {
+        all = all && bad_line_of(alloc, word, numbers, back) == Ok(line);
+    }
+    all
+}
+
+#[test]
+fn a_line_past_a_limit_is_bad(rt: HostRuntime) {
+    assert!(rt; limits_are_kept(rt.alloc()));
+}
+
+fn put_times(text: &mut String, line: &str, count: u32) -> Result<(), NoMemory> {
+    for _ in 0..count {
+        text.push_str(line)?;
     }
     Ok(())
 }
 
 /// A second partition of 128 units as object 9, and in it spaces of one kind or of both.
-fn with_spaces(alloc: Global, count: u32, back: &str) -> Result<String, NoMemory> {
+fn with_spaces(alloc: Global, count: u32, spaces: &str) -> Result<String, NoMemory> {
     let mut text = joined(alloc, twelve_lines(), "partition 128\n")?;
-    for _ in 0..count {
-        text.push_str("cspace 9\n")?;
-        text.push_str(back)?;
-    }
+    put_times(&mut text, spaces, count)?;
     Ok(text)
 }
 
-#[test]
-fn spaces_and_vms_have_limits(rt: HostRuntime) -> Result<(), Fail> {
-    let alloc = rt.alloc();
+/// The first bad line where there are so many capability spaces more.
+fn bad_line_of_spaces(alloc: Global, count: u32) -> Result<u32, NoMemory> {
+    let text = with_spaces(alloc, count, "cspace 9\n")?;
+    Ok(bad_line(alloc, &text))
+}
+
+/// The first bad line where eight pairs of spaces stand on lines 14 to 29, from object 10 on, and
+/// behind them a VM of each.
+fn bad_line_of_vms(alloc: Global) -> Result<u32, NoMemory> {
+    let vms = "vm 10 11\nvm 12 13\nvm 14 15\nvm 16 17\nvm 18 19\nvm 20 21\nvm 22 23\nvm 24 25\n";
+    let mut text = with_spaces(alloc, 8, "cspace 9\naddrspace 9\n")?;
+    text.push_str(vms)?;
+    Ok(bad_line(alloc, &text))
+}
+
+fn counts_are_limited(alloc: Global) -> bool {
     // With the first there are sixteen capability spaces, on lines 4 and 14 to 28.
-    assert_eq!(rt; bad_line(alloc, &with_spaces(alloc, 15, "")?)?, 0);
-    assert_eq!(rt; bad_line(alloc, &with_spaces(alloc, 16, "")?)?, 29);
-    // Eight pairs of spaces stand on lines 14 to 29, from object 10 on. The ninth VM is on line 37.
-    let mut text = with_spaces(alloc, 8, "addrspace 9\n")?;
-    for pair in 5..13u32 {
-        write!(text, "vm {} {}\n", 2 * pair, 2 * pair + 1)?;
-    }
-    assert_eq!(rt; bad_line(alloc, &text)?, 37);
-    Ok(())
+    bad_line_of_spaces(alloc, 15) == Ok(0)
+        && bad_line_of_spaces(alloc, 16) == Ok(29)
+        // The ninth VM is on line 37.
+        && bad_line_of_vms(alloc) == Ok(37)
+}
+
+#[test]
+fn spaces_and_vms_have_limits(rt: HostRuntime) {
+    assert!(rt; counts_are_limited(rt.alloc()));
 }
