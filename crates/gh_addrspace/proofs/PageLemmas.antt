@@ -1,10 +1,9 @@
 -- Where each page leads once a run is set.
 use Rattle.std.proofs.Common.{◌≡◌, ℕ, ◌+◌, ◌-◌, ◌<◌, ◌≤◌, ◌==◌}
-use Rattle.std.proofs.Common.{◌⊎◌, inl, inr, Bool, true, false, ◌&&◌, List, Option, Some}
+use Rattle.std.proofs.Common.{◌⊎◌, inl, inr, true, false, ◌&&◌, List, Some}
 use Rattle.std.proofs.Common.{None, min, max, if◌then◌else◌, refl, sym, ap, ◌∙◌, arith}
 use Rattle.std.proofs.lemmas.Bool.{and_from, and_left, and_right, cases_eq}
 use Rattle.std.proofs.lemmas.Bool.{cases_lt, le-leb, le-ltb, lt-leb, lt-ltb}
-use Rattle.gh_base.specs.declared.ids.PageNo.{PageNo}
 use Rattle.gh_base.specs.declared.ids.Serial.{Serial}
 use Rattle.gh_addrspace.specs.Rows.{in_run, page_at}
 use Rattle.gh_addrspace.specs.Space.{followed}

@@ -1,21 +1,20 @@
 -- Rows that cover a page, and those that are left.
-use Rattle.std.proofs.Common.{◌≡◌, ℕ, suc, ◌+◌, ◌-◌, ◌<◌, ◌≤◌}
+use Rattle.std.proofs.Common.{◌≡◌, ℕ, suc, ◌+◌}
 use Rattle.std.proofs.Common.{Bool, true, false, not, ◌&&◌, ◌||◌, List, []}
-use Rattle.std.proofs.Common.{◌∷◌, ◌++◌, length, map, Option, Some, None}
+use Rattle.std.proofs.Common.{◌∷◌, ◌++◌, map, Option, Some, None}
 use Rattle.std.proofs.Common.{if◌then◌else◌, refl, sym, ap, subst, ◌∙◌, arith}
 use Rattle.std.specs.List.{All, filter, find, fold, list_any}
 use Rattle.std.specs.Option.{IfSome, option_map}
 use Rattle.std.proofs.lemmas.Bool.{and_from, and_parts, false_from_ne_true, leb-true, lt-ltb}
 use Rattle.std.proofs.lemmas.Bool.{ltb-true, not-true, or_parts, true≢false, false≢true}
-use Rattle.gh_base.specs.declared.ids.Serial.{Serial}
 use Rattle.gh_addrspace.specs.Rows.{covering, covers, hides, is_chosen}
-use Rattle.gh_addrspace.specs.Rows.{is_covered, others, overlaps}
+use Rattle.gh_addrspace.specs.Rows.{is_covered, overlaps}
 use Rattle.gh_addrspace.specs.Space.{at_most_one, followed, followed_by, follows}
 use Rattle.gh_addrspace.specs.declared.mapping.Chosen.{Chosen}
 use Rattle.gh_addrspace.specs.declared.mapping.Mapping.{Mapping}
 use Rattle.gh_model.specs.Memory.{row_covers}
 use Rattle.gh_model.specs.declared.memory.MapRow.{MapRow}
-use Rattle.gh_pagetable.specs.Map.{Target, at}
+use Rattle.gh_pagetable.specs.Map.{Target}
 
 -- of a test of rows
 module _ (q : Mapping → Bool) where

@@ -2,10 +2,10 @@
 -- shows who holds the pages.
 use Rattle.std.proofs.Common.{◌≡◌, ℕ, suc, ◌+◌, ◌-◌, ◌<◌, ◌≤◌}
 use Rattle.std.proofs.Common.{◌==◌, Bool, true, false, not, List, [], ◌∷◌}
-use Rattle.std.proofs.Common.{◌++◌, length, take, drop, replicate, get_or, slice_get}
+use Rattle.std.proofs.Common.{◌++◌, length, take, drop, get_or, slice_get}
 use Rattle.std.proofs.Common.{map, Option, Some, None, if◌then◌else◌, refl, sym}
-use Rattle.std.proofs.Common.{ap, ◌∙◌, subst, arith, rules, inl, inr, ◌⊎◌}
-use Rattle.std.specs.List.{All, filter, find, fold, list_all, list_any}
+use Rattle.std.proofs.Common.{ap, ◌∙◌, arith, rules, inl, inr}
+use Rattle.std.specs.List.{All, fold, list_any}
 use Rattle.std.specs.Option.{IsSomeAnd, option_map}
 use Rattle.std.proofs.lemmas.Bool.{cases_Bool, cases_eq, cases_lt, eq-eqb, eqb-true}
 use Rattle.std.proofs.lemmas.Bool.{ne_eqb, or_parts, true_from_ne_false, true≢false}
@@ -14,15 +14,15 @@ use Rattle.std.proofs.lemmas.List.Folds.{list_all_at}
 use Rattle.std.proofs.lemmas.Option.{slice_get-get_or, slice_get_past}
 use Rattle.std.proofs.lemmas.List.Elements.{All-filter, All-push}
 use Rattle.gh_base.specs.declared.ids.Serial.{Serial}
-use Rattle.gh_addrspace.specs.Rows.{IsBounded, covering, covers, hides, in_run, is_chosen}
-use Rattle.gh_addrspace.specs.Rows.{is_covered, mapping_of, others, overlaps, page_at}
-use Rattle.gh_addrspace.specs.Space.{IsNamed, IsSpace, Shows, Space, at_most_one}
-use Rattle.gh_addrspace.specs.Space.{followed, followed_by, followed_in, follows, rows_of}
+use Rattle.gh_addrspace.specs.Rows.{IsBounded, covering, covers, hides, is_chosen}
+use Rattle.gh_addrspace.specs.Rows.{is_covered, others, overlaps, page_at}
+use Rattle.gh_addrspace.specs.Space.{IsNamed, IsSpace, Shows, Space}
+use Rattle.gh_addrspace.specs.Space.{followed, followed_by, follows}
 use Rattle.gh_addrspace.specs.declared.mapping.Chosen.{Chosen}
 use Rattle.gh_addrspace.specs.declared.mapping.Mapping.{Mapping}
 use Rattle.gh_model.specs.Boot.{move_pages}
 use Rattle.gh_model.specs.Memory.{HoldsRun, access_of, covering_access, held_access}
-use Rattle.gh_model.specs.Memory.{holds_page, is_serial, row_covers, span_access}
+use Rattle.gh_model.specs.Memory.{holds_page, is_serial}
 use Rattle.gh_model.specs.declared.memory.MapRow.{MapRow}
 use Rattle.gh_model.specs.declared.memory.Span.{Span}
 use Rattle.gh_pagetable.specs.Map.{IsOutside, Target, at}

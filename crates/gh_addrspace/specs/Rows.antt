@@ -1,9 +1,8 @@
 -- The mapping rows of an address space: which pages they cover, and which machine pages they name.
-use Rattle.std.specs.Prelude.{◌≡◌, ◌==◌, ◌&&◌, ◌+◌, ◌-◌}
-use Rattle.std.specs.Prelude.{◌≤◌, ℕ, Bool, List, Option, Some, None, not}
-use Rattle.std.specs.Prelude.{filter, find, nat_le, nat_lt, if◌then◌else◌}
+use Rattle.std.specs.Prelude.{◌==◌, ◌&&◌, ◌+◌, ◌-◌}
+use Rattle.std.specs.Prelude.{◌≤◌, ℕ, Bool, List, Option, Some, not}
+use Rattle.std.specs.Prelude.{filter, find, nat_le, nat_lt}
 use Rattle.std.specs.List.{list_any}
-use Rattle.gh_base.specs.declared.ids.PageNo.{PageNo}
 use Rattle.gh_base.specs.declared.limits.TheConstants.{SPACE_PAGES}
 use Rattle.gh_addrspace.specs.declared.mapping.Chosen.{Chosen}
 use Rattle.gh_addrspace.specs.declared.mapping.Chosen.TheVariants.{Pages, Parcel}

@@ -1,8 +1,8 @@
 -- An address space as callers see it: its mapping rows, in the order in which they were made, and
 -- where each of its pages leads.
-use Rattle.std.specs.Prelude.{◌≡◌, ◌==◌, ◌&&◌, ◌+◌, ◌<◌}
-use Rattle.std.specs.Prelude.{◌≤◌, not, ℕ, Bool, true, false, IsTrue, List, []}
-use Rattle.std.specs.Prelude.{◌∷◌, ◌++◌, length, map, filter, Option, Some}
+use Rattle.std.specs.Prelude.{◌≡◌, ◌==◌, ◌&&◌, ◌+◌}
+use Rattle.std.specs.Prelude.{not, ℕ, Bool, true, false, List, []}
+use Rattle.std.specs.Prelude.{◌∷◌, ◌++◌, length, map, find, Option, Some}
 use Rattle.std.specs.Prelude.{None, IsSomeAnd, nat_le, nat_lt, All, if◌then◌else◌}
 use Rattle.std.specs.List.{list_any}
 use Rattle.std.specs.Option.{option_map}
@@ -35,6 +35,10 @@ rows_of s = map (λ m. m.row) s.mappings
 -- the row that covers a page
 abbrev pub row_at : Space → ℕ → Option MapRow
 row_at s v = option_map (λ m. m.row) (covering s.mappings v)
+
+-- the first row that is chosen
+abbrev pub chosen_row : Chosen → Space → Option MapRow
+chosen_row chosen s = option_map (λ m. m.row) (find (is_chosen chosen) s.mappings)
 
 -- the access with this number
 abbrev pub with_access : PageNo × ℕ → PageNo × Access

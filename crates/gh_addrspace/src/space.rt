@@ -8,7 +8,8 @@ ghost use Rattle.std.specs.Result.{result_err};
 ghost use Rattle.gh_base.specs.declared.ids.Serial.{Serial as Number};
 ghost use Rattle.gh_addrspace.specs.Rows.{is_chosen, others, overlaps};
 ghost use Rattle.gh_addrspace.specs.Space.{Follows, IsEmptySpace, LeavesOthers, MapsIn, Shows};
-ghost use Rattle.gh_addrspace.specs.Space.{lookup_at, row_at, span_map_refusal, unmap_refusal};
+ghost use Rattle.gh_addrspace.specs.Space.{chosen_row, lookup_at, row_at, span_map_refusal};
+ghost use Rattle.gh_addrspace.specs.Space.{unmap_refusal};
 ghost use Rattle.gh_model.specs.Boot.{access_fits, move_pages};
 ghost use Rattle.gh_model.specs.Memory.{HoldsRun};
 ghost use Rattle.gh_pagetable.specs.Map.{at, tables_of};
@@ -195,6 +196,20 @@ impl Space {
             count,
         };
         has_chosen(&self.mappings, chosen)
+    }
+
+    /// The row of the map call that is of these pages of the extent; none where none is.
+    pub fn row(&self, extent: Serial, base: u64, offset: u64, count: u64) -> Option<MapRow>
+        ensures { result ≡ chosen_row (Chosen.Pages extent base offset count) self.now }
+    {
+        let chosen = Chosen::Pages {
+            extent,
+            base,
+            offset,
+            count,
+        };
+        let mapping = self.mappings.iter().find(|mapping| chosen.has(mapping))?;
+        Some(mapping.row)
     }
 
     /// Follows a run of machine pages that moved from one extent to another. Its cost grows with

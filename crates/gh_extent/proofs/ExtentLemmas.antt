@@ -1,12 +1,12 @@
 -- Rows that are found, and spans that stay within the machine's pages.
-use Rattle.std.proofs.Common.{◌≡◌, ℕ, suc, ◌+◌, ◌<◌, ◌≤◌, inl, inr}
-use Rattle.std.proofs.Common.{Bool, true, false, not, List, [], ◌∷◌, ◌++◌}
-use Rattle.std.proofs.Common.{length, take, drop, Option, Some, None, if◌then◌else◌}
-use Rattle.std.proofs.Common.{refl, sym, ap, ◌∙◌, arith, rules}
-use Rattle.std.specs.List.{All, filter, find, list_all, position, position_or_len, prefix_len}
+use Rattle.std.proofs.Common.{◌≡◌, ℕ, suc, ◌+◌, ◌≤◌, inl, inr}
+use Rattle.std.proofs.Common.{Bool, true, false, List, [], ◌∷◌}
+use Rattle.std.proofs.Common.{length, drop, Option, Some, None, if◌then◌else◌}
+use Rattle.std.proofs.Common.{refl, ap, arith}
+use Rattle.std.specs.List.{All, find, position_or_len}
 use Rattle.std.specs.Option.{IfSome, IsSomeAnd, option_map_or}
 use Rattle.std.proofs.lemmas.Bool.{eqb-true, cases_lt, lt-ltb, le-ltb}
-use Rattle.std.proofs.lemmas.List.{length-drop, take-append-drop}
+use Rattle.std.proofs.lemmas.List.{length-drop}
 use Rattle.std.proofs.lemmas.List.Elements.{All-filter, All-push}
 use Rattle.std.proofs.lemmas.List.Sums.{prefix_len-le-length}
 use Rattle.gh_base.specs.declared.ids.PageNo.{PageNo}
@@ -14,7 +14,6 @@ use Rattle.gh_base.specs.declared.ids.Serial.{Serial}
 use Rattle.gh_extent.specs.Extents.{AreWithin, Extents, IsSpanIn, first_run}
 use Rattle.gh_extent.specs.Extents.{is_other, moved, row_of, with_row, without_row}
 use Rattle.gh_extent.proofs.RunLemmas.{length-moved, same_serial}
-use Rattle.gh_model.specs.Boot.{move_pages}
 use Rattle.gh_model.specs.Memory.{is_serial}
 use Rattle.gh_model.specs.Rows.{is_extent}
 use Rattle.gh_model.specs.declared.memory.Span.{Span}

@@ -1,6 +1,6 @@
 -- Runs of pages: where they end, and what lies before and behind a page.
 use Rattle.std.proofs.Common.{◌≡◌, not, ℕ, zero, suc, ◌+◌, ◌-◌, ◌<◌, ◌≤◌}
-use Rattle.std.proofs.Common.{◌⊎◌, inl, inr, true, false, List, [], ◌∷◌, ◌++◌}
+use Rattle.std.proofs.Common.{inl, inr, true, false, List, [], ◌∷◌, ◌++◌}
 use Rattle.std.proofs.Common.{length, take, drop, get_or, replicate, slice_get, nat_le, Bool, Some}
 use Rattle.std.proofs.Common.{refl, sym, ap, ◌∙◌, arith, rules, one-add, add-one}
 use Rattle.std.specs.List.{insert, list_all, remove, prefix_len, position_or_len}
@@ -10,7 +10,7 @@ use Rattle.std.proofs.lemmas.Bool.{cases_lt, eq-eqb, le-leb, leb-false, lt-leb}
 use Rattle.std.proofs.lemmas.List.{append_assoc, drop-drop, length-take-le, length-drop}
 use Rattle.std.proofs.lemmas.List.{places, drop-append-le, drop-replicate, length-append}
 use Rattle.std.proofs.lemmas.List.{length-replicate, replicate-append-replicate}
-use Rattle.std.proofs.lemmas.List.{take-append-drop, drop_more, drop_all, take_at}
+use Rattle.std.proofs.lemmas.List.{take-append-drop, drop_all, take_at}
 use Rattle.std.proofs.lemmas.List.{get_or_append_left, get_or-append_right, get_or-replicate}
 use Rattle.std.proofs.lemmas.List.Edits.{length-insert}
 use Rattle.std.proofs.lemmas.List.Folds.{prefix_len-append, prefix_len-replicate}
@@ -21,6 +21,7 @@ use Rattle.std.proofs.lemmas.List.Sums.{prefix_len_is, prefix_len-le-length, pre
 use Rattle.gh_base.specs.declared.ids.Serial.{Serial}
 use Rattle.gh_extent.specs.declared.run_list.Run.{Run}
 use Rattle.gh_model.specs.Boot.{move_pages}
+use Rattle.gh_model.specs.Memory.{HoldsRun, is_serial}
 use Rattle.gh_extent.specs.Runs.{Rising, end_of, ends_by, spread}
 
 -- each run ends behind where the runs begin
@@ -435,6 +436,26 @@ list_all-take q (x ∷ xs) (suc n) within =
       | true ↦ λ is. rw (is, leb-next) (list_all-take q xs n (omega arith))
       | false ↦ λ is. rw is (lt-leb (suc n) 0 (omega arith))
     ] refl
+
+-- a page is the first of those that its holder holds without a gap
+pub run_some : (holders : List Serial) (page : ℕ) (holder : Serial) → slice_get holders page ≡ Some holder
+    → 0 < prefix_len (is_serial holder.0) (drop page holders)
+run_some [] zero holder is = absurd (cc)
+run_some [] (suc page) holder is = absurd (cc)
+run_some (h ∷ holders) zero holder is =
+    let same : h ≡ holder = cc in
+    rw (same, eq-eqb holder.0 holder.0 refl) (omega arith)
+run_some (h ∷ holders) (suc page) holder is = run_some holders page holder is
+
+-- and it holds each of these
+pub run_held : (holders : List Serial) (holder page count : ℕ) → page + count ≤ length holders
+    → count ≤ prefix_len (is_serial holder) (drop page holders) → HoldsRun holders holder page count
+run_held holders holder page count within held = record {
+  within = within;
+  held =
+      sym (list_all-take (is_serial holder) (drop page holders) count (omega (arith, length-drop page holders, within)))
+      ∙ le-leb count (prefix_len (is_serial holder) (drop page holders)) held;
+}
 
 -- a run in the place of others lies within as many pages
 pub length-give :

@@ -1,16 +1,15 @@
 -- Each parent, and the holder of each page, has a row after each change.
-use Rattle.std.proofs.Common.{◌≡◌, ◌≢◌, ℕ, suc, ◌+◌, ◌<◌, ◌≤◌}
+use Rattle.std.proofs.Common.{◌≡◌, ◌≢◌, ℕ, ◌+◌, ◌<◌, ◌≤◌}
 use Rattle.std.proofs.Common.{inl, inr, Bool, true, false, not, List, [], ◌∷◌}
-use Rattle.std.proofs.Common.{◌++◌, length, take, drop, replicate, get_or, Option, Some}
-use Rattle.std.proofs.Common.{None, if◌then◌else◌, refl, sym, ap, ◌∙◌, arith}
-use Rattle.std.specs.List.{All, filter, find, list_any, position_or_len}
+use Rattle.std.proofs.Common.{◌++◌, length, take, drop, replicate, get_or, Some}
+use Rattle.std.proofs.Common.{None, if◌then◌else◌, refl, sym, ◌∙◌, arith}
+use Rattle.std.specs.List.{filter, find, list_any, position_or_len}
 use Rattle.std.specs.Option.{IsSome, IsSomeAnd}
 use Rattle.std.proofs.lemmas.Bool.{cases_eq, cases_lt, eq-eqb, lt-ltb, ne_eqb, true≢false}
 use Rattle.std.proofs.lemmas.List.Elements.{All-append, All-drop, All-filter, All-push}
 use Rattle.std.proofs.lemmas.List.Elements.{All-replicate, All-take, All-weaker}
 use Rattle.std.proofs.lemmas.List.Folds.{list_any_at}
 use Rattle.std.proofs.lemmas.List.Sums.{prefix_len_passes}
-use Rattle.gh_base.specs.declared.ids.PageNo.{PageNo}
 use Rattle.gh_base.specs.declared.ids.Serial.{Serial}
 use Rattle.gh_extent.specs.Extents.{Extents, HasParent, HasRow, IsTree, first_run, is_child_of}
 use Rattle.gh_extent.specs.Extents.{is_other, moved, row_of, with_row, without_row}

@@ -1,13 +1,12 @@
 -- The extents as callers see them: the row of each, in the order in which they were made, and for
 -- each page of the machine its one holder.
 use Rattle.std.specs.Prelude.{◌≡◌, ◌≢◌, ◌==◌, ◌&&◌, ◌||◌, ◌+◌}
-use Rattle.std.specs.Prelude.{◌≤◌, not, ℕ, Bool, true, false, IsTrue, List, []}
+use Rattle.std.specs.Prelude.{◌≤◌, not, ℕ, Bool, true, false, List, []}
 use Rattle.std.specs.Prelude.{◌∷◌, ◌++◌, length, drop, replicate, filter, find}
 use Rattle.std.specs.Prelude.{position, Option, Some, None, IsSome, IsSomeAnd, nat_le}
-use Rattle.std.specs.Prelude.{nat_lt, bit_and, All, if◌then◌else◌}
+use Rattle.std.specs.Prelude.{nat_lt, All, if◌then◌else◌}
 use Rattle.std.specs.List.{list_any, prefix_len}
 use Rattle.std.specs.Option.{option_map}
-use Rattle.gh_base.specs.Access.{IsWithin}
 use Rattle.gh_base.specs.declared.access.Access.{Access}
 use Rattle.gh_base.specs.declared.errno.Errno.{Errno}
 use Rattle.gh_base.specs.declared.errno.Errno.TheVariants.{ArgInval, AddrInval, ArgSize, Denied}
@@ -17,7 +16,7 @@ use Rattle.gh_base.specs.declared.kind.Relation.{Relation}
 use Rattle.gh_base.specs.declared.kind.Relation.TheVariants.{ToChild, ToParent, ToSibling}
 use Rattle.gh_extent.specs.declared.extents.TheConstants.{EXTENT_PAGES}
 use Rattle.gh_model.specs.Boot.{access_fits, move_pages}
-use Rattle.gh_model.specs.Memory.{HoldsRun, holds_all, is_serial}
+use Rattle.gh_model.specs.Memory.{holds_all, is_serial}
 use Rattle.gh_model.specs.Rows.{is_extent}
 use Rattle.gh_model.specs.declared.memory.Span.{Span}
 use Rattle.gh_model.specs.declared.rows.ExtentRow.{ExtentRow}

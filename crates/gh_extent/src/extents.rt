@@ -3,15 +3,18 @@
 ghost use Rattle.std.specs.Prelude.{◌≡◌, ◌+◌, ◌<◌, ◌≤◌, IfOk};
 ghost use Rattle.std.specs.Prelude.{IfNone, IfSome, IsSomeAnd, OnErr, OnOk, IsOk};
 ghost use Rattle.std.specs.Prelude.{Some, All, filter, find, length, slice_get};
+ghost use Rattle.std.specs.List.{list_any};
 ghost use Rattle.std.specs.Result.{result_err};
 ghost use Rattle.gh_extent.specs.Extents.{CanGiveBack, HasRow, IsNewChild, IsSpanIn, IsTree};
 ghost use Rattle.gh_extent.specs.Extents.{after_give_back, derive_refusal, derived};
-ghost use Rattle.gh_extent.specs.Extents.{donate_refusal, donated, first_run, is_other};
+ghost use Rattle.gh_extent.specs.Extents.{donate_refusal, donated, first_run, is_child_of};
+ghost use Rattle.gh_extent.specs.Extents.{is_other};
 ghost use Rattle.gh_extent.specs.Extents.{is_related, moved, root_alone, row_derive_refusal};
 ghost use Rattle.gh_extent.specs.Extents.{row_of, rows_donate_refusal, span_row, spans_all};
 ghost use Rattle.gh_extent.specs.Extents.{with_parcel, with_row, without_row};
 ghost use Rattle.gh_model.specs.Boot.{access_fits};
 ghost use Rattle.gh_model.specs.Memory.{HoldsRun};
+ghost use Rattle.gh_model.specs.MemoryCalls.{holds_run};
 ghost use Rattle.gh_model.specs.Rows.{is_extent};
 
 use crate::runs::Runs;
@@ -243,8 +246,8 @@ impl Extents {
         self.holders.holder(page.0)
     }
 
-    /// The row of an extent.
-    fn row(&self, extent: Serial) -> Option<ExtentRow>
+    /// The row of an extent. It looks at one row after another.
+    pub fn row(&self, extent: Serial) -> Option<ExtentRow>
         ensures row { result ≡ row_of self.now extent.0 }
         ensures within { IfSome result
             (λ row. row.first.0 + row.count ≤ length self.now.holders) }
@@ -252,6 +255,37 @@ impl Extents {
         ensures pages { length self.now.holders ≤ EXTENT_PAGES }
     {
         row_in(&self.rows, extent)
+    }
+
+    /// Whether it is the parent of an extent. Serial 0 is that of the root, which is the first row,
+    /// so the test for it ends at once.
+    pub fn has_child(&self, extent: Serial) -> bool
+        ensures { result ≡ list_any (is_child_of extent.0) self.now.rows }
+    {
+        self.rows.iter().any(|row| row.parent == extent)
+    }
+
+    /// The holder of a page, and how many pages from it on, `most` at most, it holds without a gap.
+    pub fn run_at(&self, page: PageNo, most: u16) -> (Serial, u16)
+        requires some { 0 < most }
+        requires within { page.0 + most ≤ length self.now.holders }
+        ensures some { 0 < result.1 }
+        ensures most { result.1 ≤ most }
+        ensures held { HoldsRun self.now.holders result.0.0 page.0 result.1 }
+    {
+        self.holders.run_at(page.0, most)
+    }
+
+    /// Whether the extent holds each page of a run of the machine's pages. It finds the first page's
+    /// run by a binary search.
+    pub fn holds_run(&self, extent: Serial, first: u128, count: u128) -> bool
+        ensures { result ≡ holds_run self.now.holders extent first count }
+    {
+        let pages = self.holders.pages() as u128;
+        if first > pages || count > pages - first {
+            return false;
+        }
+        self.holders.holds(extent, first as u16, count as u16)
     }
 
     /// Puts a row last.

@@ -5,7 +5,7 @@ ghost use Rattle.std.specs.Prelude.{Some, length, drop, replicate, slice_get};
 ghost use Rattle.std.specs.List.{prefix_len};
 ghost use Rattle.gh_extent.specs.Extents.{first_run};
 ghost use Rattle.gh_model.specs.Boot.{move_pages};
-ghost use Rattle.gh_model.specs.Memory.{holds_all, is_serial};
+ghost use Rattle.gh_model.specs.Memory.{HoldsRun, holds_all, is_serial};
 
 use crate::run_list::{Run, first_held, give, held_to, place_of};
 use gh_base::{NoMemory, PageNo, Serial};
@@ -55,6 +55,18 @@ impl Runs {
         ensures { slice_get self.now page ≡ Some result }
     {
         self.runs[place_of(&self.runs, page)].holder
+    }
+
+    /// The holder of a page, and how many pages from it on, `most` at most, it holds without a gap.
+    pub fn run_at(&self, page: u16, most: u16) -> (Serial, u16)
+        requires some { 0 < most }
+        requires within { page + most ≤ length self.now }
+        ensures some { 0 < result.1 }
+        ensures most { result.1 ≤ most }
+        ensures held { HoldsRun self.now result.0.0 page result.1 }
+    {
+        let holder = self.holder(page);
+        (holder, self.held_from(holder, page).min(most))
     }
 
     /// Whether the extent holds each of these pages.

@@ -1,4 +1,5 @@
 pub mod CountsLemmas
+pub mod KindsLemmas
 pub mod ListLemmas
 pub mod NamesLemmas
 pub mod ObjectsLemmas

@@ -6,6 +6,7 @@ use Rattle.std.specs.Prelude.{is_some, is_none, take, drop, count_by, nat_lt}
 use Rattle.std.specs.Prelude.{slice_index_or, slice_set, replicate, if◌then◌else◌}
 use Rattle.std.specs.List.{position_or_len}
 use Rattle.std.specs.Option.{option_map, option_map_or}
+use Rattle.gh_base.specs.Kind.{kind_number}
 use Rattle.gh_base.specs.declared.ids.ObjIndex.{ObjIndex}
 use Rattle.gh_base.specs.declared.kind.Kind.{Kind}
 use Rattle.gh_base.specs.declared.kind.Kind.TheVariants.{Partition, Cspace, Space}
@@ -142,6 +143,10 @@ header_staged stage s index =
 -- the header is that of the object with this serial
 abbrev pub has_serial : ℕ → Option Header → Bool
 has_serial serial header = option_map_or (λ h. h.serial.0 == serial) header false
+
+-- the header is that of an object of the kind
+abbrev pub has_kind : Kind → Option Header → Bool
+has_kind kind header = option_map_or (λ h. kind_number h.kind == kind_number kind) header false
 
 -- fewer partitions live than there can be
 abbrev pub has_partition_place : HeaderTable → Bool

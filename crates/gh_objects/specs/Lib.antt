@@ -1,5 +1,6 @@
 pub mod Counts
 pub mod Headers
+pub mod Kinds
 pub mod Names
 pub mod Objects
 pub mod Partitions

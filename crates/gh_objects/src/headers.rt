@@ -6,7 +6,8 @@ ghost use Rattle.std.specs.List.{position_or_len};
 ghost use Rattle.gh_objects.specs.Headers.{no_headers, header_at, headers_in, is_partition};
 ghost use Rattle.gh_objects.specs.Headers.{place_of, free_index, IsBootPlace, HasIndex, new_index};
 ghost use Rattle.gh_objects.specs.Headers.{with_header, header_inserted, header_removed};
-ghost use Rattle.gh_objects.specs.Headers.{header_staged, has_partition_place, has_serial};
+ghost use Rattle.gh_objects.specs.Headers.{header_staged, has_kind, has_partition_place};
+ghost use Rattle.gh_objects.specs.Headers.{has_serial};
 ghost use Rattle.gh_objects.specs.Partitions.{HavePlaces, place_if};
 
 use crate::header::Header;
@@ -71,6 +72,13 @@ impl Headers {
         ensures { result ≡ has_partition_place self.now }
     {
         has_free_place(&self.partitions)
+    }
+
+    /// How many live objects are of the kind. It looks at no header.
+    pub fn kind_count(&self, kind: Kind) -> usize
+        ensures { result ≡ count_by (has_kind kind) self.now.headers }
+    {
+        self.table.kind_count(kind)
     }
 
     /// The index of the live object with this serial, by a binary search; none exactly where no

@@ -5,6 +5,7 @@ mod count;
 mod counts;
 mod header;
 mod headers;
+mod kinds;
 mod law;
 mod names;
 mod objects;

@@ -2,12 +2,15 @@
 
 ghost use Rattle.std.specs.Prelude.{◌≡◌, ◌<◌, ℕ, false, true, None, IfOk};
 ghost use Rattle.std.specs.Prelude.{IfSome, is_some, count_by, replicate, slice_set};
-ghost use Rattle.gh_objects.specs.Headers.{header_at, headers_in, free_index, has_serial};
+ghost use Rattle.gh_objects.specs.Headers.{header_at, headers_in, free_index, has_kind};
+ghost use Rattle.gh_objects.specs.Headers.{has_serial};
 
 use crate::header::Header;
+use crate::kinds::{KINDS, lower, number_of, raise};
 use crate::names::{INDEX_VALUES, Names, index_in, name_at, name_of, rename};
 use gh_base::{
-    NoMemory, OBJECT_INDICES, PARTITION_PLACES, PARTITIONS, Serial, first_free_place, with_place,
+    Kind, NoMemory, OBJECT_INDICES, PARTITION_PLACES, PARTITIONS, Serial, first_free_place,
+    with_place,
 };
 use std::alloc::Global;
 use std::marker::Model;
@@ -19,6 +22,7 @@ pub struct Table {
     // The word of each partition place has a bit for each of its indices that has a header.
     taken: [u128; PARTITIONS],
     names: Names,
+    kinds: [u16; KINDS],
 }
 
 impl Model for Table {
@@ -30,7 +34,7 @@ impl Model for Table {
 
     ghost view = { λ t. t.headers.items };
 
-    ghost invariant = { λ t. IsKept t.headers.items t.taken t.names };
+    ghost invariant = { λ t. IsKept t.headers.items t.taken t.names t.kinds };
 }
 
 impl Table {
@@ -42,6 +46,7 @@ impl Table {
             headers: no_headers(alloc, OBJECT_INDICES)?,
             taken: [0; PARTITIONS],
             names: Names::new(alloc)?,
+            kinds: [0; KINDS],
         })
     }
 
@@ -57,12 +62,21 @@ impl Table {
         requires { index < OBJECT_INDICES }
         ensures { self.new ≡ slice_set self.old index header }
     {
-        let old = name_at(index, self.get(index));
-        rename(&mut self.names, old, name_at(index, header));
+        let old = self.get(index);
+        rename(&mut self.names, name_at(index, old), name_at(index, header));
+        lower(&mut self.kinds, old);
+        raise(&mut self.kinds, header);
         let place = index / PARTITION_PLACES;
         let bits = self.taken[place];
         self.taken[place] = with_place(bits, index % PARTITION_PLACES, header.is_none());
         self.headers[index] = header;
+    }
+
+    /// How many headers are those of objects of the kind. It looks at no header.
+    pub fn kind_count(&self, kind: Kind) -> usize
+        ensures { result ≡ count_by (has_kind kind) self.now }
+    {
+        number_of(&self.kinds, kind) as usize
     }
 
     /// The least free index of a partition place. It looks at no header.

@@ -1,4 +1,4 @@
--- What the parts tell of bells and units is what the rows say.
+-- What the parts tell of bodies, units and objects is what the rows say.
 use Rattle.std.proofs.Common.{◌≡◌, ◌∙◌, ◌-◌, ℕ, true, List, Option, Some, None, refl, sym, ap, arith, find}
 use Rattle.std.specs.Prelude.{slice_index_or}
 use Rattle.std.specs.Option.{option_map, option_map_or}
@@ -15,34 +15,59 @@ use Rattle.gh_model.specs.Units.{free_units, given_by, row_quota, used_by}
 use Rattle.gh_model.specs.declared.rows.ObjectRow.{ObjectRow}
 use Rattle.gh_model.specs.declared.rows.PartitionRow.{PartitionRow}
 use Rattle.gh_model.specs.declared.state.State.{State}
-use Rattle.gh_state.specs.Accounts.{free_of}
-use Rattle.gh_state.specs.Bodies.{bell_in}
+use Rattle.gh_state.specs.Accounts.{free_of, partition_in}
+use Rattle.gh_state.specs.Bodies.{bell_in, body_of}
 use Rattle.gh_state.specs.Index.{found_index, index_of, serial_at}
 use Rattle.gh_state.specs.ObjectReads.{object_row_at, row_of_header}
 use Rattle.gh_objects.specs.declared.header.Header.{Header}
 use Rattle.gh_state.specs.Shares.{body_at, place_at}
 use Rattle.gh_state.specs.Stands.{Stands, account_of, header_of, is_account}
+use Rattle.gh_state.specs.declared.body.Body.{Body}
+use Rattle.gh_state.specs.declared.body.Body.TheVariants.{Nothing}
 use Rattle.gh_state.specs.declared.parts.Parts.{Parts}
 use Rattle.gh_state.proofs.BodyLemmas.{body_none}
 use Rattle.gh_state.proofs.Living.{There, kind_there}
 use Rattle.gh_state.proofs.IndexLemmas.{found_at, unfound_past}
 
 module _ (parts : Parts) (s : State) (stand : Stands parts s) where
+  -- what is seen of an object's body is seen at the index that is found
+  pub seen_told : {V : Type 0} (see : Body → V) (v : V) (serial : ℕ) (index : ObjIndex)
+      → see (body_of parts.table.headers parts.shares serial) ≡ v → Some index ≡ found_index parts.table.headers serial
+      → see (body_at parts.shares index.0) ≡ v
+  seen_told see v serial index is found =
+      ap (λ (i : ℕ). see (body_at parts.shares i)) (sym (found_at parts.table.headers serial index (sym found))) ∙ is
+
+  -- and of nothing where none is found
+  pub seen_untold : {V : Type 0} (see : Body → V) (v : V) (serial : ℕ)
+      → see (body_of parts.table.headers parts.shares serial) ≡ v → None ≡ found_index parts.table.headers serial
+      → see Nothing ≡ v
+  seen_untold see v serial is none =
+      ap see
+      (sym (body_none parts.shares (index_of parts.table.headers serial) stand.objects.whole
+      (omega (arith, stand.objects.indexed.indices, unfound_past parts.table.headers serial (sym none)))))
+      ∙ is
+
   -- the bell at the index that is found
   pub bell_told : (serial : ℕ) (index : ObjIndex) → Some index ≡ found_index parts.table.headers serial
       → bell_in serial (body_at parts.shares index.0) ≡ find (is_bell serial) s.bells
   bell_told serial index found =
-      ap (λ (i : ℕ). bell_in serial (body_at parts.shares i)) (sym (found_at parts.table.headers serial index (sym found)))
-      ∙ sym (stand.bells serial)
+      seen_told (bell_in serial) (find (is_bell serial) s.bells) serial index (sym (stand.bells serial)) found
 
   -- and none where none is found
   pub bell_untold : (serial : ℕ) → None ≡ found_index parts.table.headers serial
       → None ≡ find (is_bell serial) s.bells
   bell_untold serial none =
-      ap (bell_in serial)
-      (sym (body_none parts.shares (index_of parts.table.headers serial) stand.objects.whole
-      (omega (arith, stand.objects.indexed.indices, unfound_past parts.table.headers serial (sym none)))))
-      ∙ sym (stand.bells serial)
+      seen_untold (bell_in serial) (find (is_bell serial) s.bells) serial (sym (stand.bells serial)) none
+
+  partition_by : (found : Option PartitionRow)
+      → partition_in (option_map (account_of s.objects s.partitions) found) ≡ found
+  partition_by None = refl
+  partition_by (Some row) = refl
+
+  -- the row of a partition
+  pub partition_told : (serial : ℕ)
+      → partition_in (find (is_account serial) parts.journal.accounts) ≡ find (is_partition serial) s.partitions
+  partition_told serial = ap partition_in (stand.units serial) ∙ partition_by (find (is_partition serial) s.partitions)
 
   free_by : (serial : ℕ) (found : Option PartitionRow) → find (is_partition serial) s.partitions ≡ found
       → free_of (option_map (account_of s.objects s.partitions) found)

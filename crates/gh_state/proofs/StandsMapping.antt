@@ -103,7 +103,8 @@ any_filtered p q (row ∷ rows) none =
       | inr fails ↦ ap (list_any p) (filter_later q row rows fails) ∙ any_filtered p q rows parts.1
     ]
 
-any_mapped : {R V : Type 0} (f : V → R) (p : R → Bool) (q : V → Bool) (vs : List V)
+-- rows that are made of others pass where those do
+pub any_mapped : {R V : Type 0} (f : V → R) (p : R → Bool) (q : V → Bool) (vs : List V)
     → ((v : V) → p (f v) ≡ q v) → list_any q vs ≡ list_any p (map f vs)
 any_mapped f p q [] same = refl
 any_mapped f p q (v ∷ vs) same =

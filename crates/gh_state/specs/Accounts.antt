@@ -1,9 +1,10 @@
 -- Accounts of partitions, and how they are changed.
 use Rattle.std.specs.Prelude.{◌+◌, ◌-◌, ℕ, List, Option, nat_lt, if◌then◌else◌}
-use Rattle.std.specs.Option.{option_map_or}
+use Rattle.std.specs.Option.{option_map, option_map_or}
 use Rattle.gh_base.specs.declared.ids.Serial.{Serial}
 use Rattle.gh_partition.specs.Units.{Units, free_units}
 use Rattle.gh_model.specs.Rows.{change_row}
+use Rattle.gh_model.specs.declared.rows.PartitionRow.{PartitionRow}
 use Rattle.gh_state.specs.Index.{home_in, index_of}
 use Rattle.gh_state.specs.Shares.{with_cost_at}
 use Rattle.gh_state.specs.Slots.{no_serial}
@@ -58,3 +59,11 @@ costing_more object cost parts =
 -- the units that are left in an account, if there is one
 abbrev pub free_of : Option Account → ℕ
 free_of account = option_map_or (λ (a : Account). free_units a.units) account 0
+
+-- the row of a partition, as its account has it
+abbrev pub partition_of : Account → PartitionRow
+partition_of account =
+    record { serial = account.partition; parent = account.parent; quota = account.units.quota }
+
+abbrev pub partition_in : Option Account → Option PartitionRow
+partition_in account = option_map partition_of account

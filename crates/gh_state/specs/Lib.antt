@@ -9,7 +9,9 @@ pub mod MemoryChanges
 pub mod NumberChanges
 pub mod ObjectReads
 pub mod Owing
+pub mod QueueReads
 pub mod Shares
 pub mod SlotChanges
 pub mod Slots
+pub mod SpaceReads
 pub mod Stands

@@ -3,21 +3,27 @@
 ghost use Rattle.std.specs.Prelude.{◌≡◌, ◌<◌, find, length};
 ghost use Rattle.std.specs.List.{list_any};
 ghost use Rattle.gh_invariant.specs.Valid.{IsValidWithin};
+ghost use Rattle.gh_model.specs.Boot.{kind_count};
 ghost use Rattle.gh_model.specs.ManagerCalls.{is_link_for, is_linked};
 ghost use Rattle.gh_model.specs.QueueCalls.{is_request_queue, is_requests};
-ghost use Rattle.gh_model.specs.Rows.{cpu_row as cpu_row_of, is_bell, object_row as object_row_of};
+ghost use Rattle.gh_model.specs.References.{is_doomed};
+ghost use Rattle.gh_model.specs.Rows.{cpu_row as cpu_row_of, is_bell, is_partition};
+ghost use Rattle.gh_model.specs.Rows.{object_row as object_row_of};
 ghost use Rattle.gh_model.specs.Units.{free_units as free_units_of};
 ghost use Rattle.gh_model.specs.declared.state.State.{State};
+ghost use Rattle.gh_objects.specs.Counts.{is_doomed as is_doomed_count};
 ghost use Rattle.gh_state.specs.Bodies.{bell_in};
-ghost use Rattle.gh_state.specs.ObjectReads.{object_row_at};
+ghost use Rattle.gh_state.specs.ObjectReads.{is_childless, object_row_at};
 ghost use Rattle.gh_state.specs.Stands.{Stands};
 
 use crate::body::Body;
 use crate::cpus::cpu_row;
+use crate::journal::Memory;
 use crate::parts::Parts;
-use crate::units::free_in;
-use gh_base::{CpuNo, OBJECT_INDICES, ObjIndex, Serial};
-use gh_model::{BellRow, CpuRow, LinkRow, ObjectRow};
+use crate::units::{free_in, partition_row};
+use gh_base::{CpuNo, Kind, OBJECT_INDICES, ObjIndex, Serial};
+use gh_model::{BellRow, CpuRow, LinkRow, ObjectRow, PartitionRow};
+use gh_objects::Count;
 
 /// The row of a doorbell's body; none of any other.
 fn bell_row(body: &Body, bell: Serial) -> Option<BellRow>
@@ -34,6 +40,27 @@ fn bell_row(body: &Body, bell: Serial) -> Option<BellRow>
             })
         }
         _ => None,
+    }
+}
+
+/// Whether nothing refers to an object of this count; false where no object lives.
+fn is_doomed(count: Option<Count>) -> bool
+    ensures { result ≡ is_doomed_count count }
+{
+    match count {
+        None => false,
+        Some(count) => count.references == 0,
+    }
+}
+
+/// Whether no extent has a serial that no object has as its parent. Serial 0 is the root's parent,
+/// and the root is the first of the extents.
+fn is_childless(memory: &Memory, serial: Serial) -> bool
+    ensures { result ≡ is_childless memory.now serial.0 }
+{
+    match memory {
+        Memory::Bare(_) => true,
+        Memory::Held(extents) => serial.0 != 0 || !extents.has_child(serial),
     }
 }
 
@@ -112,6 +139,38 @@ impl Parts {
         ensures { result ≡ free_units_of s partition.0 }
     {
         free_in(self.journal.accounts.as_slice(), partition)
+    }
+
+    /// The row of a partition.
+    pub fn partition(&self, partition: Serial) -> Option<PartitionRow>
+        ghost s: { State }
+        requires { Stands self.now s }
+        ensures { result ≡ find (is_partition partition.0) s.partitions }
+    {
+        partition_row(self.journal.accounts.as_slice(), partition)
+    }
+
+    /// How many objects of a kind are there. It looks at no object.
+    pub fn kind_count(&self, kind: Kind) -> usize
+        ghost s: { State }
+        requires stands { Stands self.now s }
+        requires valid { IsValidWithin s }
+        ensures { result ≡ kind_count s kind }
+    {
+        self.table.kind_count(kind)
+    }
+
+    /// Whether nothing refers to the object, by a binary search for its count.
+    pub fn doomed(&self, object: Serial) -> bool
+        ghost s: { State }
+        requires stands { Stands self.now s }
+        requires valid { IsValidWithin s }
+        ensures { result ≡ is_doomed s object.0 }
+    {
+        match self.index(object) {
+            None => is_childless(&self.journal.memory, object),
+            Some(index) => is_doomed(self.journal.counts.get(index.0 as usize)),
+        }
     }
 
     /// The serial of the next object.

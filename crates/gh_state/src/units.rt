@@ -6,8 +6,7 @@ ghost use Rattle.gh_model.specs.Rows.{change_row};
 ghost use Rattle.gh_model.specs.declared.change.Change.TheVariants.{GiveQuota};
 ghost use Rattle.gh_model.specs.declared.state.State.{State};
 ghost use Rattle.gh_state.specs.Accounts.{costing, costing_more, free_of, giver_in, giving, quoted};
-ghost use Rattle.gh_state.specs.Accounts.{using};
-ghost use Rattle.gh_state.specs.Accounts.{with_accounts};
+ghost use Rattle.gh_state.specs.Accounts.{partition_in, partition_of, using, with_accounts};
 ghost use Rattle.gh_state.specs.Index.{AreIndexed};
 ghost use Rattle.gh_state.specs.Making.{CanMake};
 ghost use Rattle.gh_state.specs.Shares.{AreShares};
@@ -16,9 +15,21 @@ ghost use Rattle.gh_state.specs.Stands.{Stands, is_account};
 use crate::journal::Account;
 use crate::parts::Parts;
 use gh_base::{Sequence, Serial};
+use gh_model::PartitionRow;
 use gh_partition::Partition;
 
 impl Account {
+    /// The partition's row.
+    fn row(&self) -> PartitionRow
+        ensures { result ≡ partition_of self.now }
+    {
+        PartitionRow {
+            serial: self.partition,
+            parent: self.parent,
+            quota: self.units.quota(),
+        }
+    }
+
     /// It has so many units now, all of them free.
     fn quote(&mut self, quota: u16)
         ensures { self.new ≡ quoted quota self.old }
@@ -67,6 +78,16 @@ pub(crate) fn free_in(accounts: &[Account], partition: Serial) -> u16
     match account_place(accounts, partition) {
         None => 0,
         Some(at) => accounts[at].units.free(),
+    }
+}
+
+/// The row of a partition, as its account has it.
+pub(crate) fn partition_row(accounts: &[Account], partition: Serial) -> Option<PartitionRow>
+    ensures { result ≡ partition_in (find (is_account partition.0) accounts.now) }
+{
+    match account_place(accounts, partition) {
+        None => None,
+        Some(at) => Some(accounts[at].row()),
     }
 }
 

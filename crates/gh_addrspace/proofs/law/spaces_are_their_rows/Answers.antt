@@ -1,5 +1,5 @@
 -- The rows give the machine pages at which they begin, and where each page leads.
-use Rattle.std.proofs.Common.{ℕ, List, ap, sym, ◌∙◌}
+use Rattle.std.proofs.Common.{List, ap, sym, ◌∙◌}
 use Rattle.gh_addrspace.specs.Space.{Space}
 use Rattle.gh_addrspace.specs.declared.mapping.Mapping.{Mapping}
 use Rattle.gh_addrspace.proofs.SpaceLemmas.{same_mappings}

@@ -1,10 +1,10 @@
 -- The pages of a run of another holder are passed over, and those of the extent's end the search.
 use Rattle.std.proofs.Common.{◌≡◌, ◌+◌, ◌<◌, drop, length}
-use Rattle.std.proofs.Common.{get_or, arith, sym, ap, ◌∙◌}
+use Rattle.std.proofs.Common.{get_or, arith, sym, ◌∙◌}
 use Rattle.std.specs.List.{position_or_len}
 use Rattle.std.proofs.lemmas.Bool.{lt-ltb, le-ltb}
 use Rattle.std.proofs.lemmas.List.{drop_more}
-use Rattle.gh_extent.specs.Runs.{Rising, spread}
+use Rattle.gh_extent.specs.Runs.{spread}
 use Rattle.gh_model.specs.Memory.{is_serial}
 use Rattle.gh_extent.proofs.RunLemmas.{length-first, position-passes, position-stops}
 use Rattle.gh_extent.proofs.RunLemmas.{rising_first, rising_rest, spread-none}

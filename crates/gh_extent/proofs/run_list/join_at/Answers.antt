@@ -1,8 +1,7 @@
 -- Two runs of one holder are one.
-use Rattle.std.proofs.Common.{◌≡◌, ◌+◌, suc, get_or, arith, ap, sym, ◌∙◌, add-one}
+use Rattle.std.proofs.Common.{◌≡◌, ◌+◌, arith, ap, sym, ◌∙◌, add-one}
 use Rattle.std.proofs.lemmas.Bool.{eqb-true}
 use Rattle.std.proofs.lemmas.List.{get_or_default}
-use Rattle.gh_base.specs.declared.ids.Serial.{Serial}
 use Rattle.gh_extent.specs.declared.run_list.Run.{Run}
 use Rattle.gh_extent.proofs.RunLemmas.{spread-join, Rising-join, same_serial}
 use Rattle.gh_extent.proofs.run_list.join_at.Goals as goal

@@ -1,9 +1,7 @@
 -- The run of the page is parted, unless it begins there.
-use Rattle.std.proofs.Common.{◌≡◌, ◌+◌, ◌<◌, arith, take}
-use Rattle.std.proofs.Common.{sym, vec_len, vec_capacity, ◌∙◌}
-use Rattle.std.specs.List.{prefix_len}
-use Rattle.gh_extent.specs.Runs.{end_of, ends_by}
-use Rattle.gh_extent.proofs.RunLemmas.{parted-there, parted-same, parted-order, parted-room}
+use Rattle.std.proofs.Common.{◌<◌, arith}
+use Rattle.std.proofs.Common.{vec_len, vec_capacity, ◌∙◌}
+use Rattle.gh_extent.proofs.RunLemmas.{parted-same, parted-order, parted-room}
 use Rattle.gh_extent.proofs.RunLemmas.{parted-place, parted-begins, place-within}
 use Rattle.gh_extent.proofs.run_list.part_at.Goals as goal
 

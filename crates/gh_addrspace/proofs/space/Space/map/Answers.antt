@@ -1,5 +1,5 @@
 -- The new row overlaps none, and so its pages led nowhere before.
-use Rattle.std.proofs.Common.{◌≡◌, ◌+◌, ◌≤◌, Some, refl, arith, sym, ◌∙◌}
+use Rattle.std.proofs.Common.{refl, arith, sym, ◌∙◌}
 use Rattle.gh_addrspace.specs.Rows.{IsBounded, mapping_of}
 use Rattle.gh_addrspace.specs.Space.{Space}
 use Rattle.gh_addrspace.proofs.RowLemmas.{uncovered}

@@ -1,5 +1,5 @@
 -- From a page on lie its run and those behind it.
-use Rattle.std.proofs.Common.{◌≡◌, ◌≤◌, length, arith, sym, ap, ◌∙◌}
+use Rattle.std.proofs.Common.{◌≤◌, length, arith}
 use Rattle.std.proofs.lemmas.List.{take_rest}
 use Rattle.gh_extent.specs.Runs.{spread}
 use Rattle.gh_extent.proofs.RunLemmas.{Rising-from, spread-from}

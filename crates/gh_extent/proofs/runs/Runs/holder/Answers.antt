@@ -1,5 +1,5 @@
 -- A page's holder is that of its run.
-use Rattle.std.proofs.Common.{◌≡◌, ◌<◌, length, Some, arith, sym, ap, ◌∙◌}
+use Rattle.std.proofs.Common.{◌<◌, length, Some, arith, sym, ap, ◌∙◌}
 use Rattle.gh_extent.specs.Runs.{spread}
 use Rattle.gh_extent.specs.declared.run_list.Run.{Run}
 use Rattle.gh_extent.proofs.RunLemmas.{holder_at, place-within}

@@ -1,5 +1,5 @@
 -- The extent holds the pages where it holds as many from the first on.
-use Rattle.std.proofs.Common.{◌≡◌, ◌≤◌, drop, length, arith, ◌∙◌}
+use Rattle.std.proofs.Common.{◌≤◌, drop, length, arith}
 use Rattle.std.proofs.lemmas.List.{length-drop}
 use Rattle.gh_model.specs.Memory.{is_serial}
 use Rattle.gh_extent.proofs.RunLemmas.{list_all-take}

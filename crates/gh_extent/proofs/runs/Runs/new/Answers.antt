@@ -1,5 +1,5 @@
 -- One run has all pages.
-use Rattle.std.proofs.Common.{◌≡◌, ◌-◌, ◌≤◌, arith, refl}
+use Rattle.std.proofs.Common.{◌≡◌, ◌-◌, arith, refl}
 use Rattle.std.proofs.lemmas.List.{append-nil, length-replicate}
 use Rattle.gh_extent.specs.Runs.{Rising, spread}
 use Rattle.gh_extent.proofs.runs.Runs.new.Goals as goal

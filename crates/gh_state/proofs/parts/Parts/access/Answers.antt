@@ -1,0 +1,16 @@
+-- The address space shows who holds the pages.
+use Rattle.std.proofs.Common.{◌∙◌, ap}
+use Rattle.gh_state.specs.SpaceReads.{access_in}
+use Rattle.gh_state.proofs.SpaceReadLemmas.{access_told}
+use Rattle.gh_state.specs.declared.body.Body.{Body}
+use Rattle.gh_state.proofs.ReadLemmas.{seen_told, seen_untold}
+use Rattle.gh_state.proofs.parts.Parts.access.Goals as goal
+
+pub returns-in-None : goal.returns-in-None
+returns-in-None g c =
+    seen_untold c.args.self.now g.s c.requires (λ (body : Body). access_in c.args.page body) _ c.args.space.0 (access_told c.args.self.now g.s c.requires c.args.space c.args.page) c.in-None.ensures.found
+
+pub returns-in-Some : goal.returns-in-Some
+returns-in-Some g c =
+    c.access_in.ensures ∙ ap (λ (body : Body). access_in c.args.page body) c.body.ensures
+    ∙ seen_told c.args.self.now g.s c.requires (λ (body : Body). access_in c.args.page body) _ c.args.space.0 c.in-Some.index (access_told c.args.self.now g.s c.requires c.args.space c.args.page) c.in-Some.ensures.found
