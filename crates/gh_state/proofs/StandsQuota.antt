@@ -242,6 +242,7 @@ module _ (parts : Parts) (s : State) (stand : Stands parts s) (valid : IsValidWi
     slots = stand.slots;
     units = units_now;
     memory = stand.memory;
+    blocks = stand.blocks;
     numbers = record {
       cpus = stand.numbers.cpus;
       links = stand.numbers.links;
