@@ -152,104 +152,104 @@ queues_apart kind.Bell serial x apart = refl
 
 module _ (owed : List Serial) (parts : Parts) (s : State) (row : ObjectRow) (home at : ℕ)
     (enters : Enters owed parts s row home at) (body : Body) (begun : Begins row.serial row.kind body)
-    where
-  abbrev headers : List (Option Header)
-  headers = parts.table.headers
+  where
+    abbrev headers : List (Option Header)
+    headers = parts.table.headers
 
-  abbrev serial : ℕ
-  serial = row.serial.0
+    abbrev serial : ℕ
+    serial = row.serial.0
 
-  abbrev header : Header
-  header = record {
-    kind = row.kind;
-    partition = indexed home;
-    serial = row.serial;
-    stage = row.stage;
-  }
+    abbrev header : Header
+    header = record {
+      kind = row.kind;
+      partition = indexed home;
+      serial = row.serial;
+      stage = row.stage;
+    }
 
-  abbrev now : List (Option Header)
-  now = set headers at (Some header)
+    abbrev now : List (Option Header)
+    now = set headers at (Some header)
 
-  abbrev objects : List ObjectRow
-  objects = s.objects ++ row ∷ []
+    abbrev objects : List ObjectRow
+    objects = s.objects ++ row ∷ []
 
-  abbrev shares : List (List Place)
-  shares = with_place parts.shares at (record { cost = row.cost; body = body })
+    abbrev shares : List (List Place)
+    shares = with_place parts.shares at (record { cost = row.cost; body = body })
 
-  -- what is seen of the new body, and of the others as before
-  seen_now : {V : Type 0} (see : ℕ → Body → V) (left : ℕ → V) → left serial ≡ see serial body
-      → ((x : ℕ) → x ≢ serial → left x ≡ see x (body_of headers parts.shares x)) → (x : ℕ)
-      → left x ≡ see x (body_of now shares x)
-  seen_now see left here there x =
-      elim (cases_eq x serial) [
-        | inl same ↦
-            subst (λ (n : ℕ). left n ≡ see n (body_of now shares n)) (sym same)
-            (here ∙ ap (λ (p : Place). see serial p.body) (sym (place_now owed parts s row home at enters body)))
-        | inr apart ↦
-            there x apart
-            ∙ ap (λ (p : Place). see x p.body) (sym (place_there owed parts s row home at enters body x apart))
-      ]
+    -- what is seen of the new body, and of the others as before
+    seen_now : {V : Type 0} (see : ℕ → Body → V) (left : ℕ → V) → left serial ≡ see serial body
+        → ((x : ℕ) → x ≢ serial → left x ≡ see x (body_of headers parts.shares x)) → (x : ℕ)
+        → left x ≡ see x (body_of now shares x)
+    seen_now see left here there x =
+        elim (cases_eq x serial) [
+          | inl same ↦
+              subst (λ (n : ℕ). left n ≡ see n (body_of now shares n)) (sym same)
+              (here ∙ ap (λ (p : Place). see serial p.body) (sym (place_now owed parts s row home at enters body)))
+          | inr apart ↦
+              there x apart
+              ∙ ap (λ (p : Place). see x p.body) (sym (place_there owed parts s row home at enters body x apart))
+        ]
 
-  -- before there was no body
-  nothing : body_of headers parts.shares serial ≡ Nothing
-  nothing =
-      body_none parts.shares (index_of headers serial) enters.stand.objects.whole
-      (omega (arith, unindexed owed parts s row home at enters, enters.stand.objects.indexed.indices))
+    -- before there was no body
+    nothing : body_of headers parts.shares serial ≡ Nothing
+    nothing =
+        body_none parts.shares (index_of headers serial) enters.stand.objects.whole
+        (omega (arith, unindexed owed parts s row home at enters, enters.stand.objects.indexed.indices))
 
-  pub kinds_now : KindsStand now shares objects
-  kinds_now x =
-      sym (seen_now (λ n b. fits_body b (find (is_object n) objects)) (λ n. true)
-      (sym (ap (fits_body body) (found_here owed parts s row home at enters) ∙ begun.kind))
-      (λ n apart. sym (ap (fits_body (body_of headers parts.shares n)) (found_there owed parts s row home at enters n apart) ∙ enters.stand.kinds n))
-      x)
+    pub kinds_now : KindsStand now shares objects
+    kinds_now x =
+        sym (seen_now (λ n b. fits_body b (find (is_object n) objects)) (λ n. true)
+        (sym (ap (fits_body body) (found_here owed parts s row home at enters) ∙ begun.kind))
+        (λ n apart. sym (ap (fits_body (body_of headers parts.shares n)) (found_there owed parts s row home at enters n apart) ∙ enters.stand.kinds n))
+        x)
 
-  pub bells_now : BellsStand now shares (s.bells ++ new_bells row.kind row.serial)
-  bells_now x =
-      seen_now bell_in (λ n. find (is_bell n) (s.bells ++ new_bells row.kind row.serial))
-      (find_behind (is_bell serial) s.bells (new_bells row.kind row.serial) (enters.stand.bells serial ∙ ap (bell_in serial) nothing)
-      ∙ begun.bells)
-      (λ n apart. find_beside (is_bell n) s.bells (new_bells row.kind row.serial) (bells_apart row.kind row.serial n apart)
-      ∙ enters.stand.bells n)
-      x
+    pub bells_now : BellsStand now shares (s.bells ++ new_bells row.kind row.serial)
+    bells_now x =
+        seen_now bell_in (λ n. find (is_bell n) (s.bells ++ new_bells row.kind row.serial))
+        (find_behind (is_bell serial) s.bells (new_bells row.kind row.serial) (enters.stand.bells serial ∙ ap (bell_in serial) nothing)
+        ∙ begun.bells)
+        (λ n apart. find_beside (is_bell n) s.bells (new_bells row.kind row.serial) (bells_apart row.kind row.serial n apart)
+        ∙ enters.stand.bells n)
+        x
 
-  pub queues_now : QueuesStand now shares (s.queues ++ new_queues row.kind row.serial)
-  queues_now x =
-      seen_now queue_in (λ n. find (is_queue n) (s.queues ++ new_queues row.kind row.serial))
-      (find_behind (is_queue serial) s.queues (new_queues row.kind row.serial) (enters.stand.queues serial ∙ ap (queue_in serial) nothing)
-      ∙ begun.queues)
-      (λ n apart. find_beside (is_queue n) s.queues (new_queues row.kind row.serial) (queues_apart row.kind row.serial n apart)
-      ∙ enters.stand.queues n)
-      x
+    pub queues_now : QueuesStand now shares (s.queues ++ new_queues row.kind row.serial)
+    queues_now x =
+        seen_now queue_in (λ n. find (is_queue n) (s.queues ++ new_queues row.kind row.serial))
+        (find_behind (is_queue serial) s.queues (new_queues row.kind row.serial) (enters.stand.queues serial ∙ ap (queue_in serial) nothing)
+        ∙ begun.queues)
+        (λ n apart. find_beside (is_queue n) s.queues (new_queues row.kind row.serial) (queues_apart row.kind row.serial n apart)
+        ∙ enters.stand.queues n)
+        x
 
-  pub spans_now : SpansStand now shares s.extents
-  spans_now x =
-      seen_now span_in (span_row_of s.extents)
-      (enters.stand.spans serial ∙ ap (span_in serial) nothing ∙ sym begun.spans)
-      (λ n apart. enters.stand.spans n) x
+    pub spans_now : SpansStand now shares s.extents
+    spans_now x =
+        seen_now span_in (span_row_of s.extents)
+        (enters.stand.spans serial ∙ ap (span_in serial) nothing ∙ sym begun.spans)
+        (λ n apart. enters.stand.spans n) x
 
-  space_apart : (x : ℕ) → x ≢ serial → space_in (body_of now shares x) ≡ space_in (body_of headers parts.shares x)
-  space_apart x apart =
-      ap (λ (p : Place). space_in p.body) (place_there owed parts s row home at enters body x apart)
+    space_apart : (x : ℕ) → x ≢ serial → space_in (body_of now shares x) ≡ space_in (body_of headers parts.shares x)
+    space_apart x apart =
+        ap (λ (p : Place). space_in p.body) (place_there owed parts s row home at enters body x apart)
 
-  space_here : space_in (body_of now shares serial) ≡ space_in body
-  space_here = ap (λ (p : Place). space_in p.body) (place_now owed parts s row home at enters body)
+    space_here : space_in (body_of now shares serial) ≡ space_in body
+    space_here = ap (λ (p : Place). space_in p.body) (place_now owed parts s row home at enters body)
 
-  access_now : (x : ℕ) (space : Mapped) → space_in (body_of now shares x) ≡ Some space
-      → Shows (span_row_of s.extents) s.holders space
-  access_now x space is =
-      elim (cases_eq x serial) [
-        | inl same ↦
-            shows_empty (span_row_of s.extents) s.holders space
-            (begun.spaces space
-            (sym space_here ∙ subst (λ (n : ℕ). space_in (body_of now shares n) ≡ Some space) same is))
-        | inr apart ↦ enters.stand.spaces.access x space (sym (space_apart x apart) ∙ is)
-      ]
+    access_now : (x : ℕ) (space : Mapped) → space_in (body_of now shares x) ≡ Some space
+        → Shows (span_row_of s.extents) s.holders space
+    access_now x space is =
+        elim (cases_eq x serial) [
+          | inl same ↦
+              shows_empty (span_row_of s.extents) s.holders space
+              (begun.spaces space
+              (sym space_here ∙ subst (λ (n : ℕ). space_in (body_of now shares n) ≡ Some space) same is))
+          | inr apart ↦ enters.stand.spaces.access x space (sym (space_apart x apart) ∙ is)
+        ]
 
-  pub spaces_now : SpacesStand now shares s.extents s.holders s.mappings
-  spaces_now = record {
-    mappings = λ x.
-        seen_now mappings_in (λ n. filter (is_row_of n) s.mappings)
-        (enters.stand.spaces.mappings serial ∙ ap (mappings_in serial) nothing ∙ sym begun.mappings)
-        (λ n apart. enters.stand.spaces.mappings n) x;
-    access = access_now;
-  }
+    pub spaces_now : SpacesStand now shares s.extents s.holders s.mappings
+    spaces_now = record {
+      mappings = λ x.
+          seen_now mappings_in (λ n. filter (is_row_of n) s.mappings)
+          (enters.stand.spaces.mappings serial ∙ ap (mappings_in serial) nothing ∙ sym begun.mappings)
+          (λ n apart. enters.stand.spaces.mappings n) x;
+      access = access_now;
+    }

@@ -32,7 +32,7 @@ use Rattle.gh_state.specs.Stands.{StandsOwing, header_of}
 use Rattle.gh_state.specs.declared.parts.Parts.{Parts}
 use Rattle.gh_state.proofs.AddedBlocks.{one_place}
 use Rattle.gh_state.proofs.CountedRows.{HasRow, HaveRows, count_headers}
-use Rattle.gh_state.proofs.HeaderRows.{RowAt, headers_housed, housed_in, partition_at, partition_below, row_at}
+use Rattle.gh_state.proofs.HeaderRows.{RowAt, housed_in, kind_is, partition_at, partition_below, row_at}
 use Rattle.gh_state.proofs.IndexLemmas.{one_serial}
 use Rattle.gh_state.proofs.Living.{same_kind}
 
@@ -69,16 +69,9 @@ module _ (owed : List Serial) (parts : Parts) (s : State) (stand : StandsOwing o
       ∙ ap (index_of headers) same
       ∙ stand.objects.indexed.alone other also there
 
-  partition_row : Header → Bool
-  partition_row header = kind_number header.kind == kind_number kind.Partition
-
   kind_passes : (k : Kind) → is_partition_kind k ≡ true → (kind_number k == kind_number kind.Partition) ≡ true
-  kind_passes kind.Partition is = refl
-  kind_passes kind.Cspace is = absurd (let never : ⊥ = cc in never)
-  kind_passes kind.Space is = absurd (let never : ⊥ = cc in never)
-  kind_passes kind.Extent is = absurd (let never : ⊥ = cc in never)
-  kind_passes kind.Bell is = absurd (let never : ⊥ = cc in never)
-  kind_passes kind.Queue is = absurd (let never : ⊥ = cc in never)
+  kind_passes k is =
+      ap (λ (one : Kind). kind_number one == kind_number kind.Partition) (kind_is k is)
 
   pub partitions_live : count_by is_partition headers ≤ kind_total s.objects kind.Partition
   partitions_live =

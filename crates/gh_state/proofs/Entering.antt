@@ -24,6 +24,17 @@ use Rattle.gh_state.proofs.AddedIndices.{index_here, index_there}
 use Rattle.gh_state.proofs.IndexLemmas.{header_found}
 use Rattle.gh_state.proofs.StandsBells.{apart_serials}
 
+-- a serial whose index has no header is past the last
+pub past_none : (headers : List (Option Header)) (x : ℕ) → header_at headers (index_of headers x) ≡ None
+    → length headers ≤ index_of headers x
+past_none headers x none =
+    elim (cases_lt (index_of headers x) (length headers)) [
+      | inl below ↦
+          absurd (both_ways (has_serial x (header_at headers (index_of headers x)))
+          (ap (has_serial x) none) (header_found headers x below))
+      | inr past ↦ past
+    ]
+
 -- the object has the next serial, isn't retired, and comes to an index that is free; its partition is
 -- at the index that its header says
 pub record Enters (owed : List Serial) (parts : Parts) (s : State) (row : ObjectRow) (home at : ℕ)
@@ -59,18 +70,11 @@ module _ (owed : List Serial) (parts : Parts) (s : State) (row : ObjectRow) (hom
       unfound (is_object serial) s.objects
       (enters.valid.objects.later serial (omega (arith, enters.serial)))
 
-  none_has : header_at headers (index_of headers serial) ≡ None
-  none_has = enters.stand.objects.each serial ∙ ap (option_map (header_of headers)) unmade
-
   -- and so none has an index for it
   pub unindexed : length headers ≤ index_of headers serial
   unindexed =
-      elim (cases_lt (index_of headers serial) (length headers)) [
-        | inl below ↦
-            absurd (both_ways (has_serial serial (header_at headers (index_of headers serial)))
-            (ap (has_serial serial) none_has) (header_found headers serial below))
-        | inr past ↦ past
-      ]
+      past_none headers serial
+      (enters.stand.objects.each serial ∙ ap (option_map (header_of headers)) unmade)
 
   pub found_here : find (is_object serial) objects ≡ Some row
   found_here = find_push_new (is_object serial) s.objects row unmade (eq-eqb serial serial refl)

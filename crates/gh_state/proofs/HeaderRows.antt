@@ -21,6 +21,15 @@ use Rattle.gh_state.proofs.AddedBlocks.{AreHoused}
 use Rattle.gh_state.proofs.Living.{There, index_below, kind_there, same_kind}
 use Rattle.gh_state.proofs.Options.{some_same}
 
+-- a kind that is that of partitions
+pub kind_is : (k : Kind) → is_partition_kind k ≡ true → k ≡ kind.Partition
+kind_is kind.Partition is = refl
+kind_is kind.Cspace is = absurd (let never : ⊥ = cc in never)
+kind_is kind.Space is = absurd (let never : ⊥ = cc in never)
+kind_is kind.Extent is = absurd (let never : ⊥ = cc in never)
+kind_is kind.Bell is = absurd (let never : ⊥ = cc in never)
+kind_is kind.Queue is = absurd (let never : ⊥ = cc in never)
+
 -- the row of a header
 pub record RowAt (headers : List (Option Header)) (objects : List ObjectRow) (header : Header)
     : Type 0 where

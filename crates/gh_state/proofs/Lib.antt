@@ -9,10 +9,13 @@ mod BlockLemmas
 mod BlockRoom
 mod BodyChangeLemmas
 mod BodyLemmas
+mod BootIndex
+mod BootUnits
 mod CountedRows
 mod Entering
 mod FilledSlots
 mod FoundRows
+mod FreeIndex
 mod HeaderRows
 mod IndexLemmas
 mod Living
@@ -27,10 +30,12 @@ mod SharesLemmas
 mod ShowsLemmas
 mod SlotLemmas
 mod SlotNumbers
+mod StandsAdded
 mod StandsAttached
 mod StandsBeginning
 mod StandsBells
 mod StandsBodies
+mod StandsBooted
 mod StandsCapabilities
 mod StandsCost
 mod StandsCounts

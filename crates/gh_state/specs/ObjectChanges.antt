@@ -73,6 +73,14 @@ opened row parts = record parts {
   };
 }
 
+-- the parts with the account of a new boot partition
+abbrev pub booted : Serial → ℕ → Parts → Parts
+booted partition quota parts = record parts {
+  journal = record (parts.journal) {
+    accounts = parts.journal.accounts ++ boot_account partition quota ∷ [];
+  };
+}
+
 -- the parts with a new object at an index: these are the headers, and so much of it is counted
 abbrev pub entered_at : HeaderTable → ℕ → Serial → ℕ → Body → ℕ → Parts → Parts
 entered_at table index serial cost body references parts = record parts {
