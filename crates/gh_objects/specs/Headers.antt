@@ -2,7 +2,7 @@
 -- live partitions have.
 use Rattle.std.specs.Prelude.{◌≡◌, ◌==◌, ℕ, ◌+◌, ◌*◌, ◌/◌}
 use Rattle.std.specs.Prelude.{◌<◌, Bool, true, false, List, Option, Some, None}
-use Rattle.std.specs.Prelude.{is_some, is_none, take, drop, count_by, nat_lt}
+use Rattle.std.specs.Prelude.{is_some, is_none, take, drop, count_by, nat_lt, position}
 use Rattle.std.specs.Prelude.{slice_index_or, slice_set, replicate, if◌then◌else◌}
 use Rattle.std.specs.List.{position_or_len}
 use Rattle.std.specs.Option.{option_map, option_map_or}
@@ -139,6 +139,14 @@ header_staged stage s index =
     record s {
       headers = slice_set s.headers index (option_map (in_stage stage) (header_at s.headers index));
     }
+
+-- the index of the next boot partition: the first of the least partition place that no live
+-- partition has; none where each is had
+abbrev pub first_index : ℕ → ObjIndex
+first_index place = record { 0 = PARTITION_PLACES * place }
+
+abbrev pub boot_index : HeaderTable → Option ObjIndex
+boot_index s = option_map first_index (position is_none s.partitions)
 
 -- the header is that of the object with this serial
 abbrev pub has_serial : ℕ → Option Header → Bool

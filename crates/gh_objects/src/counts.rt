@@ -57,7 +57,8 @@ impl Counts {
     /// Puts a count to an index, or takes away the one that is there.
     pub fn set(&mut self, index: usize, count: Option<Count>)
         requires { index < OBJECT_INDICES }
-        ensures { self.new ≡ slice_set self.old index count }
+        ensures count { self.new ≡ slice_set self.old index count }
+        ensures size { length self.old ≡ OBJECT_INDICES }
     {
         let old = self.get(index);
         relist(&mut self.doomed, doomed_serial(old), doomed_serial(count));

@@ -6,12 +6,13 @@ ghost use Rattle.std.specs.List.{position_or_len};
 ghost use Rattle.gh_objects.specs.Headers.{no_headers, header_at, headers_in, is_partition};
 ghost use Rattle.gh_objects.specs.Headers.{place_of, free_index, IsBootPlace, HasIndex, new_index};
 ghost use Rattle.gh_objects.specs.Headers.{with_header, header_inserted, header_removed};
-ghost use Rattle.gh_objects.specs.Headers.{header_staged, has_kind, has_partition_place};
+ghost use Rattle.gh_objects.specs.Headers.{boot_index, header_staged, has_kind};
+ghost use Rattle.gh_objects.specs.Headers.{has_partition_place};
 ghost use Rattle.gh_objects.specs.Headers.{has_serial};
 ghost use Rattle.gh_objects.specs.Partitions.{HavePlaces, place_if};
 
 use crate::header::Header;
-use crate::partitions::{free_place, has_free_place, is_partition_kind, place_of};
+use crate::partitions::{find_free, free_place, has_free_place, is_partition_kind, place_of};
 use crate::table::Table;
 use gh_base::{
     Kind, NoMemory, OBJECT_INDICES, ObjIndex, PARTITION_PLACES, PARTITIONS, Serial, Stage,
@@ -79,6 +80,15 @@ impl Headers {
         ensures { result ≡ count_by (has_kind kind) self.now.headers }
     {
         self.table.kind_count(kind)
+    }
+
+    /// The index for the next boot partition: the first of the least partition place that no live
+    /// partition has; none where each is had.
+    pub fn boot_index(&self) -> Option<ObjIndex>
+        ensures { result ≡ boot_index self.now }
+    {
+        let place = find_free(&self.partitions)?;
+        Some(ObjIndex((PARTITION_PLACES * place) as u16))
     }
 
     /// The index of the live object with this serial, by a binary search; none exactly where no

@@ -1,6 +1,6 @@
 //! The partition places: for each the index of the live partition that has it.
 
-ghost use Rattle.std.specs.Prelude.{◌≡◌, ◌<◌, is_none, is_some, length};
+ghost use Rattle.std.specs.Prelude.{◌≡◌, ◌<◌, IfSome, is_none, is_some, length};
 ghost use Rattle.std.specs.Prelude.{nat_lt, count_by, position, slice_index_or};
 ghost use Rattle.std.specs.List.{position_or_len};
 ghost use Rattle.gh_objects.specs.Headers.{is_had_by, is_partition_kind};
@@ -42,8 +42,10 @@ pub fn has_free_place(partitions: &[Option<ObjIndex>; PARTITIONS]) -> bool
     find_free(partitions).is_some()
 }
 
-fn find_free(partitions: &[Option<ObjIndex>; PARTITIONS]) -> Option<usize>
-    ensures { result ≡ position is_none partitions.now }
+/// The least partition place that no live partition has; none where each is had.
+pub fn find_free(partitions: &[Option<ObjIndex>; PARTITIONS]) -> Option<usize>
+    ensures place { result ≡ position is_none partitions.now }
+    ensures within { IfSome result (λ place. place < PARTITIONS) }
 {
     partitions.iter().position(|had| is_free(*had))
 }

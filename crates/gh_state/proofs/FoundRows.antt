@@ -1,12 +1,13 @@
 -- A row that is found, once the first that passes the test is changed.
-use Rattle.std.proofs.Common.{◌≡◌, ◌∙◌, ◌⊎◌, inl, inr, Bool, true, false, List, [], ◌∷◌, refl, sym, ap, Some, None, find}
+use Rattle.std.proofs.Common.{◌≡◌, ◌++◌, IsTrue, ◌∙◌, ◌⊎◌, inl, inr, Bool, true, false, List, [], ◌∷◌, refl, sym, ap, Option, Some, None, find}
 use Rattle.std.proofs.Common.{option_map, length, position, get_or, slice_get, ℕ, nat_lt, if◌then◌else◌}
-use Rattle.std.specs.List.{position_or_len}
-use Rattle.std.proofs.lemmas.List.Folds.{find_at}
+use Rattle.std.specs.List.{list_all, position_or_len}
+use Rattle.std.specs.Option.{option_or}
+use Rattle.std.proofs.lemmas.List.Folds.{find-append, find_at}
 use Rattle.std.proofs.lemmas.Option.{cond_some, slice_get-get_or, slice_get_past}
 use Rattle.std.proofs.lemmas.List.Quantifiers.{position-Some}
 use Rattle.std.proofs.lemmas.Bool.{cases_Bool, ltb-false}
-use Rattle.gh_invariant.proofs.Counting.{find_here, find_later}
+use Rattle.gh_invariant.proofs.Counting.{find_here, find_later, found_all, found_passes}
 use Rattle.gh_model.proofs.ChangedRows.{change_here, change_later}
 use Rattle.gh_model.specs.Rows.{change_row}
 
@@ -53,3 +54,30 @@ placed_found test rows at d is =
     find_at test rows
     ∙ ap (slice_get rows) (cond_some (nat_lt (position_or_len test rows) (length rows)) (position_or_len test rows) at is).1
     ∙ slice_get-get_or rows at d ((position-Some test rows at d is).0)
+
+-- a row that is found among others, and not among those behind them, is found among all
+pub find_beside : {R : Type 0} (test : R → Bool) (rows more : List R) → find test more ≡ None
+    → find test (rows ++ more) ≡ find test rows
+find_beside {R} test rows more none =
+    find-append test rows more ∙ ap (λ (o : Option R). option_or (find test rows) o) none
+    ∙ or_none (find test rows)
+  where
+    or_none : {R : Type 0} (o : Option R) → option_or o None ≡ o
+    or_none None = refl
+    or_none (Some row) = refl
+
+-- and one that isn't found among the others is found among those behind them
+pub find_behind : {R : Type 0} (test : R → Bool) (rows more : List R) → find test rows ≡ None
+    → find test (rows ++ more) ≡ find test more
+find_behind {R} test rows more none =
+    find-append test rows more ∙ ap (λ (o : Option R). option_or o (find test more)) none
+
+-- where no row that passes one test passes another, none that all pass the first is found by it
+pub none_found : {R : Type 0} (test all : R → Bool) (rows : List R) → IsTrue (list_all all rows)
+    → ((row : R) → all row ≡ true → test row ≡ true → ⊥) → find test rows ≡ None
+none_found {R} test all rows fit apart = found_by (find test rows) refl
+  where
+    found_by : (found : Option R) → find test rows ≡ found → found ≡ None
+    found_by None is = refl
+    found_by (Some row) is =
+        absurd (apart row (found_all test all rows row fit is) (found_passes test rows row is))

@@ -8,9 +8,12 @@ use Rattle.gh_base.specs.Kind.{kind_number, kind_numbered}
 use Rattle.gh_base.specs.declared.kind.Kind.{Kind}
 use Rattle.gh_base.specs.declared.kind.Kind.TheVariants as kind
 use Rattle.gh_base.specs.declared.limits.TheConstants.{OBJECT_INDICES}
+use Rattle.gh_invariant.proofs.Counting.{unfound}
+use Rattle.gh_invariant.specs.Valid.{IsValidTo}
 use Rattle.gh_model.specs.Boot.{is_of_kind}
 use Rattle.gh_model.specs.Rows.{is_object}
 use Rattle.gh_model.specs.declared.rows.ObjectRow.{ObjectRow}
+use Rattle.gh_model.specs.declared.state.State.{State}
 use Rattle.gh_objects.specs.Headers.{header_at}
 use Rattle.gh_objects.specs.declared.header.Header.{Header}
 use Rattle.gh_state.specs.Bodies.{fits_body, is_body_of}
@@ -54,6 +57,19 @@ index_below headers shares retirements objects stand serial row is =
           (omega (arith, stand.indexed.indices)))
     ]
 
+-- and a serial above 0
+pub object_some : (last : ℕ) (s : State) → IsValidTo last s → (serial : ℕ) (row : ObjectRow)
+    → find (is_object serial) s.objects ≡ Some row → 0 < serial
+object_some last s valid serial row is =
+    elim (cases_lt 0 serial) [
+      | inl some ↦ some
+      | inr none ↦
+          let zero : serial ≡ 0 = omega arith in
+          let gone : find (is_object serial) s.objects ≡ None =
+          subst (λ (n : ℕ). find (is_object n) s.objects ≡ None) (sym zero) (unfound (is_object 0) s.objects valid.objects.none) in
+          absurd (let never : ⊥ = cc in never)
+    ]
+
 numbered : (k : Kind) → kind_numbered (kind_number k) ≡ Some k
 numbered kind.Partition = refl
 numbered kind.Cspace = refl
@@ -62,7 +78,7 @@ numbered kind.Extent = refl
 numbered kind.Bell = refl
 numbered kind.Queue = refl
 
-same_kind : (a b : Kind) → (kind_number a == kind_number b) ≡ true → a ≡ b
+pub same_kind : (a b : Kind) → (kind_number a == kind_number b) ≡ true → a ≡ b
 same_kind a b same =
     some_same a b (sym (numbered a) ∙ ap kind_numbered (eqb-true _ _ same) ∙ numbered b)
 

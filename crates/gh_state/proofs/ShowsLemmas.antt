@@ -4,7 +4,7 @@ use Rattle.std.proofs.Common.{map, if◌then◌else◌}
 use Rattle.std.specs.Prelude.{All, IsSomeAnd}
 use Rattle.std.proofs.lemmas.List.Elements.{All-head, All-nil, All-tail, All-weaker}
 use Rattle.gh_base.specs.declared.ids.Serial.{Serial}
-use Rattle.gh_addrspace.specs.Space.{IsNamed, Shows, Space}
+use Rattle.gh_addrspace.specs.Space.{IsEmptySpace, IsNamed, Shows, Space}
 use Rattle.gh_addrspace.specs.declared.mapping.Mapping.{Mapping}
 use Rattle.gh_model.specs.Memory.{access_of, covering_access, row_covers, span_access}
 use Rattle.gh_model.specs.declared.memory.MapRow.{MapRow}
@@ -76,3 +76,13 @@ shows_bare spans more holders held space none shows =
           ∙ ap (λ (mappings : List Mapping). access_of spans holders (map (λ (m : Mapping). m.row) mappings) v) empty
           ∙ ap (λ (mappings : List Mapping). access_of more held (map (λ (m : Mapping). m.row) mappings) v) (sym empty);
     }
+
+-- an address space without rows shows whatever spans and holders there are
+pub shows_empty : (spans : ℕ → Option Span) (holders : List Serial) (space : Space) → IsEmptySpace space
+    → Shows spans holders space
+shows_empty spans holders space empty = record {
+  named = subst (All (IsNamed spans)) (sym empty.rows) (All-nil (IsNamed spans));
+  access = λ v.
+      empty.pages v
+      ∙ ap (λ (mappings : List Mapping). access_of spans holders (map (λ (m : Mapping). m.row) mappings) v) (sym empty.rows);
+}

@@ -33,6 +33,7 @@ module _ (s : State) (valid : IsValidWithin s) (row : CpuRow) (may : MayAttach s
     slots = stand.slots;
     units = stand.units;
     memory = stand.memory;
+    blocks = stand.blocks;
     numbers = record {
       cpus = ap (λ (cpus : List CpuRow). cpus ++ row ∷ []) stand.numbers.cpus;
       links = stand.numbers.links;

@@ -26,6 +26,7 @@ use Rattle.gh_state.specs.declared.journal.Journal.{Journal}
 use Rattle.gh_state.specs.declared.journal.Memory.TheVariants.{Bare}
 use Rattle.gh_state.specs.declared.slots.Slots.{Slots}
 use Rattle.gh_state.specs.declared.shares.Place.{Place}
+use Rattle.gh_state.proofs.BlockLemmas.{no_blocks}
 use Rattle.gh_state.proofs.PlaceLemmas.{share_of, sized_share, spot_of}
 use Rattle.gh_state.proofs.SlotNumbers.{slot_within, word_is}
 
@@ -76,6 +77,7 @@ new_stands = record {
     retired = λ x row is. absurd (let never : ⊥ = cc in never);
     room = length-replicate {A = Option (List ℕ)} OBJECT_INDICES None;
   };
+  blocks = no_blocks;
   kinds = λ x. refl;
   references = record {
     each = λ x. no_count (index_of no_headers.headers x);

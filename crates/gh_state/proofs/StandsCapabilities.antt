@@ -146,6 +146,7 @@ module _ (parts : Parts) (s : State) (row : CapabilityRow) (valid : IsValidWithi
         (λ c n apart. others_stay s (PutCapability row) c n (ap not apart));
     units = stand.units;
     memory = stand.memory;
+    blocks = stand.blocks;
     numbers = record {
       cpus = stand.numbers.cpus;
       links = stand.numbers.links;

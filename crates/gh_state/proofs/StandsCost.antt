@@ -45,7 +45,7 @@ use Rattle.gh_state.proofs.Reindexed.{slots_at}
 use Rattle.gh_state.proofs.StandsBells.{apart_serials}
 use Rattle.gh_state.proofs.StandsQuota.{costs_in}
 
-costs_not : (partition : ℕ) (row : ObjectRow) → row.partition.0 ≢ partition → cost_in partition row ≡ 0
+pub costs_not : (partition : ℕ) (row : ObjectRow) → row.partition.0 ≢ partition → cost_in partition row ≡ 0
 costs_not partition row apart = rw (ne_eqb row.partition.0 partition apart) refl
 
 -- what a configured object costs: more than the unit that it cost so far, where its partition has the
@@ -280,6 +280,7 @@ module _ (parts : Parts) (s : State) (stand : Stands parts s) (object : Serial) 
         subst (λ (one : Serial). UnitsStand (change_row (is_account one.0) (using (cost - 1)) parts.journal.accounts) rows s.partitions)
         (sym is) units_now;
     memory = stand.memory;
+    blocks = stand.blocks;
     numbers = record {
       cpus = stand.numbers.cpus;
       links = stand.numbers.links;

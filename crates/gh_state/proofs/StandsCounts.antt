@@ -110,14 +110,15 @@ module _ (headers : List (Option Header)) (counts : List (Option Count)) (s : St
   }
 
 -- how often a serial is owed once another is owed too
-times_here : (object : Serial) (owed : List Serial) (n : ℕ) → n ≡ object.0
+pub times_here : (object : Serial) (owed : List Serial) (n : ℕ) → n ≡ object.0
     → times n (object ∷ owed) ≡ times n owed + 1
 times_here object owed n same =
     let sum : times n (object ∷ owed) ≡ one_if (object.0 == n) + times n owed =
     count_cons (is_that n) object owed in
     omega (arith, sum, one_true (object.0 == n) (eq-eqb object.0 n (sym same)))
 
-times_there : (object : Serial) (owed : List Serial) (n : ℕ) → n ≢ object.0
+-- and one that isn't the object
+pub times_there : (object : Serial) (owed : List Serial) (n : ℕ) → n ≢ object.0
     → times n owed ≡ times n (object ∷ owed)
 times_there object owed n apart =
     let sum : times n (object ∷ owed) ≡ one_if (object.0 == n) + times n owed =

@@ -83,6 +83,7 @@ module _ (parts : Parts) (s : State) (cspace : Serial) (slot : ℕ) (at : IsFill
         (λ c n apart. others_stay s (DropCapability cspace slot) c n (ap not apart));
     units = at.stand.units;
     memory = at.stand.memory;
+    blocks = at.stand.blocks;
     numbers = record {
       cpus = at.stand.numbers.cpus;
       links = at.stand.numbers.links;
@@ -153,6 +154,7 @@ module _ (parts : Parts) (s : State) (cspace : Serial) (slot : ℕ) (at : IsFill
         (λ c n apart. others_stay s (RevokeCapability cspace slot) c n (ap not apart));
     units = at.stand.units;
     memory = at.stand.memory;
+    blocks = at.stand.blocks;
     numbers = record {
       cpus = at.stand.numbers.cpus;
       links = at.stand.numbers.links;

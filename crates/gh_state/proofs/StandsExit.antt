@@ -29,6 +29,7 @@ module _ (parts : Parts) (s : State) (stand : Stands parts s) (valid : IsValidWi
     slots = stand.slots;
     units = stand.units;
     memory = stand.memory;
+    blocks = stand.blocks;
     numbers = record {
       cpus = ap (change_row (is_cpu cpu.0) as_exited) stand.numbers.cpus;
       links = stand.numbers.links;

@@ -75,6 +75,7 @@ module _ (s : State) (valid : IsValidWithin s) (room : HasRoom s) (row : LinkRow
     slots = stand.slots;
     units = stand.units;
     memory = stand.memory;
+    blocks = stand.blocks;
     numbers = record {
       cpus = stand.numbers.cpus;
       links = ap (λ (links : List LinkRow). links ++ row ∷ []) stand.numbers.links;

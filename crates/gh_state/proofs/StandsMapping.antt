@@ -257,6 +257,7 @@ module _ (s : State) (valid : IsValidWithin s) (row : MappingRow) (may : MayMap 
         slots = stand.slots;
         units = stand.units;
         memory = stand.memory;
+        blocks = stand.blocks;
         numbers = record {
           cpus = stand.numbers.cpus;
           links = stand.numbers.links;

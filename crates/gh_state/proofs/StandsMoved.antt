@@ -1,9 +1,9 @@
 -- The counts stand for the references once a change has moved them: what was owed before it was what
 -- it gives, and what is owed behind it is what it takes.
-use Rattle.std.proofs.Common.{◌≡◌, ◌<◌, ◌∙◌, ℕ, List, Option, Some, None, refl, sym, ap, subst, arith, inl, inr, find, is_some}
+use Rattle.std.proofs.Common.{◌≡◌, ◌<◌, ◌∙◌, ℕ, List, Option, Some, None, refl, sym, ap, subst, arith, find, is_some}
 use Rattle.std.specs.Option.{option_map}
-use Rattle.std.proofs.lemmas.Bool.{cases_lt, eqb-true}
-use Rattle.gh_invariant.proofs.Counting.{found_passes, unfound}
+use Rattle.std.proofs.lemmas.Bool.{eqb-true}
+use Rattle.gh_invariant.proofs.Counting.{found_passes}
 use Rattle.gh_invariant.proofs.ReferencesLaw.{moves}
 use Rattle.gh_invariant.specs.Effects.{gains, losses}
 use Rattle.gh_invariant.specs.Premises.{MayChange}
@@ -16,6 +16,7 @@ use Rattle.gh_model.specs.declared.state.State.{State}
 use Rattle.gh_objects.specs.declared.count.Count.{Count}
 use Rattle.gh_objects.specs.declared.header.Header.{Header}
 use Rattle.gh_state.specs.Stands.{ReferencesStand, count_of}
+use Rattle.gh_state.proofs.Living.{object_some}
 
 count_with : ObjectRow → ℕ → Count
 count_with row n = record { serial = row.serial; references = n; retired = is_some row.retired }
@@ -24,15 +25,7 @@ module _ (last : ℕ) (s : State) (change : Change) (valid : IsValidTo last s) (
   -- no object has serial 0
   pub serial_some : (serial : ℕ) (row : ObjectRow) → find (is_object serial) s.objects ≡ Some row
       → 0 < serial
-  serial_some serial row is =
-      elim (cases_lt 0 serial) [
-        | inl some ↦ some
-        | inr none ↦
-            let zero : serial ≡ 0 = omega arith in
-            let gone : find (is_object serial) s.objects ≡ None =
-            subst (λ (n : ℕ). find (is_object n) s.objects ≡ None) (sym zero) (unfound (is_object 0) s.objects valid.objects.none) in
-            absurd (let never : ⊥ = cc in never)
-      ]
+  serial_some serial row is = object_some last s valid serial row is
 
   count_moved : (row : ObjectRow) → 0 < row.serial.0
       → count_of s (gains s change) row ≡ count_of (changed s change) (losses s change) row

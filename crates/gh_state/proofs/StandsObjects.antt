@@ -29,6 +29,7 @@ use Rattle.gh_state.specs.Index.{AreIndexed, found_index, index_of, indexed}
 use Rattle.gh_state.specs.Shares.{body_at, place_at}
 use Rattle.gh_state.specs.Stands.{StandsOwing, UnitsStand, account_of, count_of, header_of}
 use Rattle.gh_state.specs.declared.parts.Parts.{Parts}
+use Rattle.gh_state.proofs.BlockLemmas.{blocks_staged}
 use Rattle.gh_state.proofs.IndexLemmas.{alone, one_serial, unfound_past}
 use Rattle.gh_state.proofs.Options.{Like, like_found, map_none, map_same}
 use Rattle.gh_state.proofs.Reindexed.{bells_at, queues_at, slots_at, spaces_at, spans_at}
@@ -207,6 +208,7 @@ module _ (owed : List Serial) (parts : Parts) (s : State) (stand : StandsOwing o
       retired = retired_now;
       room = stand.objects.room;
     };
+    blocks = blocks_staged parts.table stage at stand.blocks;
     references = record {
       each = counts_now;
       bare = λ index none. stand.references.bare index (none_stays headers stage at index none);

@@ -70,6 +70,7 @@ module _ (parts : Parts) (s : State) (object : Serial) (before after : List Seri
     slots = stand.slots;
     units = stand.units;
     memory = stand.memory;
+    blocks = stand.blocks;
     numbers = record {
       cpus = stand.numbers.cpus;
       links = stand.numbers.links;

@@ -57,6 +57,7 @@ module _ (owed : List Serial) (parts : Parts) (s : State) (stand : StandsOwing o
         slots = stand.slots;
         units = stand.units;
         memory = stand.memory;
+        blocks = stand.blocks;
         numbers = record {
           cpus = stand.numbers.cpus;
           links = stand.numbers.links;

@@ -33,7 +33,7 @@ counts_in : (partition : ℕ) (row : PartitionRow) → row.parent.0 ≡ partitio
     → quota_in partition row ≡ row.quota
 counts_in partition row same = rw (eq-eqb row.parent.0 partition same) refl
 
-counts_not : (partition : ℕ) (row : PartitionRow) → row.parent.0 ≢ partition
+pub counts_not : (partition : ℕ) (row : PartitionRow) → row.parent.0 ≢ partition
     → quota_in partition row ≡ 0
 counts_not partition row apart = rw (ne_eqb row.parent.0 partition apart) refl
 
@@ -242,6 +242,7 @@ module _ (parts : Parts) (s : State) (stand : Stands parts s) (valid : IsValidWi
     slots = stand.slots;
     units = units_now;
     memory = stand.memory;
+    blocks = stand.blocks;
     numbers = record {
       cpus = stand.numbers.cpus;
       links = stand.numbers.links;

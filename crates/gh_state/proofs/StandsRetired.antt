@@ -200,6 +200,7 @@ module _ (parts : Parts) (s : State) (stand : Stands parts s) (object : Serial) 
         (λ serial. seen (is_of_kind kind.Cspace) (λ row. refl) serial) stand.slots;
     units = units_now;
     memory = stand.memory;
+    blocks = stand.blocks;
     numbers = record {
       cpus = stand.numbers.cpus;
       links = stand.numbers.links;

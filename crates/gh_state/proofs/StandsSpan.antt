@@ -196,6 +196,7 @@ module _ (parts : Parts) (s : State) (valid : IsValidWithin s) (row : ExtentRow)
       rows = with_row_rows row parts.journal.memory s.extents parent_some stand.memory.rows;
       pages = with_row_pages row parts.journal.memory ∙ stand.memory.pages;
     };
+    blocks = stand.blocks;
     numbers = record {
       cpus = stand.numbers.cpus;
       links = stand.numbers.links;
@@ -249,6 +250,7 @@ module _ (parts : Parts) (s : State) (valid : IsValidWithin s) (row : ExtentRow)
       rows = ap (λ (one : ExtentRow). one ∷ []) root_is ∙ ap (λ (rows : List ExtentRow). rows ++ row ∷ []) (sym may.first);
       pages = ap (λ (n : ℕ). replicate n row.serial) pages_are;
     };
+    blocks = stand.blocks;
     numbers = record {
       cpus = stand.numbers.cpus;
       links = stand.numbers.links;

@@ -1,5 +1,6 @@
 pub mod Accounts
 pub mod Beginning
+pub mod Blocks
 pub mod Bodies
 pub mod BodyChanges
 pub mod Index
@@ -7,6 +8,7 @@ pub mod Making
 pub mod MappingChanges
 pub mod MemoryChanges
 pub mod NumberChanges
+pub mod ObjectChanges
 pub mod ObjectReads
 pub mod Owing
 pub mod QueueReads

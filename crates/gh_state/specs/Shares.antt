@@ -33,6 +33,13 @@ place_at shares index =
 abbrev pub body_at : List (List Place) → ℕ → Body
 body_at shares index = (place_at shares index).body
 
+-- the shares with another place at an index
+abbrev pub with_place : List (List Place) → ℕ → Place → List (List Place)
+with_place shares index place =
+    slice_set shares (index / PARTITION_PLACES)
+    (slice_set (slice_index_or shares (index / PARTITION_PLACES) []) (index % PARTITION_PLACES)
+    place)
+
 -- a share with another body at a place
 abbrev pub with_body_in : List Place → ℕ → Body → List Place
 with_body_in places at body = slice_set places at (record (place_in places at) { body = body })

@@ -32,6 +32,7 @@ use Rattle.gh_objects.specs.Counts.{count_at}
 use Rattle.gh_objects.specs.Headers.{header_at}
 use Rattle.gh_objects.specs.declared.count.Count.{Count}
 use Rattle.gh_objects.specs.declared.header.Header.{Header}
+use Rattle.gh_state.specs.Blocks.{BlocksStand}
 use Rattle.gh_state.specs.Bodies.{bell_in, body_of, fits_body, mappings_in, queue_in, space_in}
 use Rattle.gh_state.specs.Bodies.{span_in}
 use Rattle.gh_state.specs.Index.{AreIndexed, index_of, indexed}
@@ -208,6 +209,7 @@ pub record NumbersStand (journal : Journal) (s : State) : Type 0 where
 pub record StandsOwing (owed : List Serial) (parts : Parts) (s : State) : Type 0 where
   pub objects :
       ObjectsStand parts.table.headers parts.shares parts.journal.retirements s.objects
+  pub blocks : BlocksStand parts.table
   pub kinds : KindsStand parts.table.headers parts.shares s.objects
   pub references : ReferencesStand parts.table.headers parts.journal.counts owed s
   pub bells : BellsStand parts.table.headers parts.shares s.bells

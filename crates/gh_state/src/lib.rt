@@ -7,6 +7,7 @@ mod body;
 mod capabilities;
 mod counts;
 mod cpus;
+mod creation;
 mod journal;
 mod links;
 mod mappings;

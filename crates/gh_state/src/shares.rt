@@ -1,9 +1,10 @@
 //! The shares of the partition places: what the objects of each have beside their headers.
 
-ghost use Rattle.std.specs.Prelude.{◌≡◌, ◌<◌, IfOk, length, replicate};
+ghost use Rattle.std.specs.Prelude.{◌≡◌, ◌<◌, IfOk, length, replicate, slice_set};
 ghost use Rattle.gh_state.specs.Shares.{AreShares, no_place, no_shares, body_at, place_at};
 ghost use Rattle.gh_state.specs.Shares.{place_in};
 ghost use Rattle.gh_state.specs.Shares.{with_body, with_body_in, with_cost_at, with_cost_in};
+ghost use Rattle.gh_state.specs.Shares.{with_place};
 
 use crate::body::Body;
 use gh_base::{NoMemory, OBJECT_INDICES, ObjIndex, PARTITION_PLACES, PARTITIONS};
@@ -92,6 +93,14 @@ impl Share {
         &self.places[at].body
     }
 
+    /// Puts another place in the place of one.
+    fn set_place(&mut self, at: usize, place: Place)
+        requires { at < length self.old }
+        ensures { self.new ≡ slice_set self.old at place }
+    {
+        self.places[at] = place;
+    }
+
     /// The object at a place costs so many units from now on.
     fn set_cost(&mut self, at: usize, cost: u16)
         requires { at < length self.old }
@@ -167,6 +176,16 @@ impl Shares {
     {
         let _ = self.exchange(index, body);
     }
+
+    /// Puts all that an object has beside its header to its index.
+    pub fn set_place(&mut self, index: ObjIndex, place: Place)
+        requires { index.0 < OBJECT_INDICES }
+        ensures { self.new ≡ with_place self.old index.0 place }
+    {
+        let index = index.0 as usize;
+        self.shares[index / PARTITION_PLACES].set_place(index % PARTITION_PLACES, place);
+    }
+
     /// The object at an index costs so many units from now on.
     pub fn set_cost(&mut self, index: ObjIndex, cost: u16)
         requires { index.0 < OBJECT_INDICES }

@@ -131,7 +131,7 @@ impl Parts {
     }
 
     /// A partition uses units more, if they are free.
-    fn take_units(&mut self, partition: Serial, cost: u16)
+    pub(crate) fn take_units(&mut self, partition: Serial, cost: u16)
         ensures { self.new ≡ with_accounts
             (change_row (is_account partition.0) (using cost) self.old.journal.accounts) self.old }
     {

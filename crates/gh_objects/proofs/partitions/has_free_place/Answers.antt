@@ -5,4 +5,4 @@ use Rattle.gh_objects.proofs.ListLemmas.{found-few}
 use Rattle.gh_objects.proofs.partitions.has_free_place.Goals as goal
 
 pub returns : goal.returns
-returns c = c.is_some.ensures ∙ ap is_some c.find_free.ensures ∙ found-few _
+returns c = c.is_some.ensures ∙ ap is_some c.find_free.ensures.place ∙ found-few _
