@@ -3,6 +3,7 @@ mod BodyChangeLemmas
 mod BodyLemmas
 mod DoomedLemmas
 mod FilledSlots
+mod FoundAlone
 mod FoundRows
 mod IndexLemmas
 mod KindCounts
@@ -19,6 +20,7 @@ mod SharesLemmas
 mod ShowsLemmas
 mod SlotLemmas
 mod SlotNumbers
+mod SlotReadLemmas
 mod SpaceReadLemmas
 mod StandsAttached
 mod StandsBeginning

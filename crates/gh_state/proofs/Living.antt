@@ -54,7 +54,8 @@ index_below headers shares retirements objects stand serial row is =
           (omega (arith, stand.indexed.indices)))
     ]
 
-numbered : (k : Kind) → kind_numbered (kind_number k) ≡ Some k
+-- a kind is that of its number
+pub numbered : (k : Kind) → kind_numbered (kind_number k) ≡ Some k
 numbered kind.Partition = refl
 numbered kind.Cspace = refl
 numbered kind.Space = refl
