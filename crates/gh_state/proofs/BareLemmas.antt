@@ -1,6 +1,6 @@
 -- Pages that no extent holds yet are serial 0's.
 use Rattle.std.proofs.Common.{◌≡◌, ◌≢◌, ◌∙◌, ◌+◌, ◌-◌, ◌≤◌, ◌==◌, ◌||◌, ◌&&◌, ℕ, zero, suc, Bool, true, false, List, refl, sym, ap, arith, inl, inr}
-use Rattle.std.proofs.Common.{take, drop, replicate, length}
+use Rattle.std.proofs.Common.{take, replicate, length}
 use Rattle.std.specs.List.{list_all}
 use Rattle.std.proofs.lemmas.Bool.{cases_eq, eq-eqb, le-leb, ne_eqb}
 use Rattle.std.proofs.lemmas.List.{drop-replicate, length-replicate, take-replicate}

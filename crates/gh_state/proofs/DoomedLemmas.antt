@@ -1,5 +1,5 @@
 -- Whether nothing refers to an object, by its count.
-use Rattle.std.proofs.Common.{◌≡◌, ◌≢◌, ◌<◌, ◌+◌, ◌∙◌, ◌==◌, ◌||◌, not, ℕ, Bool, true, false, List, [], ◌∷◌, Option, Some, None}
+use Rattle.std.proofs.Common.{◌≡◌, ◌≢◌, ◌+◌, ◌∙◌, ◌==◌, ◌||◌, not, ℕ, Bool, true, List, [], ◌∷◌, Option, Some, None}
 use Rattle.std.proofs.Common.{refl, sym, ap, subst, arith, inl, inr, find, is_some}
 use Rattle.std.specs.Prelude.{count_by, IsSome}
 use Rattle.std.specs.List.{list_any}
@@ -7,12 +7,10 @@ use Rattle.std.specs.Option.{option_map}
 use Rattle.std.proofs.lemmas.Bool.{cases_Bool, cases_eq, eqb-true, ne_eqb}
 use Rattle.std.proofs.lemmas.List.{get_or_past}
 use Rattle.gh_base.specs.declared.ids.ObjIndex.{ObjIndex}
-use Rattle.gh_base.specs.declared.ids.Serial.{Serial}
 use Rattle.gh_extent.specs.Extents.{is_child_of}
 use Rattle.gh_invariant.proofs.Counting.{count_cons, found_passes, one_false, one_true}
 use Rattle.gh_invariant.proofs.NotLiving.{not_living}
 use Rattle.gh_invariant.specs.Effects.{times}
-use Rattle.gh_invariant.specs.Lives.{lives}
 use Rattle.gh_invariant.specs.Valid.{IsValidWithin}
 use Rattle.gh_model.specs.References.{is_doomed, references}
 use Rattle.gh_model.specs.Rows.{is_object}
@@ -21,8 +19,6 @@ use Rattle.gh_model.specs.declared.rows.ObjectRow.{ObjectRow}
 use Rattle.gh_model.specs.declared.state.State.{State}
 use Rattle.gh_objects.specs.Counts.{count_at, is_doomed as is_doomed_count}
 use Rattle.gh_objects.specs.Headers.{header_at}
-use Rattle.gh_objects.specs.declared.count.Count.{Count}
-use Rattle.gh_objects.specs.declared.header.Header.{Header}
 use Rattle.gh_state.specs.Index.{found_index, index_of}
 use Rattle.gh_state.specs.ObjectReads.{is_childless}
 use Rattle.gh_state.specs.Stands.{Stands, count_of, extent_rows, header_of}

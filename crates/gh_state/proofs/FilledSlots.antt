@@ -32,11 +32,13 @@ use Rattle.gh_state.proofs.WordLemmas.{Fit, filled_word_state, kind_fits, mark_f
 abbrev pub named : CapabilityRow → Option Serial
 named row = if row.valid then Some row.serial else None
 
-full : (valid : Bool) → is_empty (filled_state valid) ≡ false
+-- a filled slot's state isn't empty
+pub full : (valid : Bool) → is_empty (filled_state valid) ≡ false
 full true = refl
 full false = refl
 
-grants : (valid : Bool) → is_valid (filled_state valid) ≡ valid
+-- and grants where the capability is valid
+pub grants : (valid : Bool) → is_valid (filled_state valid) ≡ valid
 grants true = refl
 grants false = refl
 

@@ -16,6 +16,7 @@ mod CountedRows
 mod DoomedLemmas
 mod Entering
 mod FilledSlots
+mod FoundAlone
 mod FoundRows
 mod FreeIndex
 mod HeaderRows
@@ -34,6 +35,7 @@ mod SharesLemmas
 mod ShowsLemmas
 mod SlotLemmas
 mod SlotNumbers
+mod SlotReadLemmas
 mod SpaceReadLemmas
 mod StandsAdded
 mod StandsAttached

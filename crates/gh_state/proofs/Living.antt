@@ -70,7 +70,8 @@ object_some last s valid serial row is =
           absurd (let never : ⊥ = cc in never)
     ]
 
-numbered : (k : Kind) → kind_numbered (kind_number k) ≡ Some k
+-- a kind is that of its number
+pub numbered : (k : Kind) → kind_numbered (kind_number k) ≡ Some k
 numbered kind.Partition = refl
 numbered kind.Cspace = refl
 numbered kind.Space = refl

@@ -1,9 +1,8 @@
 -- What a queue's body tells is what its row says.
-use Rattle.std.proofs.Common.{◌≡◌, ◌∙◌, ℕ, Bool, Option, refl, sym, ap, find}
+use Rattle.std.proofs.Common.{◌≡◌, ◌∙◌, ℕ, refl, sym, ap, find}
 use Rattle.gh_model.specs.ManagerCalls.{has_messages}
 use Rattle.gh_model.specs.QueueCalls.{row_fill, row_first}
 use Rattle.gh_model.specs.Rows.{is_queue}
-use Rattle.gh_model.specs.declared.rows.QueueRow.{QueueRow}
 use Rattle.gh_model.specs.declared.state.State.{State}
 use Rattle.gh_state.specs.Bodies.{body_of, queue_in}
 use Rattle.gh_state.specs.QueueReads.{fill_in, first_in, has_some}

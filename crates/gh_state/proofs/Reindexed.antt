@@ -64,6 +64,7 @@ module _ (headers now : List (Option Header)) (same : (x : ℕ) → index_of now
       → SlotsStand headers all objects caps set_at → SlotsStand now all others caps set_at
   slots_at all objects others caps set_at live stand = record {
     homes = λ serial. stand.homes serial ∙ sym (live serial);
+    once = stand.once;
     sized = stand.sized;
     words = λ cspace slot is.
         slot_at (word_in all cspace slot) (name_in all cspace slot) _ _ (stand.words cspace slot is);

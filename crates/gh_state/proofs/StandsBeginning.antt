@@ -1,6 +1,7 @@
 -- The parts before any boot line stand for the state of nothing.
 use Rattle.std.proofs.Common.{◌≡◌, ◌∙◌, ℕ, List, [], Option, Some, None, refl, sym, ap, subst, arith, inl, inr}
 use Rattle.std.proofs.Common.{replicate}
+use Rattle.std.specs.Prelude.{count_by}
 use Rattle.std.proofs.lemmas.Bool.{cases_lt}
 use Rattle.std.proofs.lemmas.List.{get_or-replicate, get_or_past, length-replicate}
 use Rattle.std.proofs.lemmas.List.Elements.{All-replicate}
@@ -19,6 +20,7 @@ use Rattle.gh_state.specs.Beginning.{no_journal, no_parts}
 use Rattle.gh_state.specs.Bodies.{bell_in, mappings_in, queue_in, space_in, span_in}
 use Rattle.gh_state.specs.Index.{index_of}
 use Rattle.gh_state.specs.Shares.{AreShares, body_at, no_place, no_shares, place_in}
+use Rattle.gh_state.specs.Slots.{is_home}
 use Rattle.gh_state.specs.Stands.{Stands}
 use Rattle.gh_state.specs.declared.body.Body.TheVariants.{Nothing}
 use Rattle.gh_state.specs.declared.journal.Account.{Account}
@@ -94,6 +96,7 @@ new_stands = record {
   };
   slots = record {
     homes = λ x. refl;
+    once = λ x. let none : count_by (is_home x) [] ≡ 0 = refl in omega arith;
     sized = λ x slots is. absurd (let never : ⊥ = cc in never);
     words = λ cspace slot is. ap (λ (word : CapWord). word.0) (word_is [] slot (slot_within slot is));
   };

@@ -1,5 +1,5 @@
 -- The slots stand for the rows once one of them is changed.
-use Rattle.std.proofs.Common.{◌≡◌, ◌≢◌, ◌-◌, ◌∙◌, ◌==◌, ◌&&◌, ℕ, false, List, [], Option, Some, refl, sym, ap, subst, inl, inr}
+use Rattle.std.proofs.Common.{◌≡◌, ◌≢◌, ◌≤◌, ◌-◌, ◌∙◌, ◌==◌, ◌&&◌, ℕ, false, List, [], Option, Some, refl, sym, ap, subst, inl, inr}
 use Rattle.std.proofs.Common.{find, get_or, is_some, IsTrue}
 use Rattle.std.specs.Option.{option_map, option_map_or}
 use Rattle.std.proofs.lemmas.Bool.{and_left, and_right, cases_eq, ne_eqb}
@@ -8,7 +8,7 @@ use Rattle.gh_base.specs.declared.cap_word.CapWord.{CapWord}
 use Rattle.gh_base.specs.declared.ids.Serial.{Serial}
 use Rattle.gh_base.specs.declared.kind.Kind.TheVariants as kind
 use Rattle.gh_cspace.specs.Cspace.{IsSlot, word_at}
-use Rattle.gh_invariant.proofs.ChangedRow.{find_change_seen, find_past_change}
+use Rattle.gh_invariant.proofs.ChangedRow.{count_change_kept, find_change_seen, find_past_change}
 use Rattle.gh_invariant.specs.Lives.{lives_as}
 use Rattle.gh_invariant.proofs.WordsLeft.{SlotStays}
 use Rattle.gh_model.specs.Rows.{change_row, fills, tells_setting}
@@ -172,6 +172,9 @@ module _ (headers : List (Option Header)) (all : List Slots) (s s' : State) (csp
     homes = λ serial.
         find_change_seen is_some (is_home serial) (is_home cspace) change all (home_is serial) (λ slots. refl)
         ∙ subst (λ (objects : List _). is_some (find (is_home serial) all) ≡ lives_as objects serial kind.Cspace) (sym same) (stand.homes serial);
+    once = λ serial.
+        subst (λ (n : ℕ). n ≤ 1) (sym (count_change_kept (is_home serial) (is_home cspace) change all (home_is serial)))
+        (stand.once serial);
     sized = sized_now;
     words = shown_now;
   }

@@ -4,7 +4,7 @@ use Rattle.std.specs.Prelude.{bit_and}
 use Rattle.std.proofs.lemmas.Bool.{eqb-true}
 use Rattle.std.proofs.lemmas.Nat.{and_le_r, div-mul-add, div_below, mod-mul-add}
 use Rattle.gh_base.specs.CapWord.{filled_bits, filled_state, kind_number_of, mark_number, master_number_of, object_of, packed}
-use Rattle.gh_base.specs.CapWord.{revoked_bits, rights_of, state_number, state_number_of, state_numbered, state_of}
+use Rattle.gh_base.specs.CapWord.{revoked_bits, rights_of, set_at_of, state_number, state_number_of, state_numbered, state_of}
 use Rattle.gh_base.specs.Kind.{kind_number, kind_rights}
 use Rattle.gh_base.specs.declared.cap_word.CapState.TheVariants.{Empty}
 use Rattle.gh_base.specs.declared.kind.Kind.{Kind}
@@ -59,6 +59,9 @@ module _ (state kind master object rights entry : ℕ) (fit : Fit kind master ob
   pub rights_packed : rights_of (packed state kind master object rights entry) ≡ rights
   rights_packed =
       rw (div-mul-add _ 4294967296 _ fit.entry_fits, mod-mul-add _ 65536 _ fit.rights_fit) refl
+
+  pub entry_packed : set_at_of (packed state kind master object rights entry) ≡ entry
+  entry_packed = mod-mul-add _ 4294967296 _ fit.entry_fits
 
 -- a number of an entry is the word of an empty slot
 pub empty_state : (number : ℕ) → number < 4294967296 → state_of number ≡ Empty

@@ -1,5 +1,5 @@
 -- Serial 0 is no object's, and only extents without a parent refer to it.
-use Rattle.std.proofs.Common.{◌≡◌, ◌<◌, ◌∙◌, ◌&&◌, ◌||◌, ◌==◌, not, ℕ, Bool, true, false, List, [], ◌∷◌, Option, Some, None}
+use Rattle.std.proofs.Common.{◌≡◌, ◌&&◌, ◌||◌, ◌==◌, not, ℕ, Bool, true, false, List, [], ◌∷◌, Option, Some, None}
 use Rattle.std.proofs.Common.{refl, sym, ap, subst, arith, inl, inr, find, IsTrue}
 use Rattle.std.specs.Prelude.{count_by}
 use Rattle.std.specs.List.{list_all}
@@ -20,12 +20,11 @@ use Rattle.gh_model.specs.declared.rows.CapabilityRow.{CapabilityRow}
 use Rattle.gh_model.specs.declared.rows.CpuRow.{CpuRow}
 use Rattle.gh_model.specs.declared.rows.LinkRow.{LinkRow}
 use Rattle.gh_model.specs.declared.rows.MappingRow.{MappingRow}
-use Rattle.gh_model.specs.declared.rows.ObjectRow.{ObjectRow}
 use Rattle.gh_model.specs.declared.state.State.{State}
 
 none_by : {R : Type 0} (p : R → Bool) (row : R) → (p row ≡ true → ⊥) → one_if (p row) ≡ 0
 none_by p row fails =
-    elim (cases_Bool (p row)) [ | inl passes ↦ absurd (fails passes) | inr past ↦ one_false (p row) past ]
+    elim (cases_Bool (p row)) [ inl passes ↦ absurd (fails passes) | inr past ↦ one_false (p row) past ]
 
 -- where all pass a test that no row passes beside another, none passes the other
 none_pass : {R : Type 0} (p q : R → Bool) (rows : List R)

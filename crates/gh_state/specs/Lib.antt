@@ -14,6 +14,7 @@ pub mod Owing
 pub mod QueueReads
 pub mod Shares
 pub mod SlotChanges
+pub mod SlotReads
 pub mod Slots
 pub mod SpaceReads
 pub mod Stands

@@ -1,7 +1,8 @@
 -- What the parts stand for: the rows of the state, one record for each kind of row. Rows are looked
 -- up by their serials, each at its object's index.
-use Rattle.std.specs.Prelude.{◌≡◌, ◌==◌, ◌+◌, ◌<◌, ℕ, Bool, true, IsTrue, List, [], length}
-use Rattle.std.specs.Prelude.{replicate, Option, Some, None, is_some, find, filter, slice_index_or}
+use Rattle.std.specs.Prelude.{◌≡◌, ◌==◌, ◌+◌, ◌<◌, ◌≤◌, ℕ, Bool, true, IsTrue, List, [], length}
+use Rattle.std.specs.Prelude.{replicate, Option, Some, None, is_some, count_by, find, filter}
+use Rattle.std.specs.Prelude.{slice_index_or}
 use Rattle.std.specs.Option.{option_map}
 use Rattle.gh_base.specs.CapWord.{filled_bits}
 use Rattle.gh_base.specs.declared.cap_word.CapWord.{CapWord}
@@ -143,11 +144,12 @@ pub record HavePlaces (slots : Slots) : Type 0 where
   pub words : length slots.words ≡ CSPACE_SLOTS
   pub names : length slots.names ≡ CSPACE_SLOTS
 
--- each live capability space has its slots, and each slot its word
+-- each live capability space has its slots once, and each slot its word
 pub record SlotsStand (headers : List (Option Header)) (all : List Slots)
     (objects : List ObjectRow) (caps : List CapabilityRow) (set_at : List SetAtRow) : Type 0 where
   pub homes : (serial : ℕ)
       → is_some (find (is_home serial) all) ≡ lives_as objects serial kind.Cspace
+  pub once : (serial : ℕ) → count_by (is_home serial) all ≤ 1
   pub sized : (serial : ℕ) (slots : Slots) → find (is_home serial) all ≡ Some slots
       → HavePlaces slots
   pub words : (cspace slot : ℕ) → IsTrue (is_slot slot)

@@ -19,6 +19,7 @@ mod queue_reads;
 mod queues;
 mod reads;
 mod shares;
+mod slot_reads;
 mod slots;
 mod units;
 

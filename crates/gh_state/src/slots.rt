@@ -81,7 +81,7 @@ impl Slots {
 }
 
 /// The place of a capability space's slots in the list of all.
-fn home(all: &[Slots], cspace: Serial) -> Option<usize>
+pub(crate) fn home(all: &[Slots], cspace: Serial) -> Option<usize>
     ensures { result ≡ position (is_home cspace.0) all.now }
 {
     all.iter().position(|slots| slots.cspace == cspace)

@@ -1,0 +1,14 @@
+-- The capability space's least free slot is that of its rows.
+use Rattle.std.proofs.Common.{◌<◌, ◌∙◌, List, ap, arith, find}
+use Rattle.gh_state.specs.SlotReads.{free_slot_in}
+use Rattle.gh_state.specs.Slots.{is_home}
+use Rattle.gh_state.specs.declared.slots.Slots.{Slots}
+use Rattle.gh_state.proofs.SlotReadLemmas.{free_told}
+use Rattle.gh_state.proofs.parts.Parts.free_slot.Goals as goal
+
+pub returns : goal.returns
+returns g c =
+    let small : g.s.entries < 4294967296 = omega (arith, c.requires.0.numbers.entries) in
+    c.least_free.ensures
+    ∙ ap (λ (all : List Slots). free_slot_in (find (is_home c.args.cspace.0) all)) c.as_slice.ensures
+    ∙ free_told c.args.self.now g.s c.requires.0 c.requires.1 small c.args.cspace.0
