@@ -243,8 +243,8 @@ impl Extents {
         self.holders.holder(page.0)
     }
 
-    /// The row of an extent.
-    fn row(&self, extent: Serial) -> Option<ExtentRow>
+    /// The row of an extent; none where it has none.
+    pub fn row(&self, extent: Serial) -> Option<ExtentRow>
         ensures row { result ≡ row_of self.now extent.0 }
         ensures within { IfSome result
             (λ row. row.first.0 + row.count ≤ length self.now.holders) }

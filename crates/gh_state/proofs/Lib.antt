@@ -14,10 +14,13 @@ mod BootUnits
 mod CountedRows
 mod Entering
 mod FilledSlots
+mod FollowLemmas
 mod FoundRows
 mod FreeIndex
 mod HeaderRows
 mod IndexLemmas
+mod Leaving
+mod LeavingHome
 mod Living
 mod MappingLemmas
 mod Options
@@ -26,6 +29,12 @@ mod QueueChanges
 mod QueueLemmas
 mod ReadLemmas
 mod Reindexed
+mod RemovedBlocks
+mod RemovedBodies
+mod RemovedIndices
+mod RemovedObjects
+mod RemovedSlots
+mod RemovedUnits
 mod SharesLemmas
 mod ShowsLemmas
 mod SlotLemmas

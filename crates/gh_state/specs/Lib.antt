@@ -3,6 +3,7 @@ pub mod Beginning
 pub mod Blocks
 pub mod Bodies
 pub mod BodyChanges
+pub mod Follows
 pub mod Index
 pub mod Making
 pub mod MappingChanges
@@ -11,6 +12,7 @@ pub mod NumberChanges
 pub mod ObjectChanges
 pub mod ObjectReads
 pub mod Owing
+pub mod Reclaims
 pub mod Shares
 pub mod SlotChanges
 pub mod Slots
