@@ -246,7 +246,7 @@ impl Extents {
         self.holders.holder(page.0)
     }
 
-    /// The row of an extent. It looks at one row after another.
+    /// The row of an extent; none where it has none. It looks at one row after another.
     pub fn row(&self, extent: Serial) -> Option<ExtentRow>
         ensures row { result ≡ row_of self.now extent.0 }
         ensures within { IfSome result

@@ -44,7 +44,8 @@ module _ (headers : List (Option Header)) (partitions : List (Option ObjIndex))
           have.one_each index ∙ ap (λ (b : Bool). if b then 1 else 0) dead in
           absurd (omega (arith, none, count_by-passes (is_had_by index) partitions place None below is))
 
-had_same : (x y : ℕ) (had : Option ObjIndex) → is_had_by x had ≡ true → is_had_by y had ≡ true → x ≡ y
+-- a place is had by one index
+pub had_same : (x y : ℕ) (had : Option ObjIndex) → is_had_by x had ≡ true → is_had_by y had ≡ true → x ≡ y
 had_same x y None is also = absurd (let never : ⊥ = cc in never)
 had_same x y (Some index) is also = grind (arith)
 

@@ -9,12 +9,9 @@ use Rattle.gh_base.specs.declared.limits.TheConstants.{OBJECT_INDICES}
 use Rattle.gh_objects.specs.Headers.{has_serial, header_at}
 use Rattle.gh_objects.specs.declared.header.Header.{Header}
 use Rattle.gh_state.specs.Index.{AreIndexed, index_of}
+use Rattle.gh_state.proofs.FoundRows.{not_true}
 use Rattle.gh_state.proofs.IndexLemmas.{header_found, index_within}
 use Rattle.gh_state.proofs.Options.{some_same}
-
-not_true : (b : Bool) → not b ≡ true → b ≡ false
-not_true true is = sym is
-not_true false is = refl
 
 -- where a serial has no index, no header has it
 pub serial_nowhere : (headers : List (Option Header)) (serial index : ℕ)

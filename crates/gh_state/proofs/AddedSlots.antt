@@ -41,7 +41,7 @@ record Opens (serial : Serial) (k : Kind) (all : List Slots) : Type 0 where
   empty : (slot : ℕ) → IsSlot slot → (word_in (with_space k serial all) serial.0 slot).0 ≡ 0
 
 -- the words of what has none, and those of new slots, are 0
-no_word : (slot : ℕ) → IsSlot slot → (word_at [] slot).0 ≡ 0
+pub no_word : (slot : ℕ) → IsSlot slot → (word_at [] slot).0 ≡ 0
 no_word slot is = ap (λ (word : CapWord). word.0) (word_is [] slot is)
 
 new_word : (slot : ℕ) → IsSlot slot → (word_at (replicate CSPACE_SLOTS never_set) slot).0 ≡ 0

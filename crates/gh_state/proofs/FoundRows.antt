@@ -1,13 +1,14 @@
 -- A row that is found, once the first that passes the test is changed.
-use Rattle.std.proofs.Common.{◌≡◌, ◌++◌, IsTrue, ◌∙◌, ◌⊎◌, inl, inr, Bool, true, false, List, [], ◌∷◌, refl, sym, ap, Option, Some, None, find}
+use Rattle.std.proofs.Common.{◌≡◌, not, ◌++◌, IsTrue, ◌∙◌, ◌⊎◌, inl, inr, Bool, true, false, List, [], ◌∷◌, refl, sym, ap, Option, Some, None, find}
 use Rattle.std.proofs.Common.{option_map, length, position, get_or, slice_get, ℕ, nat_lt, if◌then◌else◌}
+use Rattle.std.specs.Prelude.{count_by}
 use Rattle.std.specs.List.{list_all, position_or_len}
 use Rattle.std.specs.Option.{option_or}
 use Rattle.std.proofs.lemmas.List.Folds.{find-append, find_at}
 use Rattle.std.proofs.lemmas.Option.{cond_some, slice_get-get_or, slice_get_past}
 use Rattle.std.proofs.lemmas.List.Quantifiers.{position-Some}
 use Rattle.std.proofs.lemmas.Bool.{cases_Bool, ltb-false}
-use Rattle.gh_invariant.proofs.Counting.{find_here, find_later, found_all, found_passes}
+use Rattle.gh_invariant.proofs.Counting.{find_here, find_later, found_all, found_passes, none_fail}
 use Rattle.gh_model.proofs.ChangedRows.{change_here, change_later}
 use Rattle.gh_model.specs.Rows.{change_row}
 
@@ -71,6 +72,16 @@ pub find_behind : {R : Type 0} (test : R → Bool) (rows more : List R) → find
     → find test (rows ++ more) ≡ find test more
 find_behind {R} test rows more none =
     find-append test rows more ∙ ap (λ (o : Option R). option_or o (find test more)) none
+
+pub not_true : (b : Bool) → not b ≡ true → b ≡ false
+not_true true is = sym is
+not_true false is = refl
+
+-- a row that is found fails a test that none is counted by
+pub found_fails : {R : Type 0} (test none : R → Bool) (rows : List R) (row : R)
+    → count_by none rows ≡ 0 → find test rows ≡ Some row → none row ≡ false
+found_fails {R} test none rows row zero is =
+    not_true (none row) (found_all test (λ (one : R). not (none one)) rows row (none_fail none rows zero) is)
 
 -- where no row that passes one test passes another, none that all pass the first is found by it
 pub none_found : {R : Type 0} (test all : R → Bool) (rows : List R) → IsTrue (list_all all rows)

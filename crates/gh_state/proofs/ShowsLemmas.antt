@@ -1,8 +1,8 @@
--- An address space shows who holds the pages, once an extent more has a span.
+-- An address space shows who holds the pages, once other extents have spans.
 use Rattle.std.proofs.Common.{◌≡◌, ◌∙◌, ◌+◌, ℕ, Bool, true, false, List, [], ◌∷◌, Option, Some, None, refl, sym, ap, subst, find}
 use Rattle.std.proofs.Common.{map, if◌then◌else◌}
 use Rattle.std.specs.Prelude.{All, IsSomeAnd}
-use Rattle.std.proofs.lemmas.List.Elements.{All-head, All-nil, All-tail, All-weaker}
+use Rattle.std.proofs.lemmas.List.Elements.{All-cons, All-head, All-nil, All-tail, All-weaker}
 use Rattle.gh_base.specs.declared.ids.Serial.{Serial}
 use Rattle.gh_addrspace.specs.Space.{IsEmptySpace, IsNamed, Shows, Space}
 use Rattle.gh_addrspace.specs.declared.mapping.Mapping.{Mapping}
@@ -10,51 +10,73 @@ use Rattle.gh_model.specs.Memory.{access_of, covering_access, row_covers, span_a
 use Rattle.gh_model.specs.declared.memory.MapRow.{MapRow}
 use Rattle.gh_model.specs.declared.memory.Span.{Span}
 
--- spans that were there are there still
-abbrev pub Extends : (ℕ → Option Span) → (ℕ → Option Span) → Type 0
-Extends spans more = (extent : ℕ) (span : Span) → spans extent ≡ Some span → more extent ≡ Some span
+-- the span of a row's extent is there still
+abbrev pub KeepsSpan : (ℕ → Option Span) → (ℕ → Option Span) → Mapping → Type 0
+KeepsSpan spans more mapping =
+    (span : Span) → spans mapping.row.extent.0 ≡ Some span → more mapping.row.extent.0 ≡ Some span
 
-named_by : (spans more : ℕ → Option Span) → Extends spans more → (extent : ℕ) (P : Span → Type 0)
-    → (found : Option Span) → spans extent ≡ found → IsSomeAnd found P → IsSomeAnd (more extent) P
-named_by spans more extends extent P None is holds = absurd holds
-named_by spans more extends extent P (Some span) is holds =
-    subst (λ (o : Option Span). IsSomeAnd o P) (sym (extends extent span is)) holds
+named_by : (spans more : ℕ → Option Span) (mapping : Mapping) → KeepsSpan spans more mapping
+    → (P : Span → Type 0) (found : Option Span) → spans mapping.row.extent.0 ≡ found → IsSomeAnd found P
+    → IsSomeAnd (more mapping.row.extent.0) P
+named_by spans more mapping keeps P None is holds = absurd holds
+named_by spans more mapping keeps P (Some span) is holds =
+    subst (λ (o : Option Span). IsSomeAnd o P) (sym (keeps span is)) holds
 
-span_by : (spans more : ℕ → Option Span) → Extends spans more → (holders : List Serial) (row : MapRow) (v : ℕ)
-    → (P : Span → Type 0) → (found : Option Span) → spans row.extent.0 ≡ found → IsSomeAnd found P
-    → span_access holders row v (spans row.extent.0) ≡ span_access holders row v (more row.extent.0)
-span_by spans more extends holders row v P None is holds = absurd holds
-span_by spans more extends holders row v P (Some span) is holds =
-    ap (span_access holders row v) (is ∙ sym (extends row.extent.0 span is))
+span_by : (spans more : ℕ → Option Span) (mapping : Mapping) → KeepsSpan spans more mapping
+    → (holders : List Serial) (v : ℕ) (P : Span → Type 0) (found : Option Span)
+    → spans mapping.row.extent.0 ≡ found → IsSomeAnd found P
+    → span_access holders mapping.row v (spans mapping.row.extent.0) ≡ span_access holders mapping.row v (more mapping.row.extent.0)
+span_by spans more mapping keeps holders v P None is holds = absurd holds
+span_by spans more mapping keeps holders v P (Some span) is holds =
+    ap (span_access holders mapping.row v) (is ∙ sym (keeps span is))
 
-module _ (spans more : ℕ → Option Span) (extends : Extends spans more) (holders : List Serial) (v : ℕ) where
-  access_by : (mapping : Mapping) (mappings : List Mapping) (here : Bool)
-      → row_covers v mapping.row ≡ here → IsNamed spans mapping
-      → access_of spans holders (map (λ (m : Mapping). m.row) mappings) v ≡ access_of more holders (map (λ (m : Mapping). m.row) mappings) v
-      → covering_access spans holders v (if here then Some mapping.row else find (row_covers v) (map (λ (m : Mapping). m.row) mappings))
-      ≡ covering_access more holders v (if here then Some mapping.row else find (row_covers v) (map (λ (m : Mapping). m.row) mappings))
-  access_by mapping mappings true covers named others =
-      span_by spans more extends holders mapping.row v _ (spans mapping.row.extent.0) refl named
-  access_by mapping mappings false fails named others = others
+module _ (spans more : ℕ → Option Span) where
+  named_kept : (mappings : List Mapping) → All (KeepsSpan spans more) mappings → All (IsNamed spans) mappings
+      → All (IsNamed more) mappings
+  named_kept [] keeps named = All-nil (IsNamed more)
+  named_kept (mapping ∷ mappings) keeps named =
+      All-cons (IsNamed more) mapping mappings
+      (named_by spans more mapping (All-head (KeepsSpan spans more) mapping mappings keeps) _ (spans mapping.row.extent.0) refl
+      (All-head (IsNamed spans) mapping mappings named))
+      (named_kept mappings (All-tail (KeepsSpan spans more) mapping mappings keeps) (All-tail (IsNamed spans) mapping mappings named))
 
-  access_extends : (mappings : List Mapping) → All (IsNamed spans) mappings
-      → access_of spans holders (map (λ (m : Mapping). m.row) mappings) v
-      ≡ access_of more holders (map (λ (m : Mapping). m.row) mappings) v
-  access_extends [] named = refl
-  access_extends (mapping ∷ mappings) named =
-      access_by mapping mappings (row_covers v mapping.row) refl
-      (All-head (IsNamed spans) mapping mappings named)
-      (access_extends mappings (All-tail (IsNamed spans) mapping mappings named))
+  module _ (holders : List Serial) (v : ℕ) where
+    access_by : (mapping : Mapping) (mappings : List Mapping) (here : Bool)
+        → row_covers v mapping.row ≡ here → KeepsSpan spans more mapping → IsNamed spans mapping
+        → access_of spans holders (map (λ (m : Mapping). m.row) mappings) v ≡ access_of more holders (map (λ (m : Mapping). m.row) mappings) v
+        → covering_access spans holders v (if here then Some mapping.row else find (row_covers v) (map (λ (m : Mapping). m.row) mappings))
+        ≡ covering_access more holders v (if here then Some mapping.row else find (row_covers v) (map (λ (m : Mapping). m.row) mappings))
+    access_by mapping mappings true covers keeps named others =
+        span_by spans more mapping keeps holders v _ (spans mapping.row.extent.0) refl named
+    access_by mapping mappings false fails keeps named others = others
 
--- an address space shows the same by more spans
-pub shows_extends : (spans more : ℕ → Option Span) (holders : List Serial) (space : Space)
-    → Extends spans more → Shows spans holders space → Shows more holders space
-shows_extends spans more holders space extends shows = record {
-  named = All-weaker (IsNamed spans) (IsNamed more)
-      (λ mapping named. named_by spans more extends mapping.row.extent.0 _ (spans mapping.row.extent.0) refl named)
-      space.mappings shows.named;
-  access = λ v. shows.access v ∙ access_extends spans more extends holders v space.mappings shows.named;
+    access_kept : (mappings : List Mapping) → All (KeepsSpan spans more) mappings → All (IsNamed spans) mappings
+        → access_of spans holders (map (λ (m : Mapping). m.row) mappings) v
+        ≡ access_of more holders (map (λ (m : Mapping). m.row) mappings) v
+    access_kept [] keeps named = refl
+    access_kept (mapping ∷ mappings) keeps named =
+        access_by mapping mappings (row_covers v mapping.row) refl
+        (All-head (KeepsSpan spans more) mapping mappings keeps)
+        (All-head (IsNamed spans) mapping mappings named)
+        (access_kept mappings (All-tail (KeepsSpan spans more) mapping mappings keeps)
+        (All-tail (IsNamed spans) mapping mappings named))
+
+-- an address space shows the same by spans that its rows' extents keep
+pub shows_kept : (spans more : ℕ → Option Span) (holders : List Serial) (space : Space)
+    → All (KeepsSpan spans more) space.mappings → Shows spans holders space → Shows more holders space
+shows_kept spans more holders space keeps shows = record {
+  named = named_kept spans more space.mappings keeps shows.named;
+  access = λ v. shows.access v ∙ access_kept spans more holders v space.mappings keeps shows.named;
 }
+
+-- and by more spans
+pub shows_extends : (spans more : ℕ → Option Span) (holders : List Serial) (space : Space)
+    → ((extent : ℕ) (span : Span) → spans extent ≡ Some span → more extent ≡ Some span)
+    → Shows spans holders space → Shows more holders space
+shows_extends spans more holders space extends shows =
+    shows_kept spans more holders space
+    (All-weaker (IsNamed spans) (KeepsSpan spans more) (λ mapping named. extends mapping.row.extent.0) space.mappings shows.named)
+    shows
 
 no_mappings : (spans : ℕ → Option Span) → ((extent : ℕ) → spans extent ≡ None) → (mappings : List Mapping)
     → All (IsNamed spans) mappings → mappings ≡ []

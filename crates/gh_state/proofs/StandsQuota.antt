@@ -29,7 +29,7 @@ use Rattle.gh_state.proofs.StandsBells.{apart_serials}
 use Rattle.gh_state.proofs.StandsMoved.{references_moved, serial_some}
 
 -- a row counts where it passes
-counts_in : (partition : ℕ) (row : PartitionRow) → row.parent.0 ≡ partition
+pub counts_in : (partition : ℕ) (row : PartitionRow) → row.parent.0 ≡ partition
     → quota_in partition row ≡ row.quota
 counts_in partition row same = rw (eq-eqb row.parent.0 partition same) refl
 

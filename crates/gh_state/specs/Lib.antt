@@ -3,6 +3,7 @@ pub mod Beginning
 pub mod Blocks
 pub mod Bodies
 pub mod BodyChanges
+pub mod Follows
 pub mod Index
 pub mod Making
 pub mod MappingChanges
@@ -12,6 +13,7 @@ pub mod ObjectChanges
 pub mod ObjectReads
 pub mod Owing
 pub mod QueueReads
+pub mod Reclaims
 pub mod Shares
 pub mod SlotChanges
 pub mod SlotReads

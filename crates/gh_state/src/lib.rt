@@ -8,6 +8,7 @@ mod capabilities;
 mod counts;
 mod cpus;
 mod creation;
+mod follow;
 mod journal;
 mod links;
 mod mappings;

@@ -1,0 +1,194 @@
+-- Bodies whose address spaces follow pages that moved.
+use Rattle.std.proofs.Common.{◌≡◌, ◌≢◌, ◌<◌, ◌≤◌, ◌+◌, arith, inl, inr, ◌∙◌, ◌==◌, ◌||◌, not, ℕ, Bool, true, false, List, [], ◌∷◌, Option, Some, None, refl, sym, ap, subst, filter, map, if◌then◌else◌, IsTrue}
+use Rattle.std.specs.Prelude.{All, count_by}
+use Rattle.std.specs.List.{list_all}
+use Rattle.std.proofs.lemmas.Bool.{and_from, and_parts, cases_eq, cases_lt}
+use Rattle.std.proofs.lemmas.List.Elements.{All-cons, All-nil}
+use Rattle.gh_addrspace.specs.Space.{Shows, Space as Mapped}
+use Rattle.gh_addrspace.specs.declared.mapping.Mapping.{Mapping}
+use Rattle.gh_base.specs.declared.ids.Serial.{Serial}
+use Rattle.gh_base.specs.declared.limits.TheConstants.{OBJECT_INDICES}
+use Rattle.gh_invariant.proofs.Counting.{none_fail}
+use Rattle.gh_model.specs.Boot.{is_row_of, move_pages}
+use Rattle.gh_model.specs.Memory.{HoldsRun}
+use Rattle.gh_model.specs.References.{is_mapping_of}
+use Rattle.gh_model.specs.declared.memory.Span.{Span}
+use Rattle.gh_model.specs.declared.rows.MappingRow.{MappingRow}
+use Rattle.gh_state.specs.Bodies.{mapping_row, mappings_in, space_in}
+use Rattle.gh_state.specs.Follows.{SharesFollow, ShowsOn}
+use Rattle.gh_state.specs.MappingChanges.{Remaps}
+use Rattle.gh_state.specs.Shares.{AreShares, body_at, place_at, with_body}
+use Rattle.gh_state.specs.declared.body.Body.{Body}
+use Rattle.gh_state.specs.declared.body.Body.TheVariants.{Bell, Extent, NewQueue, Nothing, Queue, Space}
+use Rattle.gh_state.specs.declared.shares.Place.{Place}
+use Rattle.gh_state.proofs.BodyLemmas.{body_none}
+use Rattle.gh_state.proofs.FoundRows.{not_true}
+use Rattle.gh_state.proofs.MappingLemmas.{filter_here, filter_later}
+use Rattle.gh_state.proofs.Options.{some_same}
+use Rattle.gh_state.proofs.SharesLemmas.{body_here, body_other, body_twice, cost_same, shares_whole}
+
+-- the address space that a body had before
+pub record SpaceBefore (change : Mapped → Mapped → Type 0) (old : Body) (new : Mapped) : Type 0 where
+  pub space : Mapped
+  pub is : space_in old ≡ Some space
+  pub so : change space new
+
+same_space : (change : Mapped → Mapped → Type 0) (old new : Body) (space : Mapped) → space_in old ≡ None
+    → new ≡ old → space_in new ≡ Some space → SpaceBefore change old space
+same_space change old new space none same is =
+    absurd (let gone : space_in new ≡ None = ap space_in same ∙ none in
+    let never : ⊥ = cc in never)
+
+pub space_before : (change : Mapped → Mapped → Type 0) (old new : Body) (space : Mapped)
+    → Remaps change old new → space_in new ≡ Some space → SpaceBefore change old space
+space_before change (Space a) (Space b) space so is =
+    record { space = a; is = refl; so = subst (change a) (some_same b space is) so }
+space_before change (Space a) Nothing space so is = absurd so
+space_before change (Space a) (Bell words) space so is = absurd so
+space_before change (Space a) NewQueue space so is = absurd so
+space_before change (Space a) (Queue queue) space so is = absurd so
+space_before change (Space a) (Extent span) space so is = absurd so
+space_before change Nothing new space so is = same_space change Nothing new space refl so is
+space_before change (Bell words) new space so is = same_space change (Bell words) new space refl so is
+space_before change NewQueue new space so is = same_space change NewQueue new space refl so is
+space_before change (Queue queue) new space so is = same_space change (Queue queue) new space refl so is
+space_before change (Extent span) new space so is = same_space change (Extent span) new space refl so is
+
+-- its rows stay
+pub mappings_follow : (before after : List Serial) (serial : ℕ) (old new : Body)
+    → Remaps (ShowsOn before after) old new → mappings_in serial new ≡ mappings_in serial old
+mappings_follow before after serial (Space a) (Space b) so = ap (map (mapping_row serial)) so.rows
+mappings_follow before after serial (Space a) Nothing so = absurd so
+mappings_follow before after serial (Space a) (Bell words) so = absurd so
+mappings_follow before after serial (Space a) NewQueue so = absurd so
+mappings_follow before after serial (Space a) (Queue queue) so = absurd so
+mappings_follow before after serial (Space a) (Extent span) so = absurd so
+mappings_follow before after serial Nothing new so = ap (mappings_in serial) so
+mappings_follow before after serial (Bell words) new so = ap (mappings_in serial) so
+mappings_follow before after serial NewQueue new so = ap (mappings_in serial) so
+mappings_follow before after serial (Queue queue) new so = ap (mappings_in serial) so
+mappings_follow before after serial (Extent span) new so = ap (mappings_in serial) so
+
+-- rows that all pass a test, of which some are chosen
+all_chosen_by : {R : Type 0} (test p : R → Bool) (row : R) (rows : List R) (here : Bool) → p row ≡ here
+    → test row ≡ true → IsTrue (list_all test (filter p rows)) → IsTrue (list_all test (filter p (row ∷ rows)))
+all_chosen_by test p row rows true is first others =
+    ap (list_all test) (filter_here p row rows is) ∙ and_from _ _ first others
+all_chosen_by test p row rows false is first others =
+    ap (list_all test) (filter_later p row rows is) ∙ others
+
+pub all_chosen : {R : Type 0} (test p : R → Bool) (rows : List R) → IsTrue (list_all test rows)
+    → IsTrue (list_all test (filter p rows))
+all_chosen test p [] all = refl
+all_chosen test p (row ∷ rows) all =
+    let parts : (test row ≡ true) × (list_all test rows ≡ true) = and_parts _ _ all in
+    all_chosen_by test p row rows (p row) refl parts.0 (all_chosen test p rows parts.1)
+
+-- rows of which none passes
+pub none_chosen : {R : Type 0} (p : R → Bool) (rows : List R) → IsTrue (list_all (λ (row : R). not (p row)) rows)
+    → filter p rows ≡ []
+none_chosen p [] none = refl
+none_chosen {R} p (row ∷ rows) none =
+    let parts : (not (p row) ≡ true) × (list_all (λ (one : R). not (p one)) rows ≡ true) = and_parts _ _ none in
+    filter_later p row rows (not_true (p row) parts.0) ∙ none_chosen p rows parts.1
+
+-- what all rows of mappings pass, the mappings' rows pass
+rows_pass : {R : Type 0} (test : R → Bool) (of : Mapping → R) (mappings : List Mapping)
+    → IsTrue (list_all test (map of mappings)) → All (λ (mapping : Mapping). test (of mapping) ≡ true) mappings
+rows_pass test of [] all = All-nil (λ (mapping : Mapping). test (of mapping) ≡ true)
+rows_pass test of (mapping ∷ mappings) all =
+    let parts : (test (of mapping) ≡ true) × (list_all test (map of mappings) ≡ true) = and_parts _ _ all in
+    All-cons (λ (one : Mapping). test (of one) ≡ true) mapping mappings parts.0 (rows_pass test of mappings parts.1)
+
+-- where no row is of an object, no mapping of an address space is of it
+pub mappings_apart : (object x : ℕ) (rows : List MappingRow) (space : Mapped)
+    → count_by (is_mapping_of object) rows ≡ 0 → filter (is_row_of x) rows ≡ map (mapping_row x) space.mappings
+    → All (λ (mapping : Mapping). not (is_mapping_of object (mapping_row x mapping)) ≡ true) space.mappings
+mappings_apart object x rows space none are =
+    rows_pass (λ (row : MappingRow). not (is_mapping_of object row)) (mapping_row x) space.mappings
+    (subst (λ (list : List MappingRow). IsTrue (list_all (λ (row : MappingRow). not (is_mapping_of object row)) list)) are
+    (all_chosen (λ (row : MappingRow). not (is_mapping_of object row)) (is_row_of x) rows (none_fail (is_mapping_of object) rows none)))
+
+-- the shares whose first places have followed
+
+pub record FirstFollow (n : ℕ) (before after : List Serial) (old new : List (List Place)) : Type 0 where
+  pub done : (index : ℕ) → index < n → Remaps (ShowsOn before after) (body_at old index) (body_at new index)
+  pub left : (index : ℕ) → n ≤ index → body_at new index ≡ body_at old index
+  pub costs : (index : ℕ) → (place_at new index).cost ≡ (place_at old index).cost
+
+pub none_follow : (before after : List Serial) (shares : List (List Place))
+    → FirstFollow 0 before after shares shares
+none_follow before after shares = record {
+  done = λ index below. absurd (omega arith);
+  left = λ index past. refl;
+  costs = λ index. refl;
+}
+
+module _ (n : ℕ) (before after : List Serial) (old new : List (List Place)) (whole : AreShares new)
+    (below : n < OBJECT_INDICES) (first : FirstFollow n before after old new) (body : Body)
+    (so : Remaps (ShowsOn before after) (body_at new n) body) where
+  abbrev next : List (List Place)
+  next = with_body new n body
+
+  done_here : Remaps (ShowsOn before after) (body_at old n) (body_at next n)
+  done_here =
+      subst (λ (one : Body). Remaps (ShowsOn before after) (body_at old n) one) (sym (body_here new n body whole below))
+      (subst (λ (one : Body). Remaps (ShowsOn before after) one body) (first.left n (omega arith)) so)
+
+  done_before : (index : ℕ) → index ≢ n → index < n + 1
+      → Remaps (ShowsOn before after) (body_at old index) (body_at next index)
+  done_before index apart within =
+      subst (λ (one : Body). Remaps (ShowsOn before after) (body_at old index) one) (sym (body_other new n body index apart))
+      (first.done index (omega arith))
+
+  pub next_follows : FirstFollow (n + 1) before after old next
+  next_follows = record {
+    done = λ index within.
+        elim (cases_eq index n) [
+          | inl same ↦
+              subst (λ (i : ℕ). Remaps (ShowsOn before after) (body_at old i) (body_at next i)) (sym same) done_here
+          | inr apart ↦ done_before index apart within
+        ];
+    left = λ index past.
+        body_other new n body index (λ same. omega arith) ∙ first.left index (omega arith);
+    costs = λ index. cost_same new n body index ∙ first.costs index;
+  }
+
+-- once all places have followed, the shares have
+pub all_follow : (before after : List Serial) (old new : List (List Place)) → AreShares old → AreShares new
+    → FirstFollow OBJECT_INDICES before after old new → SharesFollow before after old new
+all_follow before after old new whole also first = record {
+  whole = also;
+  bodies = λ index.
+      elim (cases_lt index OBJECT_INDICES) [
+        | inl below ↦ first.done index below
+        | inr past ↦
+            subst (λ (one : Body). Remaps (ShowsOn before after) one (body_at new index)) (sym (body_none old index whole past))
+            (body_none new index also past)
+      ];
+  costs = first.costs;
+}
+
+-- the same of a run that moves, whatever else the holders are
+pub record RunFollows (n from first count : ℕ) (to : Serial) (old new : List (List Place)) : Type 0 where
+  pub whole : AreShares new
+  pub follows : (holders : List Serial) → HoldsRun holders from first count
+      → FirstFollow n holders (move_pages first count to holders) old new
+
+pub run_next : (n from first count : ℕ) (to : Serial) (old now taken next : List (List Place)) (was body : Body)
+    → n < OBJECT_INDICES → RunFollows n from first count to old now → was ≡ body_at now n
+    → taken ≡ with_body now n Nothing → next ≡ with_body taken n body
+    → ((holders : List Serial) → HoldsRun holders from first count
+    → Remaps (ShowsOn holders (move_pages first count to holders)) was body)
+    → RunFollows (n + 1) from first count to old next
+run_next n from first count to old now taken next was body below run before without put so =
+    let is : with_body now n body ≡ next =
+    sym (put ∙ ap (λ (shares : List (List Place)). with_body shares n body) without ∙ body_twice now n Nothing body) in
+    subst (RunFollows (n + 1) from first count to old) is
+    (record {
+      whole = shares_whole now n body run.whole;
+      follows = λ holders holds.
+          next_follows n holders (move_pages first count to holders) old now run.whole below
+          (run.follows holders holds) body
+          (subst (λ (one : Body). Remaps (ShowsOn holders (move_pages first count to holders)) one body) before (so holders holds));
+    })
