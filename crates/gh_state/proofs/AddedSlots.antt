@@ -1,7 +1,7 @@
 -- Slots stand once an object is entered; a new capability space has its own.
 use Rattle.std.proofs.Common.{◌≡◌, ◌≢◌, ◌+◌, ◌-◌, ◌∙◌, ◌∷◌, ◌++◌, ◌==◌, ◌||◌, not, ℕ, Bool, true, false, List, [], Option, Some, None, refl, sym, ap, subst}
 use Rattle.std.proofs.Common.{arith, inl, inr, find, is_some, length, replicate, set, IsTrue}
-use Rattle.std.specs.Prelude.{slice_index_or}
+use Rattle.std.specs.Prelude.{◌≤◌, count_by, slice_index_or}
 use Rattle.std.specs.Option.{option_map_or}
 use Rattle.std.proofs.lemmas.Bool.{and_parts, cases_eq, eq-eqb, eqb-true, ne_eqb}
 use Rattle.std.proofs.lemmas.List.{get_or-replicate, length-replicate}
@@ -12,10 +12,11 @@ use Rattle.gh_base.specs.declared.kind.Kind.{Kind}
 use Rattle.gh_base.specs.declared.kind.Kind.TheVariants as kind
 use Rattle.gh_base.specs.declared.limits.TheConstants.{CSPACE_SLOTS}
 use Rattle.gh_cspace.specs.Cspace.{IsSlot, never_set, word_at}
-use Rattle.gh_invariant.proofs.Counting.{find_push_new, find_push_other, found_all}
+use Rattle.gh_invariant.proofs.Counting.{count_push, count_unfound, find_push_new, find_push_other, found_all, one_false}
 use Rattle.gh_invariant.proofs.SlotsFit.{SettingParts, SlotParts, setting_parts, slot_parts}
 use Rattle.gh_invariant.specs.Lives.{lives_as, setting_fits, slot_fits}
 use Rattle.gh_model.specs.Boot.{is_of_kind}
+use Rattle.gh_model.specs.QueueCalls.{one_if}
 use Rattle.gh_model.specs.Rows.{fills, is_object, tells_setting}
 use Rattle.gh_model.specs.Word.{is_slot, setting_number}
 use Rattle.gh_model.specs.declared.rows.CapabilityRow.{CapabilityRow}
@@ -102,6 +103,20 @@ others_found kind.Space serial all x apart = refl
 others_found kind.Extent serial all x apart = refl
 others_found kind.Bell serial all x apart = refl
 others_found kind.Queue serial all x apart = refl
+
+-- and they are counted as before, where a new one has its slots once
+counted : (k : Kind) (serial : Serial) (all : List Slots) (x : ℕ)
+    → count_by (is_home x) (with_space k serial all) ≤ count_by (is_home x) all + one_if (serial.0 == x)
+counted kind.Cspace serial all x = omega (arith, count_push (is_home x) all (new_slots serial))
+counted kind.Partition serial all x = omega arith
+counted kind.Space serial all x = omega arith
+counted kind.Extent serial all x = omega arith
+counted kind.Bell serial all x = omega arith
+counted kind.Queue serial all x = omega arith
+
+one_most : (b : Bool) → one_if b ≤ 1
+one_most true = omega arith
+one_most false = omega arith
 
 module _ (owed : List Serial) (parts : Parts) (s : State) (row : ObjectRow) (home at : ℕ)
     (enters : Enters owed parts s row home at) where
@@ -210,9 +225,30 @@ module _ (owed : List Serial) (parts : Parts) (s : State) (row : ObjectRow) (hom
             ∙ sym (lives_there owed parts s row home at enters x kind.Cspace apart)
       ]
 
+  once_now : (x : ℕ) → count_by (is_home x) slots ≤ 1
+  once_now x =
+      elim (cases_eq x serial) [
+        | inl same ↦
+            subst (λ (n : ℕ). count_by (is_home n) slots ≤ 1) (sym same)
+            (omega (
+              arith,
+              counted row.kind row.serial all serial,
+              count_unfound (is_home serial) all unopened,
+              one_most (row.serial.0 == serial),
+            ))
+        | inr apart ↦
+            omega (
+              arith,
+              counted row.kind row.serial all x,
+              one_false (row.serial.0 == x) (ne_eqb serial x (λ same. apart (sym same))),
+              enters.stand.slots.once x,
+            )
+      ]
+
   pub slots_now : SlotsStand now slots objects s.caps s.set_at
   slots_now = record {
     homes = homes_now;
+    once = once_now;
     sized = λ x one is.
         elim (cases_eq x serial) [
           | inl same ↦ opened.sized one (subst (λ (n : ℕ). find (is_home n) slots ≡ Some one) same is)

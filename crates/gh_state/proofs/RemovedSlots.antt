@@ -9,7 +9,7 @@ use Rattle.gh_base.specs.declared.ids.Serial.{Serial}
 use Rattle.gh_base.specs.declared.kind.Kind.TheVariants as kind
 use Rattle.gh_cspace.specs.Cspace.{word_at}
 use Rattle.gh_invariant.proofs.Counting.{none_fail}
-use Rattle.gh_invariant.proofs.RowsLeft.{find_gone, find_left}
+use Rattle.gh_invariant.proofs.RowsLeft.{count_fewer, find_gone, find_left}
 use Rattle.gh_invariant.proofs.RowsTested.{other_number}
 use Rattle.gh_invariant.specs.Lives.{lives_as}
 use Rattle.gh_model.specs.Changes.{is_set_in, reclaim_object, without}
@@ -135,6 +135,8 @@ module _ (parts : Parts) (s : State) (object : Serial) (leaves : Leaves parts s 
   pub slots_left : SlotsStand now slots after.objects after.caps after.set_at
   slots_left = record {
     homes = homes_now;
+    once = λ x.
+        omega (arith, count_fewer (is_home x) (is_home object.0) parts.journal.slots, leaves.stand.slots.once x);
     sized = λ x one is.
         leaves.stand.slots.sized x one (sym (opened_still x (none_open x one is)) ∙ is);
     words = λ c n is.
