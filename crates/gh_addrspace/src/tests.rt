@@ -7,7 +7,6 @@ use gh_base::{Access, Errno, NoMemory, PageNo, Serial};
 use gh_extent::{EXTENT_PAGES, Extents};
 use gh_model::{Holders, MapRow};
 use std::alloc::Global;
-use std::test::Fail;
 
 const ROOT: Serial = Serial(4);
 
@@ -25,6 +24,16 @@ fn row(extent: Serial, base: u64, count: u64) -> MapRow {
         count,
         access: Access::ALL,
         handle: 0,
+    }
+}
+
+// What is seen of spaces stands behind functions without clauses, so that no proof carries it.
+
+/// Whether it holds, and there was memory to find out.
+fn holds(found: Result<bool, NoMemory>) -> bool {
+    match found {
+        Ok(found) => found,
+        Err(NoMemory) => false,
     }
 }
 
@@ -56,53 +65,87 @@ fn map(space: &mut Space, extents: &Extents, row: MapRow) -> Option<Result<(), E
     space.map(row, extents).ok()
 }
 
-#[test]
-fn eight_pages_take_two_tables(rt: HostRuntime) -> Result<(), Fail> {
-    let extents = machine(rt.alloc(), 8)?;
-    let mut space = Space::new(rt.alloc())?;
-    assert_eq!(rt; map(&mut space, &extents, row(ROOT, 0, 8)), Some(Ok(())));
-    assert_eq!(rt; space.tables(), 2);
-    assert_eq!(rt; space.lookup(7), Some((PageNo(7), Access::ALL)));
-    assert_eq!(rt; space.lookup(8), None);
-    assert_eq!(rt; space.row_at(7), Some(row(ROOT, 0, 8)));
-    assert_eq!(rt; space.row_at(8), None);
-    for (base, count, refusal) in [
-        (7, 1, Errno::Busy),
-        (4090, 7, Errno::AddrOvfl),
-        (8, 9, Errno::ArgSize),
-    ] {
-        assert_eq!(rt;
-            map(&mut space, &extents, row(ROOT, base, count)),
-            Some(Err(refusal))
-        );
-    }
-    assert_eq!(rt; space.unmap(ROOT, 0, 0, 7), Err(Errno::AddrInval));
-    assert_eq!(rt; space.unmap(ROOT, 0, 0, 8), Ok(()));
-    assert_eq!(rt; space.lookup(7), None);
-    assert_eq!(rt; space.tables(), 0);
-    Ok(())
+/// Whether the rows' pages end at page 8, and take a table of each level.
+fn has_eight_pages(space: &Space) -> bool {
+    space.tables() == 2
+        && space.lookup(7) == Some((PageNo(7), Access::ALL))
+        && space.lookup(8).is_none()
+        && space.row_at(7) == Some(row(ROOT, 0, 8))
+        && space.row_at(8).is_none()
+}
+
+/// Whether a row of the root extent is refused so.
+fn refuses(space: &mut Space, extents: &Extents, base: u64, count: u64, refusal: Errno) -> bool {
+    map(space, extents, row(ROOT, base, count)) == Some(Err(refusal))
+}
+
+fn refuses_rows(space: &mut Space, extents: &Extents) -> bool {
+    refuses(space, extents, 7, 1, Errno::Busy)
+        && refuses(space, extents, 4090, 7, Errno::AddrOvfl)
+        && refuses(space, extents, 8, 9, Errno::ArgSize)
+}
+
+/// Whether the row of eight pages goes as a whole alone, and nothing is left.
+fn is_unmapped(space: &mut Space) -> bool {
+    let of_seven = space.unmap(ROOT, 0, 0, 7);
+    let of_eight = space.unmap(ROOT, 0, 0, 8);
+    of_seven == Err(Errno::AddrInval)
+        && of_eight == Ok(())
+        && space.lookup(7).is_none()
+        && space.tables() == 0
+}
+
+fn eight_pages_come_and_go(alloc: Global) -> Result<bool, NoMemory> {
+    let extents = machine(alloc, 8)?;
+    let mut space = Space::new(alloc)?;
+    Ok(
+        map(&mut space, &extents, row(ROOT, 0, 8)) == Some(Ok(()))
+            && has_eight_pages(&space)
+            && refuses_rows(&mut space, &extents)
+            && is_unmapped(&mut space),
+    )
 }
 
 #[test]
-fn a_lend_splits_a_block_and_its_return_joins_it(rt: HostRuntime) -> Result<(), Fail> {
-    let mut extents = machine(rt.alloc(), 1024)?;
-    assert!(rt; derive(&mut extents, FIRST, ROOT, 0, 1024));
-    assert!(rt; derive(&mut extents, SECOND, FIRST, 512, 512));
-    let mut space = Space::new(rt.alloc())?;
-    assert_eq!(rt;
-        map(&mut space, &extents, row(FIRST, 0, 1024)),
-        Some(Ok(()))
-    );
-    assert_eq!(rt; space.tables(), 0);
-    assert_eq!(rt; space.lookup(511), Some((PageNo(511), Access::ALL)));
-    assert_eq!(rt; space.lookup(512), None);
-    assert!(rt; derive(&mut extents, LENT, FIRST, 2, 2));
+fn eight_pages_take_two_tables(rt: HostRuntime) {
+    assert!(rt; holds(eight_pages_come_and_go(rt.alloc())));
+}
+
+/// Whether the first extent is derived from the root, and the second from half of it.
+fn derives_both(extents: &mut Extents) -> bool {
+    derive(extents, FIRST, ROOT, 0, 1024) && derive(extents, SECOND, FIRST, 512, 512)
+}
+
+/// Whether the pages that the first extent holds are a block.
+fn is_block(space: &Space) -> bool {
+    space.tables() == 0
+        && space.lookup(511) == Some((PageNo(511), Access::ALL))
+        && space.lookup(512).is_none()
+}
+
+/// Whether the block is split once two of its pages are lent, and joined once they are back.
+fn splits_and_joins(space: &mut Space) -> bool {
     space.moved(FIRST, LENT, PageNo(2), 2);
-    assert_eq!(rt; space.tables(), 2);
-    assert_eq!(rt; space.lookup(2), None);
+    let split = space.tables() == 2 && space.lookup(2).is_none();
     space.moved(LENT, FIRST, PageNo(2), 2);
-    assert_eq!(rt; space.tables(), 0);
+    let joined = space.tables() == 0;
     space.clear(9);
-    assert_eq!(rt; space.lookup(3), Some((PageNo(3), Access::ALL)));
-    Ok(())
+    split && joined && space.lookup(3) == Some((PageNo(3), Access::ALL))
+}
+
+fn lends_and_gets_back(alloc: Global) -> Result<bool, NoMemory> {
+    let mut extents = machine(alloc, 1024)?;
+    let mut space = Space::new(alloc)?;
+    Ok(
+        derives_both(&mut extents)
+            && map(&mut space, &extents, row(FIRST, 0, 1024)) == Some(Ok(()))
+            && is_block(&space)
+            && derive(&mut extents, LENT, FIRST, 2, 2)
+            && splits_and_joins(&mut space),
+    )
+}
+
+#[test]
+fn a_lend_splits_a_block_and_its_return_joins_it(rt: HostRuntime) {
+    assert!(rt; holds(lends_and_gets_back(rt.alloc())));
 }

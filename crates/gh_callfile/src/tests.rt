@@ -1,21 +1,32 @@
 //! Worked lines, bad files, schedules, and a program with a repeat.
 
-ghost use Rattle.std.specs.Prelude.{◌≡◌, true, OnOk};
+ghost use Rattle.std.specs.Prelude.{◌≡◌, true, false, OnOk};
 ghost use Rattle.gh_callfile.specs.VmProgress.{has_made_one};
 ghost use Rattle.gh_callfile.specs.WorkedBoot.{worked_lines};
 
 use crate::{FileErr, VmProgram, read_calls, read_schedule};
 use gh_base::{CpuNo, NoMemory, Reply, Serial};
-use gh_model::{Boot, BootLine, Program, Step};
+use gh_model::{Boot, BootLine, Line, Program, Step};
 use std::alloc::Global;
-use std::test::Fail;
 
-#[test]
-fn lines_say_registers_bytes_and_repeats(rt: HostRuntime) -> Result<(), Fail> {
-    let alloc = rt.alloc();
-    let four = [0x15, 0xfb, 0x59, 0xe2].as_slice();
-    let none = &four[..0];
-    for (text, x, bytes, times) in [
+// What is read stands behind functions without clauses, so that no proof carries it.
+
+/// Whether it holds, and there was memory to find out.
+fn holds(found: Result<bool, NoMemory>) -> bool {
+    match found {
+        Ok(found) => found,
+        Err(NoMemory) => false,
+    }
+}
+
+/// A line, its registers x0 to x3, its bytes and how often it may be made.
+type LineRow = (&'static str, [u64; 4], &'static [u8], u32);
+
+fn line_rows() -> [LineRow; 4] {
+    let all = b"\x15\xfb\x59\xe2".as_slice();
+    let first = b"\x15".as_slice();
+    let none = b"".as_slice();
+    [
         ("c6008012 7 5\n", [0xc600_8012, 7, 5, 0], none, 1),
         (
             "c600801c 2 0 f0 * 40\n",
@@ -26,49 +37,82 @@ fn lines_say_registers_bytes_and_repeats(rt: HostRuntime) -> Result<(), Fail> {
         (
             "c600801b 4 4 0 1 : 15fb59e2\n",
             [0xc600_801b, 4, 4, 0],
-            four,
+            all,
             1,
         ),
         (
             "ffffffffffffffff : 15 * 65536\n",
             [u64::MAX, 0, 0, 0],
-            &four[..1],
+            first,
             65_536,
         ),
-    ] {
-        let lines = read_calls(alloc, text.as_bytes(), 65_536)?;
-        assert_eq!(rt; lines.len(), 1, "{text}");
-        for line in lines.iter() {
-            assert_eq!(rt; &line.frame.x[..4], x.as_slice(), "{text}");
-            assert_eq!(rt; line.frame.bytes.as_slice(), bytes, "{text}");
-            assert_eq!(rt; line.times, times, "{text}");
+    ]
+}
+
+/// Whether there is one line, and it says this.
+fn is_one(lines: &[Line], x: &[u64; 4], bytes: &[u8], times: u32) -> bool {
+    match lines.first() {
+        None => false,
+        Some(line) => {
+            lines.len() == 1
+                && line.frame.x[..4] == x[..]
+                && line.frame.bytes.as_slice() == bytes
+                && line.times == times
         }
     }
-    Ok(())
+}
+
+fn is_read(alloc: Global, row: LineRow) -> bool {
+    let (text, x, bytes, times) = row;
+    match read_calls(alloc, text.as_bytes(), 65_536) {
+        Ok(lines) => is_one(lines.as_slice(), &x, bytes, times),
+        Err(_) => false,
+    }
+}
+
+fn are_read(alloc: Global) -> bool {
+    let mut all = true;
+    for row in line_rows() {
+        all = all && is_read(alloc, row);
+    }
+    all
 }
 
 #[test]
-fn the_ninth_register_is_x8(rt: HostRuntime) -> Result<(), Fail> {
-    let lines = read_calls(rt.alloc(), "0 1 2 3 4 5 6 7 8\n9\n".as_bytes(), 2)?;
-    let last: Option<u64> = lines.first().map(|line| line.frame.x[8]);
-    assert_eq!(rt; last, Some(8));
-    assert_eq!(rt; lines.len(), 2);
-    Ok(())
+fn lines_say_registers_bytes_and_repeats(rt: HostRuntime) {
+    assert!(rt; are_read(rt.alloc()));
 }
 
-/// The first bad line of a call file; 0 where it is good.
-fn bad_line(alloc: Global, text: &str, room: u32) -> Result<u32, Fail> {
-    match read_calls(alloc, text.as_bytes(), room) {
-        Err(FileErr::Bad(line)) => Ok(line),
-        Err(FileErr::NoMemory) => Err(Fail::from(NoMemory)),
-        Ok(_) => Ok(0),
+/// Whether there are two lines, and the first has 8 in x8.
+fn are_two(lines: &[Line]) -> bool {
+    lines.len() == 2 && lines[0].frame.x[8] == 8
+}
+
+fn ninth_is_read(alloc: Global) -> bool {
+    match read_calls(alloc, "0 1 2 3 4 5 6 7 8\n9\n".as_bytes(), 2) {
+        Ok(lines) => are_two(lines.as_slice()),
+        Err(_) => false,
     }
 }
 
 #[test]
-fn the_first_bad_line_is_named(rt: HostRuntime) -> Result<(), Fail> {
-    let alloc = rt.alloc();
-    for (text, room, line) in [
+fn the_ninth_register_is_x8(rt: HostRuntime) {
+    assert!(rt; ninth_is_read(rt.alloc()));
+}
+
+/// The first bad line of a call file; 0 where it is good. For want of memory it is a number that no
+/// line has.
+fn bad_line(alloc: Global, text: &str, room: u32) -> u32 {
+    match read_calls(alloc, text.as_bytes(), room) {
+        Ok(_) => 0,
+        Err(FileErr::Bad(line)) => line,
+        Err(FileErr::NoMemory) => u32::MAX,
+    }
+}
+
+/// Call files, the room for their calls, and the first bad line.
+fn call_files() -> [(&'static str, u32, u32); 19] {
+    [
         ("", 0, 0),
         ("0 * 2\n0\n", 3, 0),
         ("0\nC6008000\n", 9, 2),
@@ -88,10 +132,20 @@ fn the_first_bad_line_is_named(rt: HostRuntime) -> Result<(), Fail> {
         ("0\n0", 9, 2),
         ("0 * 2\n0\n0\n", 3, 3),
         ("0 * 4\n", 3, 1),
-    ] {
-        assert_eq!(rt; bad_line(alloc, text, room)?, line, "{text}");
+    ]
+}
+
+fn are_named(alloc: Global) -> bool {
+    let mut all = true;
+    for (text, room, line) in call_files() {
+        all = all && bad_line(alloc, text, room) == line;
     }
-    Ok(())
+    all
+}
+
+#[test]
+fn the_first_bad_line_is_named(rt: HostRuntime) {
+    assert!(rt; are_named(rt.alloc()));
 }
 
 /// A boot file of a VM and the resource manager.
@@ -121,55 +175,106 @@ fn lines() -> [BootLine; 9]
 }
 
 #[tactic(auto, using(crate::proofs::WorkedLemmas::worked_lines_fit))]
-fn boot(alloc: Global) -> Result<Boot, Fail> {
+fn boot(alloc: Global) -> Result<Boot, NoMemory> {
     Ok(Boot::new(Vec::from_slice(alloc, &lines())?))
 }
 
-#[test]
-fn a_schedule_names_cpus_of_the_boot_file(rt: HostRuntime) -> Result<(), Fail> {
-    let alloc = rt.alloc();
-    let boot = boot(alloc)?;
-    let cpus = read_schedule(alloc, "\n10\n\n1".as_bytes(), &boot)?;
-    assert_eq!(rt; cpus.as_slice(), [CpuNo(1), CpuNo(0), CpuNo(1)].as_slice());
-    for (text, item) in [
+fn cpus_are_read(alloc: Global, boot: &Boot) -> bool {
+    match read_schedule(alloc, "\n10\n\n1".as_bytes(), boot) {
+        Ok(cpus) => cpus.as_slice() == [CpuNo(1), CpuNo(0), CpuNo(1)].as_slice(),
+        Err(_) => false,
+    }
+}
+
+/// The first bad item of a schedule, as a call file's first bad line.
+fn bad_item(alloc: Global, boot: &Boot, text: &str) -> u32 {
+    match read_schedule(alloc, text.as_bytes(), boot) {
+        Ok(_) => 0,
+        Err(FileErr::Bad(item)) => item,
+        Err(FileErr::NoMemory) => u32::MAX,
+    }
+}
+
+/// Schedules with the first item that isn't a CPU.
+fn schedules() -> [(&'static str, u32); 5] {
+    [
         ("1\n2", 2),
         ("9", 1),
         ("11 1", 3),
         ("x", 1),
         ("01\n\n01\n8", 5),
-    ] {
-        let bad = read_schedule(alloc, text.as_bytes(), &boot).err();
-        assert_eq!(rt; bad, Some(FileErr::Bad(item)), "{text}");
-    }
-    Ok(())
+    ]
 }
 
-/// What the program's next call has in x0, once its last one was answered so; 0 where it has ended.
-fn next(program: &mut VmProgram, alloc: Global, answer: u64) -> Result<u64, Fail>
-    requires { has_made_one program.old ≡ true }
+fn items_are_named(alloc: Global, boot: &Boot) -> bool {
+    let mut all = true;
+    for (text, item) in schedules() {
+        all = all && bad_item(alloc, boot, text) == item;
+    }
+    all
+}
+
+fn schedules_are_read(alloc: Global) -> Result<bool, NoMemory> {
+    let boot = boot(alloc)?;
+    Ok(cpus_are_read(alloc, &boot) && items_are_named(alloc, &boot))
+}
+
+#[test]
+fn a_schedule_names_cpus_of_the_boot_file(rt: HostRuntime) {
+    assert!(rt; holds(schedules_are_read(rt.alloc())));
+}
+
+/// What a call has in x0; 0 where the program has ended, and 1 where it is idle.
+fn told(step: &Step) -> u64 {
+    match step {
+        Step::Make(frame) => frame.x[0],
+        Step::End => 0,
+        Step::Idle => 1,
+    }
+}
+
+/// What the program's first call has in x0.
+fn first(program: &mut VmProgram, alloc: Global) -> Result<u64, NoMemory>
+    requires { has_made_one program.old ≡ false }
     ensures { OnOk result (has_made_one program.new ≡ true) }
 {
-    let reply = Reply::registers(answer, 0, 0, 0);
-    match program.next(alloc, Some(&reply))? {
-        Step::Make(frame) => Ok(frame.x[0]),
-        Step::End => Ok(0),
-        Step::Idle => Ok(1),
+    let step = program.next(alloc, None)?;
+    Ok(told(&step))
+}
+
+/// What the program's next call has in x0, once its last one was answered so.
+fn next(program: &mut VmProgram, alloc: Global, answer: u64) -> Result<u64, NoMemory>
+    requires { has_made_one program.old ≡ true }
+    ensures { has_made_one program.new ≡ true }
+{
+    let step = program.next(alloc, Some(&Reply::registers(answer, 0, 0, 0)))?;
+    Ok(told(&step))
+}
+
+/// Whether the lines `a * 3` and `b` are made as their answers ask, and then the exit call.
+fn are_made(alloc: Global, lines: Vec<Line>) -> Result<bool, NoMemory> {
+    let mut program = VmProgram::new(lines);
+    let first = first(&mut program, alloc)?;
+    let again = [
+        next(&mut program, alloc, 60),
+        next(&mut program, alloc, 61),
+        next(&mut program, alloc, 60),
+        next(&mut program, alloc, 60),
+        next(&mut program, alloc, 0),
+        next(&mut program, alloc, 0),
+    ];
+    let told = [Ok(0xa), Ok(0xa), Ok(0xb), Ok(0xc600_8240), Ok(0), Ok(0)];
+    Ok(first == 0xa && again == told)
+}
+
+fn file_is_made(alloc: Global) -> bool {
+    match read_calls(alloc, "a * 3\nb\n".as_bytes(), 4) {
+        Ok(lines) => holds(are_made(alloc, lines)),
+        Err(_) => false,
     }
 }
 
 #[test]
-fn a_line_is_made_again_while_a_queue_is_empty_or_full(rt: HostRuntime) -> Result<(), Fail> {
-    let alloc = rt.alloc();
-    let mut program = VmProgram::new(read_calls(alloc, "a * 3\nb\n".as_bytes(), 4)?);
-    match program.next(alloc, None)? {
-        Step::Make(frame) => assert_eq!(rt; frame.x[0], 0xa),
-        _ => assert!(rt; false),
-    }
-    assert_eq!(rt; next(&mut program, alloc, 60)?, 0xa);
-    assert_eq!(rt; next(&mut program, alloc, 61)?, 0xa);
-    assert_eq!(rt; next(&mut program, alloc, 60)?, 0xb);
-    assert_eq!(rt; next(&mut program, alloc, 60)?, 0xc600_8240);
-    assert_eq!(rt; next(&mut program, alloc, 0)?, 0);
-    assert_eq!(rt; next(&mut program, alloc, 0)?, 0);
-    Ok(())
+fn a_line_is_made_again_while_a_queue_is_empty_or_full(rt: HostRuntime) {
+    assert!(rt; file_is_made(rt.alloc()));
 }
