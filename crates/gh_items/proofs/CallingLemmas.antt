@@ -1,5 +1,6 @@
 -- How a CPU's call begins, and what its next item is.
-use Rattle.std.proofs.Common.{◌≡◌, ◌≢◌, ◌<◌, ◌+◌, ◌∙◌, ℕ, Bool, true, false, List, [], ◌∷◌, ap, arith, length, refl, slice_get, subst, sym, Option, Some, None, Ok, Err, is_some, if◌then◌else◌}
+use Rattle.std.proofs.Common.{◌≡◌, ◌<◌, ◌+◌, ◌∙◌, ◌⊎◌, inl, inr, ℕ, Bool, true, false, List, [], ◌∷◌, ap, arith, length, refl, slice_get, subst, sym, Option, Some, None, Ok, Err, is_some, if◌then◌else◌}
+use Rattle.std.specs.Option.{unwrap_or}
 use Rattle.std.proofs.lemmas.List.{length-set}
 use Rattle.std.proofs.lemmas.Option.{slice_get-get_or}
 use Rattle.gh_base.specs.declared.call.Call.{Call}
@@ -20,6 +21,7 @@ use Rattle.gh_events.specs.declared.event.Event.TheVariants.{Enter}
 use Rattle.gh_events.proofs.Finding.{put_here}
 use Rattle.gh_items.specs.Acts.{ActsNext}
 use Rattle.gh_items.specs.Calling.{behind_item, begun as begun_frame}
+use Rattle.gh_items.specs.Held.{call_goes_on, cpu_goes_on, goes_on}
 use Rattle.gh_items.specs.Stands.{Stands, with_call}
 use Rattle.gh_items.specs.declared.progress.Progress.{Progress}
 use Rattle.gh_items.specs.declared.progress.Seat.{Seat}
@@ -45,10 +47,22 @@ at_its_act stages.Undone is = absurd (let never : ⊥ = cc in never)
 at_its_act stages.Failed is = absurd (let never : ⊥ = cc in never)
 at_its_act stages.AtAct is = refl
 
-pub before_its_act : (stage : CallStage) → is_at_act (stage_of stage) ≡ false → stage ≢ stages.AtAct
-before_its_act stage before acts =
-    let same : is_at_act (stage_of stage) ≡ true = ap (λ (s : CallStage). is_at_act (stage_of s)) acts in
-    absurd (let never : ⊥ = cc in never)
+-- a call that neither goes on nor acts comes to its end
+pub ends_section : (stage : CallStage) → goes_on stage ≡ false → is_at_act (stage_of stage) ≡ false → (stage ≡ stages.Undone) ⊎ (stage ≡ stages.Failed)
+ends_section stages.Reading goes acts = absurd (let never : ⊥ = cc in never)
+ends_section stages.Looked goes acts = absurd (let never : ⊥ = cc in never)
+ends_section stages.DeadPin goes acts = absurd (let never : ⊥ = cc in never)
+ends_section stages.Undone goes acts = inl refl
+ends_section stages.Failed goes acts = inr refl
+ends_section stages.AtAct goes acts = absurd (let never : ⊥ = cc in never)
+
+-- a call that is taken out of a CPU that doesn't go on
+pub taken_stays : (progress taken : Progress) (conf : Config) → Stands progress conf → (at : ℕ) → at < CPUS → (call : CurrentCall)
+    → progress ≡ with_call taken at (Some call) → cpu_goes_on progress at ≡ false → goes_on call.stage ≡ false
+taken_stays progress taken conf stands at within call back stays =
+    let there : at < length taken.calls =
+    omega (arith, length-set taken.calls at (Some call), ap (λ (p : Progress). length p.calls) back, stands.nine_calls) in
+    sym (ap (λ (p : Progress). cpu_goes_on p at) back ∙ ap (λ (o : _). call_goes_on (unwrap_or o None)) (set_here taken.calls at (Some call) there)) ∙ stays
 
 -- a call in progress that is at its act
 

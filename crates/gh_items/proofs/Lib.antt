@@ -8,6 +8,7 @@ pub mod EntryLemmas
 pub mod EntrySteps
 pub mod FrameLemmas
 pub mod FreeLemmas
+pub mod HeldLemmas
 pub mod IndexLemmas
 pub mod ItemLemmas
 pub mod LeaveLemmas

@@ -1,6 +1,7 @@
 pub mod Acts
 pub mod Beginning
 pub mod Calling
+pub mod Held
 pub mod NewIndex
 pub mod Parts
 pub mod Stands

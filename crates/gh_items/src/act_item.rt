@@ -30,14 +30,14 @@ fn end_judged(
     progress: &mut Progress,
     cpu: CpuNo,
     seat: Seat,
-    call: CurrentCall,
+    call: &CurrentCall,
     judged: Judged,
 ) -> Result<(), NoMemory>
     requires seats { cpu.0 < length progress.old.seats }
     requires calls { cpu.0 < length progress.old.calls }
     requires counts { seat.calls + 1 < 4294967296 }
     requires sections { seat.sections + 1 < 4294967296 }
-    ensures { OnOk result (progress.new ≡ with_judged progress.old cpu.0 seat call judged) }
+    ensures { OnOk result (progress.new ≡ with_judged progress.old cpu.0 seat call.now judged) }
 {
     let number = progress.plain.entries();
     match judged {
@@ -61,17 +61,17 @@ fn judged_act(
     progress: &mut Progress,
     alloc: Global,
     cpu: CpuNo,
-    call: CurrentCall,
+    call: &CurrentCall,
 ) -> Result<(), NoMemory>
     ghost conf: { Config }
-    requires stands { Stands (with_call progress.old cpu.0 (Some call)) (judged_in conf cpu.0) }
-    requires next { ActsNext conf cpu.0 (current_of call) }
-    requires unswept { sweeps call.given.call ≡ false }
+    requires stands { Stands (with_call progress.old cpu.0 (Some call.now)) (judged_in conf cpu.0) }
+    requires next { ActsNext conf cpu.0 (current_of call.now) }
+    requires unswept { sweeps call.now.given.call ≡ false }
     ensures stands { OnOk result (Stands progress.new (after_all conf (act cpu.0 conf))) }
     ensures marks { OnOk result (AddsMark progress.old.marks progress.new.marks) }
 {
     let seat = seat_of(progress, cpu);
-    let judged = judge(progress, alloc, cpu, &call)?;
+    let judged = judge(progress, alloc, cpu, call)?;
     end_judged(progress, cpu, seat, call, judged)
 }
 
@@ -80,13 +80,13 @@ fn plain_act(
     progress: &mut Progress,
     alloc: Global,
     cpu: CpuNo,
-    call: CurrentCall,
+    call: &CurrentCall,
 ) -> Result<(), NoMemory>
     ghost conf: { Config }
-    requires stands { Stands (with_call progress.old cpu.0 (Some call)) (taken conf cpu.0) }
-    requires next { ActsNext conf cpu.0 (current_of call) }
-    requires unswept { sweeps call.given.call ≡ false }
-    requires other { is_revoke call.given.call ≡ false }
+    requires stands { Stands (with_call progress.old cpu.0 (Some call.now)) (taken conf cpu.0) }
+    requires next { ActsNext conf cpu.0 (current_of call.now) }
+    requires unswept { sweeps call.now.given.call ≡ false }
+    requires other { is_revoke call.now.given.call ≡ false }
     ensures stands { OnOk result (Stands progress.new (after_all conf (act cpu.0 conf))) }
     ensures marks { OnOk result (AddsMark progress.old.marks progress.new.marks) }
 {
@@ -99,16 +99,16 @@ fn revoke_act(
     progress: &mut Progress,
     alloc: Global,
     cpu: CpuNo,
-    call: CurrentCall,
+    call: &CurrentCall,
 ) -> Result<(), NoMemory>
     ghost conf: { Config }
-    requires stands { Stands (with_call progress.old cpu.0 (Some call)) (taken conf cpu.0) }
-    requires next { ActsNext conf cpu.0 (current_of call) }
-    requires revokes { is_revoke call.given.call ≡ true }
+    requires stands { Stands (with_call progress.old cpu.0 (Some call.now)) (taken conf cpu.0) }
+    requires next { ActsNext conf cpu.0 (current_of call.now) }
+    requires revokes { is_revoke call.now.given.call ≡ true }
     ensures stands { OnOk result (Stands progress.new (after_all conf (act cpu.0 conf))) }
     ensures marks { OnOk result (AddsMark progress.old.marks progress.new.marks) }
 {
-    make_all_parts(progress, alloc, cpu, &call)?;
+    make_all_parts(progress, alloc, cpu, call)?;
     judged_act(progress, alloc, cpu, call)
 }
 
@@ -124,12 +124,12 @@ fn unswept_act(
     progress: &mut Progress,
     alloc: Global,
     cpu: CpuNo,
-    call: CurrentCall,
+    call: &CurrentCall,
 ) -> Result<(), NoMemory>
     ghost conf: { Config }
-    requires stands { Stands (with_call progress.old cpu.0 (Some call)) (taken conf cpu.0) }
-    requires next { ActsNext conf cpu.0 (current_of call) }
-    requires unswept { sweeps call.given.call ≡ false }
+    requires stands { Stands (with_call progress.old cpu.0 (Some call.now)) (taken conf cpu.0) }
+    requires next { ActsNext conf cpu.0 (current_of call.now) }
+    requires unswept { sweeps call.now.given.call ≡ false }
     ensures stands { OnOk result (Stands progress.new (after_all conf (act cpu.0 conf))) }
     ensures marks { OnOk result (AddsMark progress.old.marks progress.new.marks) }
 {
@@ -155,12 +155,12 @@ pub(crate) fn act_item(
     progress: &mut Progress,
     alloc: Global,
     cpu: CpuNo,
-    call: CurrentCall,
+    call: &CurrentCall,
 ) -> Result<(), NoMemory>
     ghost conf: { Config }
-    requires stands { Stands (with_call progress.old cpu.0 (Some call)) conf }
-    requires next { ActsNext conf cpu.0 (current_of call) }
-    requires acts { call.stage ≡ AtAct }
+    requires stands { Stands (with_call progress.old cpu.0 (Some call.now)) conf }
+    requires next { ActsNext conf cpu.0 (current_of call.now) }
+    requires acts { call.now.stage ≡ AtAct }
     ensures stands { OnOk result (Stands progress.new (after_all conf (act cpu.0 conf))) }
     ensures marks { OnOk result (AddsMark progress.old.marks progress.new.marks) }
 {
@@ -203,5 +203,5 @@ pub(crate) fn lookless_act(
     ensures marks { OnOk result (AddsMark progress.old.marks progress.new.marks) }
 {
     let call = lookless_call(given);
-    unswept_act(progress, alloc, cpu, call)
+    unswept_act(progress, alloc, cpu, &call)
 }

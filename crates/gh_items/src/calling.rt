@@ -1,6 +1,6 @@
 //! The calls of CPUs, item by item.
 
-ghost use Rattle.std.specs.Prelude.{◌≡◌, ◌+◌, ◌<◌, OnOk, Ok, Some, length, nat_lt};
+ghost use Rattle.std.specs.Prelude.{◌≡◌, ◌+◌, ◌<◌, OnOk, Ok, Some, false, length, nat_lt};
 ghost use Rattle.gh_base.specs.declared.limits.TheConstants.{CPUS};
 ghost use Rattle.gh_core.specs.Running.{stage_of};
 ghost use Rattle.gh_core.specs.Tests.{is_at_act};
@@ -8,6 +8,7 @@ ghost use Rattle.gh_events.specs.Config.{Config};
 ghost use Rattle.gh_events.specs.Sound.{made_by};
 ghost use Rattle.gh_events.specs.Start.{MayGive, given as given_next};
 ghost use Rattle.gh_items.specs.Calling.{AddsMark, begun, behind_item};
+ghost use Rattle.gh_items.specs.Held.{cpu_goes_on, goes_on};
 ghost use Rattle.gh_items.specs.Stands.{Stands, with_call};
 ghost use Rattle.gh_model.specs.Registers.{call_of, needs_of};
 ghost use Rattle.gh_schedules.specs.Items.{IsSteady, item};
@@ -17,7 +18,7 @@ use crate::act_item::{act_item, lookless_act};
 use crate::call_items::enter;
 use crate::frame_item::refuse_frame;
 use crate::progress::{Progress, seat_of, take_call};
-use crate::section::section_item;
+use crate::section::{end_of_section, section_item};
 use gh_base::{Call, CpuNo, Frame, NoMemory};
 use gh_core::{CallStage, CurrentCall, GivenCall};
 use gh_frames::{needs, read_call};
@@ -94,24 +95,48 @@ fn is_at_act(stage: CallStage) -> bool
     matches!(stage, CallStage::AtAct)
 }
 
-/// The next item of a call in progress.
-fn call_item(
+/// Whether a call at this stage is in its section, and in progress behind its next item too.
+fn goes_on(stage: CallStage) -> bool
+    ensures { result ≡ goes_on stage }
+{
+    matches!(
+        stage,
+        CallStage::Reading | CallStage::Looked | CallStage::DeadPin
+    )
+}
+
+/// Whether the CPU has a call in progress that goes on so.
+fn cpu_goes_on(progress: &Progress, cpu: CpuNo) -> bool
+    ensures { result ≡ cpu_goes_on progress.now cpu.0 }
+{
+    match progress.calls.as_slice().get(cpu.0 as usize) {
+        None => false,
+        Some(call) => match call {
+            None => false,
+            Some(call) => goes_on(call.stage),
+        },
+    }
+}
+
+/// The last item of a call in progress, of which nothing is left in the progress.
+fn last_item(
     progress: &mut Progress,
     alloc: Global,
     cpu: CpuNo,
-    call: CurrentCall,
+    call: &CurrentCall,
 ) -> Result<(), NoMemory>
     ghost conf: { Config }
-    requires stands { Stands (with_call progress.old cpu.0 (Some call)) conf }
+    requires stands { Stands (with_call progress.old cpu.0 (Some call.now)) conf }
     requires steady { IsSteady conf }
     requires within { cpu.0 < CPUS }
+    requires last { goes_on call.now.stage ≡ false }
     ensures stands { OnOk result (Stands progress.new (after_all conf (item conf cpu.0))) }
     ensures marks { OnOk result (AddsMark progress.old.marks progress.new.marks) }
 {
     if is_at_act(call.stage) {
         act_item(progress, alloc, cpu, call)
     } else {
-        section_item(progress, cpu, call)
+        end_of_section(progress, cpu, call)
     }
 }
 
@@ -124,8 +149,12 @@ pub fn next_item(progress: &mut Progress, alloc: Global, cpu: CpuNo) -> Result<(
     ensures stands { OnOk result (Stands progress.new (after_all conf (item conf cpu.0))) }
     ensures marks { OnOk result (AddsMark progress.old.marks progress.new.marks) }
 {
+    if cpu_goes_on(progress, cpu) {
+        section_item(progress, cpu);
+        return Ok(());
+    }
     match take_call(progress, cpu) {
         None => Ok(()),
-        Some(call) => call_item(progress, alloc, cpu, call),
+        Some(call) => last_item(progress, alloc, cpu, &call),
     }
 }

@@ -74,7 +74,7 @@ pub(crate) fn end_call(
     progress: &mut Progress,
     cpu: CpuNo,
     seat: Seat,
-    call: CurrentCall,
+    call: &CurrentCall,
     end: End,
     reply: Reply,
 ) -> Result<(), NoMemory>
@@ -82,11 +82,11 @@ pub(crate) fn end_call(
     requires calls { cpu.0 < length progress.old.calls }
     requires counts { seat.calls + 1 < 4294967296 }
     requires sections { seat.sections + 1 < 4294967296 }
-    ensures { OnOk result (progress.new ≡ with_end progress.old cpu.0 seat call end reply) }
+    ensures { OnOk result (progress.new ≡ with_end progress.old cpu.0 seat call.now end reply) }
 {
     let at = cpu.0 as usize;
-    let behind = seat_behind(seat, &call, &end);
-    progress.marks.push(mark(cpu, &call, end, reply))?;
+    let behind = seat_behind(seat, call, &end);
+    progress.marks.push(mark(cpu, call, end, reply))?;
     progress.seats.set(at, behind);
     progress.calls.set(at, None);
     Ok(())

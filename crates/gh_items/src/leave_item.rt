@@ -21,17 +21,17 @@ use gh_core::CurrentCall;
 pub(crate) fn leave_ended(
     progress: &mut Progress,
     cpu: CpuNo,
-    call: CurrentCall,
+    call: &CurrentCall,
     end: End,
     reply: Reply,
 ) -> Result<(), NoMemory>
     ghost conf: { Config }
-    requires stands { Stands (with_call progress.old cpu.0 (Some call)) conf }
+    requires stands { Stands (with_call progress.old cpu.0 (Some call.now)) conf }
     requires sound { IsSound conf }
     requires within { cpu.0 < CPUS }
-    requires ended { (stage_of call.stage ≡ Undone) ⊎ (stage_of call.stage ≡ Failed) }
-    requires its_end { end ≡ end_of_looks (came_to (current_of call)) }
-    requires its_reply { reply ≡ reply_of_looks (came_to (current_of call)) }
+    requires ended { (stage_of call.now.stage ≡ Undone) ⊎ (stage_of call.now.stage ≡ Failed) }
+    requires its_end { end ≡ end_of_looks (came_to (current_of call.now)) }
+    requires its_reply { reply ≡ reply_of_looks (came_to (current_of call.now)) }
     ensures stands { OnOk result
         (Stands progress.new (after_all conf (leave_ended cpu.0 conf))) }
     ensures marks { OnOk result (AddsMark progress.old.marks progress.new.marks) }

@@ -1,21 +1,20 @@
 //! The item of a call that looks a capability up.
 
 ghost use Rattle.std.specs.Prelude.{◌≡◌, ◌<◌, ◌≤◌, length, map, Some};
-ghost use Rattle.gh_base.specs.declared.limits.TheConstants.{CPUS, OBJECT_INDICES};
 ghost use Rattle.gh_events.specs.CallEvents.{looked};
-ghost use Rattle.gh_events.specs.Config.{Config, came_to};
+ghost use Rattle.gh_events.specs.Config.{came_to};
 ghost use Rattle.gh_events.specs.Entries.{shown};
 ghost use Rattle.gh_core.specs.Running.{current_of, seen_of};
-ghost use Rattle.gh_events.specs.Sound.{IsSound};
 ghost use Rattle.gh_core.specs.declared.current.CallStage.TheVariants.{Reading};
-ghost use Rattle.gh_items.specs.Stands.{IsNamed, Stands, index_in, looked_call, stage_by, with_call};
+ghost use Rattle.gh_items.specs.Held.{Held, HeldIn, IsHeld, Sees};
+ghost use Rattle.gh_items.specs.Stands.{IsNamed, index_in, looked_call, stage_by};
 ghost use Rattle.gh_model.specs.Marks.{Wants, place_after_looks};
 ghost use Rattle.gh_model.specs.Word.{look_reply};
 
-use crate::progress::{Progress, put_call, seat_of};
-use gh_base::{CapWord, CpuNo, Errno, Look, Need, ObjIndex, Serial};
+use crate::progress::Seat;
+use gh_base::{CapWord, Errno, Look, Need, ObjIndex, Serial};
 use gh_core::{CallStage, CurrentCall, SeenLook};
-use gh_model::Word;
+use gh_model::{Plain, Word};
 
 /// The place of the last look, or the place before them.
 pub(crate) fn last_place(before: u32, seen: &[SeenLook]) -> u32
@@ -67,39 +66,40 @@ fn stage_of(reply: Result<Serial, Errno>) -> CallStage
     }
 }
 
-/// The call behind one more look.
-fn looked_up(call: CurrentCall, seen: SeenLook, need: Need) -> CurrentCall
-    requires { length call.seen < 2 }
-    ensures { result ≡ looked_call call seen (stage_by (look_reply seen.word need)) }
+/// The call has one more look.
+fn put_look(call: &mut CurrentCall, seen: SeenLook, need: Need)
+    requires { length call.old.seen < 2 }
+    ensures { call.new ≡ looked_call call.old seen (stage_by (look_reply seen.word need)) }
 {
-    let mut call = call;
     call.stage = stage_of(seen.word.reply(need));
     call.seen.push(seen);
-    call
 }
 
 /// The call in its section looks up the slot that it wants next.
-pub(crate) fn look(progress: &mut Progress, cpu: CpuNo, call: CurrentCall, slot: u64, need: Need)
-    ghost conf: { Config }
-    requires stands { Stands (with_call progress.old cpu.0 (Some call)) conf }
-    requires sound { IsSound conf }
-    requires within { cpu.0 < CPUS }
-    requires reading { call.stage ≡ Reading }
-    requires asked { came_to (current_of call) ≡ Wants slot need }
-    requires room { length call.seen < 2 }
-    ensures stands { Stands progress.new (looked conf cpu.0 slot) }
-    ensures marks { progress.new.marks ≡ progress.old.marks }
+pub(crate) fn look(
+    plain: &Plain,
+    places: &[ObjIndex],
+    seat: Seat,
+    call: &mut CurrentCall,
+    slot: u64,
+    need: Need,
+)
+    ghost from: { Held }
+    requires held { IsHeld from call.old }
+    requires seen { Sees from plain.now places.now seat }
+    requires reading { call.old.stage ≡ Reading }
+    requires asked { came_to (current_of call.old) ≡ Wants slot need }
+    requires room { length call.old.seen < 2 }
+    ensures { HeldIn from call.new (looked from.conf from.at slot) }
 {
-    let seat = seat_of(progress, cpu);
-    let word = progress.plain.word(seat.cspace, slot);
+    let word = plain.word(seat.cspace, slot);
     let place = word
         .set_at
         .max(last_place(seat.place, call.seen.as_slice()));
     let look = Look {
         slot,
         place,
-        word: cap_word(progress.places.as_slice(), word),
+        word: cap_word(places, word),
     };
-    let call = looked_up(call, SeenLook { look, word }, need);
-    put_call(progress, cpu, call);
+    put_look(call, SeenLook { look, word }, need);
 }

@@ -119,20 +119,20 @@ fn end_refused(
     alloc: Global,
     cpu: CpuNo,
     seat: Seat,
-    call: CurrentCall,
+    call: &CurrentCall,
     reply: Reply,
 ) -> Result<(), NoMemory>
     ghost conf: { Config }
-    requires stands { StandsWith progress.old cpu.0 call conf }
+    requires stands { StandsWith progress.old cpu.0 call.now conf }
     requires begins { HasNotBegun conf cpu.0 }
     requires seats { cpu.0 < length progress.old.seats }
     requires calls { cpu.0 < length progress.old.calls }
     requires counts { seat.calls + 1 < 4294967296 }
     requires sections { seat.sections + 1 < 4294967296 }
     ensures { OnOk result (progress.new
-        ≡ with_refusal progress.old cpu.0 seat call (causes_now conf) reply) }
+        ≡ with_refusal progress.old cpu.0 seat call.now (causes_now conf) reply) }
 {
-    let end = refused_end(progress, alloc, cpu, &call, &reply)?;
+    let end = refused_end(progress, alloc, cpu, call, &reply)?;
     end_call(progress, cpu, seat, call, end, reply)
 }
 
@@ -151,7 +151,7 @@ fn end_done(
     progress: &mut Progress,
     cpu: CpuNo,
     seat: Seat,
-    call: CurrentCall,
+    call: &CurrentCall,
     index: Option<ObjIndex>,
     reply: Reply,
 ) -> Result<(), NoMemory>
@@ -159,7 +159,7 @@ fn end_done(
     requires calls { cpu.0 < length progress.old.calls }
     requires counts { seat.calls + 1 < 4294967296 }
     requires sections { seat.sections + 1 < 4294967296 }
-    ensures { OnOk result (progress.new ≡ with_done progress.old cpu.0 seat call index reply) }
+    ensures { OnOk result (progress.new ≡ with_done progress.old cpu.0 seat call.now index reply) }
 {
     let number = progress.plain.entries();
     let entry = Entry::Acted {
@@ -176,18 +176,18 @@ fn swept_judged(
     progress: &mut Progress,
     alloc: Global,
     cpu: CpuNo,
-    call: CurrentCall,
+    call: &CurrentCall,
 ) -> Result<(), NoMemory>
     ghost conf: { Config }
-    requires stands { Stands (with_call progress.old cpu.0 (Some call)) (judged_in conf cpu.0) }
-    requires next { ActsNext conf cpu.0 (current_of call) }
-    requires swept { sweeps call.given.call ≡ true }
+    requires stands { Stands (with_call progress.old cpu.0 (Some call.now)) (judged_in conf cpu.0) }
+    requires next { ActsNext conf cpu.0 (current_of call.now) }
+    requires swept { sweeps call.now.given.call ≡ true }
     ensures stands { OnOk result (Stands progress.new (after_all conf (act cpu.0 conf))) }
     ensures marks { OnOk result (AddsMark progress.old.marks progress.new.marks) }
 {
     let seat = seat_of(progress, cpu);
-    let index = index_made(progress, alloc, &call)?;
-    let judged = judge(progress, alloc, cpu, &call)?;
+    let index = index_made(progress, alloc, call)?;
+    let judged = judge(progress, alloc, cpu, call)?;
     match judged {
         Judged::Refused(reply) => end_refused(progress, alloc, cpu, seat, call, reply),
         Judged::Done(reply) => end_done(progress, cpu, seat, call, index, reply),
@@ -199,15 +199,15 @@ pub(crate) fn swept_act(
     progress: &mut Progress,
     alloc: Global,
     cpu: CpuNo,
-    call: CurrentCall,
+    call: &CurrentCall,
 ) -> Result<(), NoMemory>
     ghost conf: { Config }
-    requires stands { Stands (with_call progress.old cpu.0 (Some call)) (taken conf cpu.0) }
-    requires next { ActsNext conf cpu.0 (current_of call) }
-    requires swept { sweeps call.given.call ≡ true }
+    requires stands { Stands (with_call progress.old cpu.0 (Some call.now)) (taken conf cpu.0) }
+    requires next { ActsNext conf cpu.0 (current_of call.now) }
+    requires swept { sweeps call.now.given.call ≡ true }
     ensures stands { OnOk result (Stands progress.new (after_all conf (act cpu.0 conf))) }
     ensures marks { OnOk result (AddsMark progress.old.marks progress.new.marks) }
 {
-    sweep(progress, alloc, cpu, &call)?;
+    sweep(progress, alloc, cpu, call)?;
     swept_judged(progress, alloc, cpu, call)
 }

@@ -12,16 +12,16 @@ pub make_all_parts-requires : goal.make_all_parts-requires
 make_all_parts-requires g c = (
   c.requires.0,
   (
-    taken_sound g.conf c.args.cpu.0 (current_of c.args.call) c.requires.1.0,
-    (c.requires.1.0.is_cpu, (c.requires.1.1, parts_done g.conf c.args.cpu.0 (current_of c.args.call) c.requires.1.0 c.requires.1.1)),
+    taken_sound g.conf c.args.cpu.0 (current_of c.args.call.now) c.requires.1.0,
+    (c.requires.1.0.is_cpu, (c.requires.1.1, parts_done g.conf c.args.cpu.0 (current_of c.args.call.now) c.requires.1.0 c.requires.1.1)),
   ),
 )
 
 pub judged_act-requires : goal.judged_act-requires
 judged_act-requires g c = (
-  subst (Stands (with_call c.make_all_parts.new.progress c.args.cpu.0 (Some c.args.call)))
-      (sym (parts_judged g.conf c.args.cpu.0 (current_of c.args.call) c.requires.1.0 c.requires.1.1)) c.in_ok-make_all_parts.ensures.stands,
-  (c.requires.1.0, revoke_unswept c.args.call.given.call c.requires.1.1),
+  subst (Stands (with_call c.make_all_parts.new.progress c.args.cpu.0 (Some c.args.call.now)))
+      (sym (parts_judged g.conf c.args.cpu.0 (current_of c.args.call.now) c.requires.1.0 c.requires.1.1)) c.in_ok-make_all_parts.ensures.stands,
+  (c.requires.1.0, revoke_unswept c.args.call.now.given.call c.requires.1.1),
 )
 
 pub returns-clause-marks : goal.returns-clause-marks

@@ -1,5 +1,8 @@
--- The item begins in the configuration at hand.
+-- The item begins in the configuration and the progress at hand.
 use Rattle.gh_items.proofs.calling.next_item.Given as goal
 
-abbrev pub ghost-call_item : goal.ghost-call_item
-ghost-call_item g a = g.conf
+abbrev pub ghost-section_item : goal.ghost-section_item
+ghost-section_item g a = record { conf = g.conf; progress = a.progress.now; at = a.cpu.0 }
+
+abbrev pub ghost-last_item : goal.ghost-last_item
+ghost-last_item g a = g.conf

@@ -1,8 +1,8 @@
--- Both items begin in the configuration at hand.
+-- Both items begin where this one does.
 use Rattle.gh_items.proofs.section.read.Given as goal
 
 abbrev pub ghost-look : goal.ghost-look
-ghost-look g a = g.conf
+ghost-look g a = g.from
 
 abbrev pub ghost-leave : goal.ghost-leave
-ghost-leave g a = g.conf
+ghost-leave g a = g.from

@@ -10,17 +10,17 @@ pub sweep-requires : goal.sweep-requires
 sweep-requires g c = (
   c.requires.0,
   (
-    taken_sound g.conf c.args.cpu.0 (current_of c.args.call) c.requires.1.0,
+    taken_sound g.conf c.args.cpu.0 (current_of c.args.call.now) c.requires.1.0,
     (
       record { partitions = c.requires.1.0.steady.blocks.partitions; others = c.requires.1.0.steady.blocks.others },
-      (c.requires.1.0.steady.nine, begins g.conf c.args.cpu.0 (current_of c.args.call) c.requires.1.0),
+      (c.requires.1.0.steady.nine, begins g.conf c.args.cpu.0 (current_of c.args.call.now) c.requires.1.0),
     ),
   ),
 )
 
 pub swept_judged-requires : goal.swept_judged-requires
 swept_judged-requires g c = (
-  subst (Stands (with_call c.sweep.new.progress c.args.cpu.0 (Some c.args.call)))
-      (sym (swept_judged g.conf c.args.cpu.0 (current_of c.args.call) c.requires.1.0 c.requires.1.1)) c.in_ok-sweep.ensures.stands,
+  subst (Stands (with_call c.sweep.new.progress c.args.cpu.0 (Some c.args.call.now)))
+      (sym (swept_judged g.conf c.args.cpu.0 (current_of c.args.call.now) c.requires.1.0 c.requires.1.1)) c.in_ok-sweep.ensures.stands,
   (c.requires.1.0, c.requires.1.1),
 )
