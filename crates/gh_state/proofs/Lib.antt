@@ -9,13 +9,16 @@ mod IndexLemmas
 mod KindCounts
 mod Living
 mod MappingLemmas
+mod MoveLemmas
 mod Options
 mod PlaceLemmas
+mod Pointwise
 mod QueueChanges
 mod QueueLemmas
 mod QueueReadLemmas
 mod ReadLemmas
 mod Reindexed
+mod SharesChanged
 mod SharesLemmas
 mod ShowsLemmas
 mod SlotLemmas
@@ -41,6 +44,7 @@ mod StandsOwed
 mod StandsQueues
 mod StandsQuota
 mod StandsRetired
+mod StandsRun
 mod StandsSlots
 mod StandsSpan
 mod WordLemmas

@@ -9,6 +9,7 @@ pub mod MemoryChanges
 pub mod NumberChanges
 pub mod ObjectReads
 pub mod Owing
+pub mod PageMoves
 pub mod QueueReads
 pub mod Shares
 pub mod SlotChanges
