@@ -27,8 +27,10 @@ mod Leaving
 mod LeavingHome
 mod Living
 mod MappingLemmas
+mod MoveLemmas
 mod Options
 mod PlaceLemmas
+mod Pointwise
 mod QueueChanges
 mod QueueLemmas
 mod QueueReadLemmas
@@ -40,6 +42,7 @@ mod RemovedIndices
 mod RemovedObjects
 mod RemovedSlots
 mod RemovedUnits
+mod SharesChanged
 mod SharesLemmas
 mod ShowsLemmas
 mod SlotLemmas
@@ -67,6 +70,7 @@ mod StandsOwed
 mod StandsQueues
 mod StandsQuota
 mod StandsRetired
+mod StandsRun
 mod StandsSlots
 mod StandsSpan
 mod WordLemmas

@@ -12,6 +12,7 @@ pub mod NumberChanges
 pub mod ObjectChanges
 pub mod ObjectReads
 pub mod Owing
+pub mod PageMoves
 pub mod QueueReads
 pub mod Reclaims
 pub mod Shares

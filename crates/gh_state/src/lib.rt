@@ -14,6 +14,7 @@ mod links;
 mod mappings;
 mod memory;
 mod memory_reads;
+mod moves;
 mod objects;
 mod parts;
 mod queue_reads;

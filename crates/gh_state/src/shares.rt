@@ -1,13 +1,15 @@
 //! The shares of the partition places: what the objects of each have beside their headers.
 
 ghost use Rattle.std.specs.Prelude.{◌≡◌, ◌<◌, IfOk, length, replicate, slice_set};
+ghost use Rattle.gh_state.specs.PageMoves.{Follows, ShareChanges, SharesChange};
 ghost use Rattle.gh_state.specs.Shares.{AreShares, no_place, no_shares, body_at, place_at};
 ghost use Rattle.gh_state.specs.Shares.{place_in};
 ghost use Rattle.gh_state.specs.Shares.{with_body, with_body_in, with_cost_at, with_cost_in};
 ghost use Rattle.gh_state.specs.Shares.{with_place};
 
 use crate::body::Body;
-use gh_base::{NoMemory, OBJECT_INDICES, ObjIndex, PARTITION_PLACES, PARTITIONS};
+use crate::moves::follow;
+use gh_base::{NoMemory, OBJECT_INDICES, ObjIndex, PARTITION_PLACES, PARTITIONS, Serial};
 use std::alloc::Global;
 use std::marker::Model;
 use std::mem;
@@ -51,6 +53,15 @@ impl Model for Shares {
     ghost view = { λ s. s.shares.items };
 
     ghost invariant = { λ s. AreShares s.shares.items };
+}
+
+/// Address spaces at these places follow a run of pages that moved.
+fn follow_places(places: &mut [Place], from: Serial, to: Serial, first: u16, count: u16)
+    ensures { ShareChanges (Follows from.0 to first count) places.old places.new }
+{
+    for at in 0..places.len() {
+        follow(&mut places[at].body, from, to, first, count);
+    }
 }
 
 impl Share {
@@ -107,6 +118,22 @@ impl Share {
         ensures { self.new ≡ with_cost_in self.old at cost }
     {
         self.places[at].cost = cost;
+    }
+
+    /// Its address spaces follow a run of pages that moved.
+    fn follow(&mut self, from: Serial, to: Serial, first: u16, count: u16)
+        ensures { ShareChanges (Follows from.0 to first count) self.old self.new }
+    {
+        follow_places(self.places.as_mut_slice(), from, to, first, count);
+    }
+}
+
+/// Address spaces of these shares follow a run of pages that moved.
+fn follow_shares(shares: &mut [Share], from: Serial, to: Serial, first: u16, count: u16)
+    ensures { SharesChange (Follows from.0 to first count) shares.old shares.new }
+{
+    for at in 0..shares.len() {
+        shares[at].follow(from, to, first, count);
     }
 }
 
@@ -193,5 +220,12 @@ impl Shares {
     {
         let index = index.0 as usize;
         self.shares[index / PARTITION_PLACES].set_cost(index % PARTITION_PLACES, cost);
+    }
+
+    /// All address spaces follow a run of pages that moved. It looks at each place.
+    pub fn follow_run(&mut self, from: Serial, to: Serial, first: u16, count: u16)
+        ensures { SharesChange (Follows from.0 to first count) self.old self.new }
+    {
+        follow_shares(self.shares.as_mut_slice(), from, to, first, count);
     }
 }
