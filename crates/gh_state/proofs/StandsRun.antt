@@ -129,6 +129,7 @@ module _ (from : ℕ) (to : Serial) (first count : ℕ) where
         retired = stand.objects.retired;
         room = stand.objects.room;
       };
+      blocks = stand.blocks;
       kinds = λ serial. (keeps serial).kind (find (is_object serial) s.objects) ∙ stand.kinds serial;
       references = record { each = stand.references.each; bare = stand.references.bare };
       bells = λ serial. stand.bells serial ∙ sym (keeps serial).bells;
