@@ -33,8 +33,11 @@ mod RemovedBlocks
 mod RemovedBodies
 mod RemovedIndices
 mod RemovedObjects
+mod RemovedRows
 mod RemovedSlots
 mod RemovedUnits
+mod ReturnLemmas
+mod ReturnedRuns
 mod SharesLemmas
 mod ShowsLemmas
 mod SlotLemmas

@@ -17,6 +17,8 @@ mod objects;
 mod parts;
 mod queues;
 mod reads;
+mod reclaim;
+mod returns;
 mod shares;
 mod slots;
 mod units;
