@@ -62,6 +62,7 @@ mod StandsObjects
 mod StandsOwed
 mod StandsQueues
 mod StandsQuota
+mod StandsReclaimed
 mod StandsRetired
 mod StandsSlots
 mod StandsSpan

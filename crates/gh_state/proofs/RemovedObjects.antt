@@ -144,30 +144,30 @@ module _ (parts : Parts) (s : State) (object : Serial) (leaves : Leaves parts s 
   references_left = record { each = counts_now; bare = bare_now }
 
   module _ (holders : List Serial) (shares : List (List Place)) (follow : SharesFollow s.holders holders parts.shares shares)
-      where
-    abbrev cleared : List (List Place)
-    cleared = with_place shares at no_place
+    where
+      abbrev cleared : List (List Place)
+      cleared = with_place shares at no_place
 
-    -- what is at another object's index stays
-    pub place_left : (x : ℕ) → x ≢ object.0
-        → place_at cleared (index_of now x) ≡ place_at shares (index_of headers x)
-    place_left x apart =
-        ap (place_at cleared) (at_left x apart)
-        ∙ place_elsewhere shares at no_place (index_of headers x) (elsewhere x apart)
+      -- what is at another object's index stays
+      pub place_left : (x : ℕ) → x ≢ object.0
+          → place_at cleared (index_of now x) ≡ place_at shares (index_of headers x)
+      place_left x apart =
+          ap (place_at cleared) (at_left x apart)
+          ∙ place_elsewhere shares at no_place (index_of headers x) (elsewhere x apart)
 
-    costs_now : (x : ℕ) (one : ObjectRow) → find (is_object x) after.objects ≡ Some one
-        → (place_at cleared (index_of now x)).cost ≡ one.cost
-    costs_now x one is =
-        ap (λ (p : Place). p.cost) (place_left x (left_apart x one is))
-        ∙ follow.costs (index_of headers x)
-        ∙ leaves.stand.objects.costs x one (row_left x one is)
+      costs_now : (x : ℕ) (one : ObjectRow) → find (is_object x) after.objects ≡ Some one
+          → (place_at cleared (index_of now x)).cost ≡ one.cost
+      costs_now x one is =
+          ap (λ (p : Place). p.cost) (place_left x (left_apart x one is))
+          ∙ follow.costs (index_of headers x)
+          ∙ leaves.stand.objects.costs x one (row_left x one is)
 
-    pub objects_now : ObjectsStand now cleared retirements after.objects
-    objects_now = record {
-      indexed = indexed_left headers leaves.stand.objects.indexed object.0 within;
-      whole = places_whole shares at no_place follow.whole;
-      each = each_now;
-      costs = costs_now;
-      retired = retired_now;
-      room = length-set parts.journal.retirements at None ∙ leaves.stand.objects.room;
-    }
+      pub objects_now : ObjectsStand now cleared retirements after.objects
+      objects_now = record {
+        indexed = indexed_left headers leaves.stand.objects.indexed object.0 within;
+        whole = places_whole shares at no_place follow.whole;
+        each = each_now;
+        costs = costs_now;
+        retired = retired_now;
+        room = length-set parts.journal.retirements at None ∙ leaves.stand.objects.room;
+      }

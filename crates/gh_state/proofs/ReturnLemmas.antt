@@ -1,26 +1,33 @@
 -- The extents and the address spaces while an extent gives its runs of pages back.
-use Rattle.std.proofs.Common.{◌≡◌, ◌≢◌, ◌<◌, ◌∙◌, ◌==◌, not, ℕ, Bool, true, false, List, [], ◌∷◌, Option, Some, None, refl, sym, ap, subst, arith, map, find, IsTrue}
-use Rattle.std.specs.Prelude.{IsSomeAnd, count_by}
+use Rattle.std.proofs.Common.{◌≡◌, ◌≢◌, ◌<◌, ◌∙◌, ◌==◌, not, ℕ, zero, suc, Bool, true, false, List, [], ◌∷◌, Option, Some, None, refl, sym, ap, subst, arith, map, find, replicate, IsTrue}
+use Rattle.std.specs.Prelude.{All, IsSomeAnd, count_by}
 use Rattle.std.specs.List.{list_all, list_any}
 use Rattle.std.specs.Option.{option_map}
-use Rattle.std.proofs.lemmas.Bool.{and_from, both_ways, eq-eqb, or_parts}
+use Rattle.std.proofs.lemmas.Bool.{and_from, both_ways, eq-eqb, eqb-true, ne_eqb, or_parts}
+use Rattle.std.proofs.lemmas.List.Elements.{All-head, All-tail}
 use Rattle.gh_base.specs.declared.ids.PageNo.{PageNo}
 use Rattle.gh_base.specs.declared.ids.Serial.{Serial}
-use Rattle.gh_extent.specs.Extents.{CanGiveBack, Extents, after_give_back, first_run, is_child_of, row_of, row_returned}
-use Rattle.gh_invariant.proofs.Counting.{found_all}
+use Rattle.gh_extent.specs.Extents.{CanGiveBack, Extents, HasRow, after_give_back, first_run, is_child_of, row_of, row_returned}
+use Rattle.gh_invariant.proofs.Counting.{count_unfound, found_all}
+use Rattle.gh_invariant.proofs.RowsLeft.{without_none}
 use Rattle.gh_model.specs.Boot.{move_pages}
 use Rattle.gh_model.specs.Changes.{given_back}
 use Rattle.gh_model.specs.Memory.{HoldsRun, is_serial}
 use Rattle.gh_model.specs.Rows.{is_extent}
 use Rattle.gh_model.specs.declared.rows.ExtentRow.{ExtentRow}
-use Rattle.gh_state.specs.Follows.{SharesFollow}
+use Rattle.gh_state.specs.Follows.{GivesBack, HoldsTree, SharesFollow, parent_in}
 use Rattle.gh_state.specs.Reclaims.{row_parent}
 use Rattle.gh_state.specs.Shares.{AreShares}
+use Rattle.gh_state.specs.Slots.{no_serial}
+use Rattle.gh_state.specs.Stands.{extent_rows, page_holders}
+use Rattle.gh_state.specs.declared.journal.Memory.{Memory}
+use Rattle.gh_state.specs.declared.journal.Memory.TheVariants.{Bare, Held}
+use Rattle.gh_state.specs.declared.parts.Parts.{Parts}
 use Rattle.gh_state.specs.declared.shares.Place.{Place}
 use Rattle.gh_state.proofs.FollowLemmas.{follow_still, follow_then}
 use Rattle.gh_state.proofs.FoundRows.{not_true}
-use Rattle.gh_state.proofs.Options.{some_same}
-use Rattle.gh_state.proofs.ReturnedRuns.{IsRun, fewer_held, given_last, given_moved, run_is}
+use Rattle.gh_state.proofs.Options.{map_none, some_same}
+use Rattle.gh_state.proofs.ReturnedRuns.{IsRun, fewer_held, given_last, given_moved, given_none, run_is}
 
 -- the rows stay, pages go to the parent alone, and the address spaces follow
 pub record Returning (extent : ℕ) (parent : Serial) (before now : Extents) (old new : List (List Place))
@@ -114,3 +121,51 @@ module _ (extent : ℕ) (parent : Serial) (before now : Extents) (old new : List
       ap (λ (e : Extents). e.holders) state
       ∙ sym (given_last extent parent now.holders (sym last))
       ∙ returning.pages
+
+-- an extent without a row has no page to give back
+
+unheld_bare : (extent : ℕ) → 0 < extent → (pages : ℕ)
+    → IsTrue (list_all (λ (holder : Serial). not (is_serial extent holder)) (replicate pages no_serial))
+unheld_bare extent some zero = refl
+unheld_bare extent some (suc pages) =
+    and_from _ _ (ap not (ne_eqb 0 extent (λ same. omega (arith, same, some)))) (unheld_bare extent some pages)
+
+unheld_by : (s : Extents) (extent : ℕ) (holder : Serial) (here : Bool) → row_of s extent ≡ None
+    → is_serial extent holder ≡ here → HasRow s holder.0 → not here ≡ true
+unheld_by s extent holder false none is has = refl
+unheld_by s extent holder true none is has =
+    absurd (let gone : row_of s holder.0 ≡ None =
+    subst (λ (n : ℕ). row_of s n ≡ None) (sym (eqb-true holder.0 extent is)) none in
+    let never : ⊥ = cc in never)
+
+unheld : (s : Extents) (extent : ℕ) → row_of s extent ≡ None → (holders : List Serial)
+    → All (λ (holder : Serial). HasRow s holder.0) holders
+    → IsTrue (list_all (λ (holder : Serial). not (is_serial extent holder)) holders)
+unheld s extent none [] have = refl
+unheld s extent none (holder ∷ holders) have =
+    and_from _ _
+    (unheld_by s extent holder (is_serial extent holder) none refl (All-head (λ (one : Serial). HasRow s one.0) holder holders have))
+    (unheld s extent none holders (All-tail (λ (one : Serial). HasRow s one.0) holder holders have))
+
+unheld_in : (memory : Memory) (extent : ℕ) → 0 < extent → HoldsTree memory
+    → find (is_extent extent) (extent_rows memory) ≡ None
+    → IsTrue (list_all (λ (holder : Serial). not (is_serial extent holder)) (page_holders memory))
+unheld_in (Bare pages) extent some tree none = unheld_bare extent some pages
+unheld_in (Held s) extent some tree none = unheld s extent none s.holders tree.holders
+
+pub none_returned : (parts : Parts) (extent : ℕ) → 0 < extent → HoldsTree parts.journal.memory
+    → None ≡ parent_in parts.journal.memory extent → AreShares parts.shares
+    → GivesBack extent no_serial parts parts
+none_returned parts extent some tree none whole =
+    let unknown : find (is_extent extent) (extent_rows parts.journal.memory) ≡ None =
+    map_none row_parent (find (is_extent extent) (extent_rows parts.journal.memory)) (sym none) in
+    record {
+      memory = parts.journal.memory;
+      shares = parts.shares;
+      rows = sym (without_none (is_extent extent) (extent_rows parts.journal.memory)
+          (count_unfound (is_extent extent) (extent_rows parts.journal.memory) unknown));
+      pages = sym (given_none extent no_serial (page_holders parts.journal.memory)
+          (unheld_in parts.journal.memory extent some tree unknown));
+      follow = follow_still (page_holders parts.journal.memory) parts.shares whole;
+      parts = refl;
+    }

@@ -93,7 +93,8 @@ module _ (extent : ℕ) (parent : Serial) where
       ap (λ (h : Serial). h ∷ map (given_back extent parent) (replicate (length run) parent)) here
       ∙ ap (λ (rest : List Serial). given_back extent parent holder ∷ rest) (given_run run parts.1)
 
-  given_none : (holders : List Serial) → IsTrue (list_all (λ (holder : Serial). not (is_serial extent holder)) holders)
+  -- where it holds none, all stay
+  pub given_none : (holders : List Serial) → IsTrue (list_all (λ (holder : Serial). not (is_serial extent holder)) holders)
       → map (given_back extent parent) holders ≡ holders
   given_none [] none = refl
   given_none (holder ∷ holders) none =

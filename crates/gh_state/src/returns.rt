@@ -91,12 +91,7 @@ impl Parts {
         ensures { GivesBack extent.0 (unwrap_or parent no_serial) self.old self.new }
     {
         if let Some(parent) = parent {
-            return_in(
-                &mut self.journal.memory,
-                &mut self.shares,
-                extent,
-                parent,
-            );
+            return_in(&mut self.journal.memory, &mut self.shares, extent, parent);
         }
     }
 }
