@@ -253,6 +253,7 @@ impl Extents {
             (λ row. row.first.0 + row.count ≤ length self.now.holders) }
         ensures serial { IfSome result (λ row. row.serial ≡ extent) }
         ensures pages { length self.now.holders ≤ EXTENT_PAGES }
+        ensures tree { IsTree self.now }
     {
         row_in(&self.rows, extent)
     }

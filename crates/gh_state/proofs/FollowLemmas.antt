@@ -192,3 +192,59 @@ run_next n from first count to old now taken next was body below run before with
           (run.follows holders holds) body
           (subst (λ (one : Body). Remaps (ShowsOn holders (move_pages first count to holders)) one body) before (so holders holds));
     })
+
+-- one after another
+
+pub shows_still : (holders : List Serial) (space : Mapped) → ShowsOn holders holders space space
+shows_still holders space = record { rows = refl; shows = λ spans shown. shown }
+
+still_body : (holders : List Serial) (body : Body) → Remaps (ShowsOn holders holders) body body
+still_body holders (Space space) = shows_still holders space
+still_body holders Nothing = refl
+still_body holders (Bell words) = refl
+still_body holders NewQueue = refl
+still_body holders (Queue queue) = refl
+still_body holders (Extent span) = refl
+
+-- shares that stay follow holders that stay
+pub follow_still : (holders : List Serial) (shares : List (List Place)) → AreShares shares
+    → SharesFollow holders holders shares shares
+follow_still holders shares whole = record {
+  whole = whole;
+  bodies = λ index. still_body holders (body_at shares index);
+  costs = λ index. refl;
+}
+
+module _ (before between after : List Serial) where
+  same_then : (old middle new : Body) → middle ≡ old → Remaps (ShowsOn between after) middle new
+      → (Remaps (ShowsOn between after) old new → new ≡ old) → new ≡ old
+  same_then old middle new same so is =
+      is (subst (λ (one : Body). Remaps (ShowsOn between after) one new) same so)
+
+  body_then : (old middle new : Body) → Remaps (ShowsOn before between) old middle
+      → Remaps (ShowsOn between after) middle new → Remaps (ShowsOn before after) old new
+  body_then (Space a) (Space b) (Space c) so behind =
+      record { rows = behind.rows ∙ so.rows; shows = λ spans shown. behind.shows spans (so.shows spans shown) }
+  body_then (Space a) (Space b) Nothing so behind = absurd behind
+  body_then (Space a) (Space b) (Bell words) so behind = absurd behind
+  body_then (Space a) (Space b) NewQueue so behind = absurd behind
+  body_then (Space a) (Space b) (Queue queue) so behind = absurd behind
+  body_then (Space a) (Space b) (Extent span) so behind = absurd behind
+  body_then (Space a) Nothing new so behind = absurd so
+  body_then (Space a) (Bell words) new so behind = absurd so
+  body_then (Space a) NewQueue new so behind = absurd so
+  body_then (Space a) (Queue queue) new so behind = absurd so
+  body_then (Space a) (Extent span) new so behind = absurd so
+  body_then Nothing middle new so behind = same_then Nothing middle new so behind (λ is. is)
+  body_then (Bell words) middle new so behind = same_then (Bell words) middle new so behind (λ is. is)
+  body_then NewQueue middle new so behind = same_then NewQueue middle new so behind (λ is. is)
+  body_then (Queue queue) middle new so behind = same_then (Queue queue) middle new so behind (λ is. is)
+  body_then (Extent span) middle new so behind = same_then (Extent span) middle new so behind (λ is. is)
+
+  pub follow_then : (old middle new : List (List Place)) → SharesFollow before between old middle
+      → SharesFollow between after middle new → SharesFollow before after old new
+  follow_then old middle new first behind = record {
+    whole = behind.whole;
+    bodies = λ index. body_then (body_at old index) (body_at middle index) (body_at new index) (first.bodies index) (behind.bodies index);
+    costs = λ index. behind.costs index ∙ first.costs index;
+  }

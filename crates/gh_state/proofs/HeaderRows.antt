@@ -1,6 +1,7 @@
 -- The rows of the headers: each header is that of a row, and lives in a partition that lives.
 use Rattle.std.proofs.Common.{◌≡◌, ◌<◌, ◌∙◌, ◌==◌, ℕ, true, List, Option, Some, None, refl, sym, ap, subst, arith, find, IsTrue, length}
 use Rattle.std.specs.Option.{option_map, option_map_or}
+use Rattle.std.proofs.lemmas.Bool.{eqb-true}
 use Rattle.gh_base.specs.declared.ids.Serial.{Serial}
 use Rattle.gh_base.specs.declared.kind.Kind.{Kind}
 use Rattle.gh_base.specs.declared.kind.Kind.TheVariants as kind
@@ -14,7 +15,7 @@ use Rattle.gh_model.specs.declared.rows.ObjectRow.{ObjectRow}
 use Rattle.gh_model.specs.declared.state.State.{State}
 use Rattle.gh_objects.specs.Headers.{header_at, is_partition, is_partition_kind}
 use Rattle.gh_objects.specs.declared.header.Header.{Header}
-use Rattle.gh_state.specs.Index.{index_of}
+use Rattle.gh_state.specs.Index.{index_of, partition_in, serial_at}
 use Rattle.gh_state.specs.Stands.{StandsOwing, header_of}
 use Rattle.gh_state.specs.declared.parts.Parts.{Parts}
 use Rattle.gh_state.proofs.AddedBlocks.{AreHoused}
@@ -81,6 +82,20 @@ module _ (owed : List Serial) (parts : Parts) (s : State) (stand : StandsOwing o
       → IsTrue (lives_as s.objects row.partition.0 kind.Partition)
   housed_in valid x row is =
       found_all (is_object x) (is_housed s.objects) s.objects row valid.objects.housed is
+
+  -- the header of an object tells its partition
+  pub home_row : (x : ℕ) (row : ObjectRow) → IsValidWithin s → find (is_object x) s.objects ≡ Some row
+      → serial_at headers (partition_in (header_at headers (index_of headers x))) ≡ row.partition
+  home_row x row valid is =
+      let home : There (find (is_object row.partition.0) s.objects) =
+      kind_there kind.Partition (find (is_object row.partition.0) s.objects) (housed_in valid x row is) in
+      let serial : home.it.serial.0 ≡ row.partition.0 =
+      eqb-true home.it.serial.0 row.partition.0 (found_passes (is_object row.partition.0) s.objects home.it home.is) in
+      ap (λ (header : Option Header). serial_at headers (partition_in header))
+      (stand.objects.each x ∙ ap (option_map (header_of headers)) is)
+      ∙ ap (λ (header : Option Header). option_map_or (λ (h : Header). h.serial) header (record { 0 = 0 }))
+      (stand.objects.each row.partition.0 ∙ ap (option_map (header_of headers)) home.is)
+      ∙ ap (λ (n : ℕ). record { 0 = n }) serial
 
   pub headers_housed : IsValidWithin s → AreHoused headers
   headers_housed valid index header is =

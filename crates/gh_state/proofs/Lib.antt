@@ -40,8 +40,11 @@ mod RemovedBlocks
 mod RemovedBodies
 mod RemovedIndices
 mod RemovedObjects
+mod RemovedRows
 mod RemovedSlots
 mod RemovedUnits
+mod ReturnLemmas
+mod ReturnedRuns
 mod SharesChanged
 mod SharesLemmas
 mod ShowsLemmas
@@ -69,6 +72,7 @@ mod StandsObjects
 mod StandsOwed
 mod StandsQueues
 mod StandsQuota
+mod StandsReclaimed
 mod StandsRetired
 mod StandsRun
 mod StandsSlots

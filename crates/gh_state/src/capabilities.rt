@@ -82,7 +82,7 @@ impl Parts {
     }
 
     /// Counts a reference no more to an object that is named.
-    fn settle_some(&mut self, object: Option<Serial>)
+    pub(crate) fn settle_some(&mut self, object: Option<Serial>)
         requires { IfSome object (λ one. HasCount self.old one.0 (λ n. 1 ≤ n)) }
         ensures { self.new ≡ settled object self.old }
     {

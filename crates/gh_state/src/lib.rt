@@ -20,6 +20,8 @@ mod parts;
 mod queue_reads;
 mod queues;
 mod reads;
+mod reclaim;
+mod returns;
 mod shares;
 mod slot_reads;
 mod slots;

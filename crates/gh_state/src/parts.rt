@@ -54,7 +54,7 @@ impl Parts {
     }
 
     /// The serial of the partition that the object at an index lives in; 0 where there is none.
-    fn home_at(&self, index: ObjIndex) -> Serial
+    pub(crate) fn home_at(&self, index: ObjIndex) -> Serial
         ensures { result ≡ serial_at self.now.table.headers
             (partition_in (header_at self.now.table.headers index.0)) }
     {

@@ -3,6 +3,7 @@
 
 ghost use Rattle.std.specs.Prelude.{◌≡◌, find, position};
 ghost use Rattle.gh_cspace.specs.Cspace.{IsFreeSlot, IsSlot};
+ghost use Rattle.gh_model.specs.Changes.{without};
 ghost use Rattle.gh_model.specs.Rows.{change_row};
 ghost use Rattle.gh_state.specs.Slots.{IsFilledSlot, emptied, filled, granted_by, granted_in};
 ghost use Rattle.gh_state.specs.Slots.{is_home, new_slots, revoked, set_at_by, set_at_in, words_of};
@@ -85,6 +86,15 @@ pub(crate) fn home(all: &[Slots], cspace: Serial) -> Option<usize>
     ensures { result ≡ position (is_home cspace.0) all.now }
 {
     all.iter().position(|slots| slots.cspace == cspace)
+}
+
+/// Closes the slots of a capability space.
+pub(crate) fn close_slots(all: &mut Sequence<Slots>, cspace: Serial)
+    ensures { all.new ≡ without (is_home cspace.0) all.old }
+{
+    while let Some(at) = home(all.as_slice(), cspace) {
+        let _ = all.remove(at);
+    }
 }
 
 /// The object of the valid capability in a slot of a capability space; none where there is none.

@@ -1,7 +1,7 @@
 //! Changes of units.
 
-ghost use Rattle.std.specs.Prelude.{◌≡◌, ◌<◌, find, position};
-ghost use Rattle.gh_model.specs.Changes.{give_quota};
+ghost use Rattle.std.specs.Prelude.{◌≡◌, ◌<◌, IfSome, find, position};
+ghost use Rattle.gh_model.specs.Changes.{give_quota, without};
 ghost use Rattle.gh_model.specs.Rows.{change_row};
 ghost use Rattle.gh_model.specs.declared.change.Change.TheVariants.{GiveQuota};
 ghost use Rattle.gh_model.specs.declared.state.State.{State};
@@ -9,6 +9,7 @@ ghost use Rattle.gh_state.specs.Accounts.{costing, costing_more, free_of, giver_
 ghost use Rattle.gh_state.specs.Accounts.{partition_in, partition_of, using, with_accounts};
 ghost use Rattle.gh_state.specs.Index.{AreIndexed};
 ghost use Rattle.gh_state.specs.Making.{CanMake};
+ghost use Rattle.gh_state.specs.Reclaims.{HasUnits, freed, freeing, quota_of};
 ghost use Rattle.gh_state.specs.Shares.{AreShares};
 ghost use Rattle.gh_state.specs.Stands.{Stands, is_account};
 
@@ -50,6 +51,15 @@ impl Account {
     {
         let _ = self.units.give(quota);
     }
+
+    /// The units of an object, and those that it was given, are free again.
+    fn free(&mut self, cost: u16, quota: u16)
+        requires { HasUnits cost quota self.old }
+        ensures { self.new ≡ freeing cost quota self.old }
+    {
+        self.units.put_back(cost);
+        self.units.take_back(quota);
+    }
 }
 
 /// The place of a partition's account.
@@ -68,6 +78,36 @@ fn giver(accounts: &[Account], partition: Serial) -> Serial
     match account_place(accounts, partition) {
         None => Serial(0),
         Some(at) => accounts[at].parent,
+    }
+}
+
+/// The quota in a partition's account; 0 where it has none.
+pub(crate) fn quota_in(accounts: &[Account], partition: Serial) -> u16
+    ensures { result ≡ quota_of (find (is_account partition.0) accounts.now) }
+{
+    match account_place(accounts, partition) {
+        None => 0,
+        Some(at) => accounts[at].units.quota(),
+    }
+}
+
+/// The units of an object, and those that it was given, are free again in its partition.
+fn free(accounts: &mut Sequence<Account>, partition: Serial, cost: u16, quota: u16)
+    requires { IfSome (find (is_account partition.0) accounts.old) (HasUnits cost quota) }
+    ensures { accounts.new
+        ≡ change_row (is_account partition.0) (freeing cost quota) accounts.old }
+{
+    if let Some(at) = account_place(accounts.as_slice(), partition) {
+        accounts.as_mut_slice()[at].free(cost, quota);
+    }
+}
+
+/// Closes the account of a partition.
+pub(crate) fn close_account(accounts: &mut Sequence<Account>, partition: Serial)
+    ensures { accounts.new ≡ without (is_account partition.0) accounts.old }
+{
+    while let Some(at) = account_place(accounts.as_slice(), partition) {
+        let _ = accounts.remove(at);
     }
 }
 
@@ -136,6 +176,15 @@ impl Parts {
             (change_row (is_account partition.0) (using cost) self.old.journal.accounts) self.old }
     {
         take(&mut self.journal.accounts, partition, cost);
+    }
+
+    /// The units of an object, and those that it was given, come back to its partition.
+    pub(crate) fn return_units(&mut self, partition: Serial, cost: u16, quota: u16)
+        requires { IfSome (find (is_account partition.0) self.old.journal.accounts)
+            (HasUnits cost quota) }
+        ensures { self.new ≡ freed partition.0 cost quota self.old }
+    {
+        free(&mut self.journal.accounts, partition, cost, quota);
     }
 
     /// A configured object, which cost one unit so far, costs so many from now on.
