@@ -5,6 +5,47 @@ use gh_base::{CapState, CapWord, Errno, Kind, ObjIndex, Rights};
 
 const BELL: ObjIndex = ObjIndex(7);
 
+// What is seen of a space stands behind functions without clauses, so that no proof carries it.
+
+/// Whether the least free slot is this one. It is filled.
+fn fills(space: &mut Cspace, slot: u8) -> bool {
+    match space.free_slot() {
+        None => false,
+        Some(free) => {
+            space.insert(free, CapWord::valid(Kind::Bell, true, BELL, Rights(3), 0));
+            free == slot
+        }
+    }
+}
+
+/// Whether all slots but the first are filled one by one, and none is free then.
+fn fills_all(space: &mut Cspace) -> bool {
+    let mut all = true;
+    for slot in 1..128u8 {
+        all = all && fills(space, slot);
+    }
+    all && space.free_slot().is_none()
+}
+
+/// Whether a slot is deleted, and is the least free slot then.
+fn frees(space: &mut Cspace, slot: u8) -> bool {
+    space.delete(slot as u64, 5).is_ok() && space.free_slot() == Some(slot)
+}
+
+fn slots_are_least() -> bool {
+    let mut space = Cspace::new();
+    fills_all(&mut space)
+        && frees(&mut space, 127)
+        && frees(&mut space, 65)
+        && frees(&mut space, 64)
+        && frees(&mut space, 1)
+}
+
+#[test]
+fn slots_are_given_out_from_the_least(rt: HostRuntime) {
+    assert!(rt; slots_are_least());
+}
+
 /// A space whose slot 1 has the master capability of a doorbell, and slot 2 a copy of it.
 fn space_with_copy() -> Cspace {
     let mut space = Cspace::new();
@@ -14,36 +55,29 @@ fn space_with_copy() -> Cspace {
     space
 }
 
-#[test]
-fn slots_are_given_out_from_the_least(rt: HostRuntime) {
-    let mut space = Cspace::new();
-    for slot in 1..=127u8 {
-        assert_eq!(rt; space.free_slot(), Some(slot));
-        if let Some(slot) = space.free_slot() {
-            space.insert(slot, CapWord::valid(Kind::Bell, true, BELL, Rights(3), 0));
-        }
-    }
-    assert_eq!(rt; space.free_slot(), None);
-    for slot in [127, 65, 64, 1] {
-        assert!(rt; space.delete(slot, 5).is_ok());
-        assert_eq!(rt; space.free_slot(), Some(slot as u8));
-    }
+fn is_masked(copy: CapWord) -> bool {
+    copy.rights() == Rights(0x2) && copy.set_at() == 10 && !copy.master()
+}
+
+/// Whether the copy is the only child of its object, and another object has none.
+fn has_one_child(space: &Cspace) -> bool {
+    space.children(BELL).as_slice() == [2].as_slice()
+        && space.children(ObjIndex(8)).as_slice().is_empty()
+}
+
+fn copy_is_masked() -> bool {
+    let space = space_with_copy();
+    is_masked(space.get(2)) && has_one_child(&space)
 }
 
 #[test]
 fn a_copy_has_the_masked_rights_and_no_master_mark(rt: HostRuntime) {
-    let space = space_with_copy();
-    let copy = space.get(2);
-    assert_eq!(rt; copy.rights(), Rights(0x2));
-    assert_eq!(rt; copy.set_at(), 10);
-    assert!(rt; !copy.master());
-    assert_eq!(rt; space.children(BELL).as_slice(), [2].as_slice());
-    assert_eq!(rt; space.children(ObjIndex(8)).as_slice(), [].as_slice());
+    assert!(rt; copy_is_masked());
 }
 
-#[test]
-fn refusals_name_their_cause(rt: HostRuntime) {
-    let mut space = space_with_copy();
+/// Whether slots that are revoked one after another are refused so.
+fn revokes(space: &mut Cspace) -> bool {
+    let mut all = true;
     for (slot, answer) in [
         (0, Some(Errno::CapNull)),
         (1, Some(Errno::InsufRights)),
@@ -52,8 +86,14 @@ fn refusals_name_their_cause(rt: HostRuntime) {
         (3, Some(Errno::CapNull)),
         (128, Some(Errno::CapNull)),
     ] {
-        assert_eq!(rt; space.revoke(slot, 11).err(), answer, "at {slot}");
+        all = all && space.revoke(slot, 11).err() == answer;
     }
+    all
+}
+
+/// The same of slots that are deleted.
+fn deletes(space: &mut Cspace) -> bool {
+    let mut all = true;
     for (slot, answer) in [
         (0, Some(Errno::CapNull)),
         (1, None),
@@ -61,8 +101,20 @@ fn refusals_name_their_cause(rt: HostRuntime) {
         (2, None),
         (u64::MAX, Some(Errno::CapNull)),
     ] {
-        assert_eq!(rt; space.delete(slot, 12).err(), answer, "at {slot}");
+        all = all && space.delete(slot, 12).err() == answer;
     }
-    assert_eq!(rt; space.get(2).state(), CapState::Empty);
-    assert_eq!(rt; space.get(2).set_at(), 12);
+    all
+}
+
+fn causes_are_named() -> bool {
+    let mut space = space_with_copy();
+    revokes(&mut space)
+        && deletes(&mut space)
+        && space.get(2).state() == CapState::Empty
+        && space.get(2).set_at() == 12
+}
+
+#[test]
+fn refusals_name_their_cause(rt: HostRuntime) {
+    assert!(rt; causes_are_named());
 }
