@@ -6,8 +6,8 @@ ghost use Rattle.gh_core.specs.Booted.{placed as placed_of};
 ghost use Rattle.gh_core.specs.Running.{cpu_of};
 ghost use Rattle.gh_events.specs.Start.{new_cpu};
 ghost use Rattle.gh_schedules.specs.Indices.{boot_index as boot_index_of};
-ghost use Rattle.gh_schedules.specs.Indices.{boot_place as boot_place_of, is_earlier_in};
-ghost use Rattle.gh_schedules.specs.Indices.{is_partition_kind as is_partition_kind_of};
+ghost use Rattle.gh_schedules.specs.Indices.{is_earlier_in};
+ghost use Rattle.gh_schedules.specs.Places.{boot_place as boot_place_of, is_partition_kind as is_partition_kind_of};
 ghost use Rattle.gh_schedules.specs.Indices.{row_index as row_index_of};
 
 use crate::cpu::Seat;

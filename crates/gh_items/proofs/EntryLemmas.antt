@@ -3,7 +3,7 @@ use Rattle.std.proofs.Common.{◌≡◌, ◌<◌, ◌∙◌, ℕ, Bool, List, []
 use Rattle.std.proofs.lemmas.List.{map_push}
 use Rattle.std.proofs.lemmas.List.Sums.{fold-append}
 use Rattle.gh_base.specs.declared.cap_word.CapWord.{CapWord}
-use Rattle.gh_schedules.specs.Committing.{added}
+use Rattle.gh_schedules.specs.Places.{added}
 use Rattle.gh_events.specs.Config.{Config, Current, Holder, present}
 use Rattle.gh_events.specs.Entries.{logged, next_state}
 use Rattle.gh_schedules.proofs.Commits.{IsCommitted}

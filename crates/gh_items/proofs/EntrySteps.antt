@@ -4,7 +4,8 @@ use Rattle.std.proofs.Common.{◌≡◌, ◌∙◌, ℕ, Bool, false, List, [], 
 use Rattle.gh_base.specs.CapWord.{object_of}
 use Rattle.gh_base.specs.declared.cap_word.CapWord.{CapWord}
 use Rattle.gh_base.specs.declared.ids.Serial.{Serial}
-use Rattle.gh_schedules.specs.Committing.{added, commits_of, committing, entry_event, gains_owed, is_made, losses_settled, owe, revives, settle, slot_word, with_new}
+use Rattle.gh_schedules.specs.Committing.{commits_of, committing, entry_event, gains_owed, is_made, losses_settled, owe, revives, settle, slot_word, with_new}
+use Rattle.gh_schedules.specs.Places.{added}
 use Rattle.gh_events.specs.Config.{Config, Cpu, Current, present, put}
 use Rattle.gh_events.specs.Entries.{index_after, logged, makes_object, next_state, slot_set}
 use Rattle.gh_events.specs.Events.{after}

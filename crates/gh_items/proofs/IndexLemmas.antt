@@ -14,7 +14,8 @@ use Rattle.gh_model.specs.Rows.{is_object}
 use Rattle.gh_model.specs.declared.rows.ObjectRow.{ObjectRow}
 use Rattle.gh_model.specs.declared.state.State.{State}
 use Rattle.gh_items.specs.NewIndex.{index_for, least_in}
-use Rattle.gh_schedules.specs.Indices.{block_at, free_index, free_place, has_place, is_free, is_free_place, is_partition_kind, new_index, place_of}
+use Rattle.gh_schedules.specs.Indices.{block_at, free_index, is_free, new_index, place_of}
+use Rattle.gh_schedules.specs.Places.{free_place, has_place, is_free_place, is_partition_kind}
 
 -- what is found in a range is below its end
 pub found_below : (test : ℕ → Bool) (from count at : ℕ) → find test (range_with_len from count) ≡ Some at → at < from + count

@@ -2,7 +2,7 @@
 use Rattle.std.proofs.Common.{◌≡◌, ◌∙◌, Bool, true, false, List, [], ◌∷◌, refl, IsTrue, Option, Some, None, if◌then◌else◌}
 use Rattle.std.specs.List.{list_all}
 use Rattle.std.proofs.lemmas.Bool.{and_parts}
-use Rattle.gh_schedules.specs.Committing.{added, adds, first_row}
+use Rattle.gh_schedules.specs.Places.{added, adds, first_row}
 use Rattle.gh_invariant.specs.Events.{changes_of, entry_changes, judged_by, made_by}
 use Rattle.gh_invariant.proofs.EventWords.{entry_of_calls}
 use Rattle.gh_invariant.proofs.SetsOne.{is_of_calls}

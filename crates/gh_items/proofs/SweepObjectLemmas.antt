@@ -32,7 +32,8 @@ use Rattle.gh_model.specs.declared.entry.Entry.{Entry}
 use Rattle.gh_model.specs.declared.entry.Entry.TheVariants.{Reclaimed, Retired}
 use Rattle.gh_model.specs.declared.rows.ObjectRow.{ObjectRow}
 use Rattle.gh_model.specs.declared.state.State.{State}
-use Rattle.gh_schedules.specs.Committing.{added, committing}
+use Rattle.gh_schedules.specs.Committing.{committing}
+use Rattle.gh_schedules.specs.Places.{added}
 use Rattle.gh_schedules.specs.Sweep.{all_cpus, counters, kill, killing, kills, may_kill, may_reclaim, reclaiming, retired_now, retires_dead, retiring, scan, scans}
 use Rattle.gh_schedules.specs.Trace.{AreDone, after_all, and_then}
 use Rattle.gh_schedules.proofs.EntryReferences.{Objects, event_objects}

@@ -8,7 +8,8 @@ use Rattle.gh_base.specs.declared.kind.Kind.{Kind}
 use Rattle.gh_base.specs.declared.limits.TheConstants.{PARTITION_PLACES, PARTITIONS}
 use Rattle.gh_model.specs.Decisions.{grant_at}
 use Rattle.gh_model.specs.declared.state.State.{State}
-use Rattle.gh_schedules.specs.Indices.{block_at, is_free, is_free_place, is_partition_kind, kind_made, place_of}
+use Rattle.gh_schedules.specs.Indices.{block_at, is_free, kind_made, place_of}
+use Rattle.gh_schedules.specs.Places.{is_free_place, is_partition_kind}
 
 -- an index is a number below this
 abbrev pub index_limit : ℕ

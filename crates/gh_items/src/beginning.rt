@@ -7,7 +7,8 @@ ghost use Rattle.gh_events.specs.Start.{start};
 ghost use Rattle.gh_items.specs.Beginning.{ArePlaced, new_seat};
 ghost use Rattle.gh_items.specs.Stands.{Stands};
 ghost use Rattle.gh_model.specs.Boot.{boot_state};
-ghost use Rattle.gh_schedules.specs.Indices.{boot_index, boot_place, is_earlier_in, is_earlier_partition, is_partition_kind, row_index};
+ghost use Rattle.gh_schedules.specs.Indices.{boot_index, is_earlier_in, row_index};
+ghost use Rattle.gh_schedules.specs.Places.{boot_place, is_earlier_partition, is_partition_kind};
 
 use crate::progress::{Progress, Seat};
 use gh_base::{CPUS, CpuNo, Kind, NoMemory, ObjIndex, PARTITION_PLACES, Sequence, Serial};

@@ -7,8 +7,9 @@ ghost use Rattle.gh_events.specs.Config.{is_at};
 ghost use Rattle.gh_items.specs.NewIndex.{index_for, index_in_block, index_limit};
 ghost use Rattle.gh_items.specs.NewIndex.{index_of_block, least_in};
 ghost use Rattle.gh_items.specs.Stands.{index_in};
-ghost use Rattle.gh_schedules.specs.Indices.{block_at, has_place, is_free, is_free_place};
-ghost use Rattle.gh_schedules.specs.Indices.{is_partition_kind, place_of};
+ghost use Rattle.gh_schedules.specs.Indices.{block_at, is_free};
+ghost use Rattle.gh_schedules.specs.Places.{has_place, is_free_place, is_partition_kind};
+ghost use Rattle.gh_schedules.specs.Indices.{place_of};
 
 use crate::sweep_reads::index_of;
 use gh_base::{Kind, ObjIndex, PARTITION_PLACES, PARTITIONS, Serial};

@@ -43,7 +43,7 @@ use Rattle.gh_schedules.specs.Trace.{after_all, and_then}
 use Rattle.gh_events.specs.TurnEvents.{Ending, ending, has_causes, ready, refused_ending, short_ending, taken}
 use Rattle.gh_events.specs.declared.event.Event.TheVariants.{Take}
 use Rattle.gh_schedules.proofs.Acting.{IsDone, IsJudged, acted_allows, acting_leads}
-use Rattle.gh_schedules.proofs.Blocks.{IsFreeAt, new_free}
+use Rattle.gh_schedules.proofs.Blocks.{IsNewIndex, new_at}
 use Rattle.gh_schedules.proofs.Commits.{IsActive}
 use Rattle.gh_events.proofs.EntryMoves.{indices_of}
 use Rattle.gh_events.proofs.ValidEntries.{event_fits}
@@ -60,6 +60,7 @@ use Rattle.gh_schedules.proofs.SweepSteps.{IsScanned, IsSweeping}
 use Rattle.gh_schedules.proofs.TraceLaws.{Leads, leads_none, leads_so, leads_then}
 use Rattle.gh_schedules.proofs.TraceSound.{trace_nine}
 use Rattle.gh_schedules.proofs.TurnItems.{HasActed, HasEnded, free_leads, may_take, take_begins, take_leads}
+use Rattle.gh_schedules.specs.Places.{places_of}
 
 -- a refusal ends the act
 
@@ -215,13 +216,13 @@ module _ (at : ℕ) (call : Current) where
   -- and its index is free
   pub new_is_free : (conf : Config) (prepared : IsPrepared conf at call) (done : IsDone conf at call prepared.judges)
       → (makes : MakesOne (present conf) (logged (Acted (cpu_no at) call.given.number) call))
-      → IsFreeIndex conf (new_index (present conf) conf.index makes.new.kind (grant 0).0)
+      → IsFreeIndex conf (new_index (present conf) (places_of conf) conf.index (grant 0).0)
   new_is_free conf prepared done makes =
       let active : IsActive conf at prepared.judges.holder call = prepared.judges.active in
-      let free : IsFreeAt (present conf) conf.index (new_index (present conf) conf.index makes.new.kind (grant 0).0) =
-      new_free (present conf) conf.index active.sound.valid.valid (indices_of conf active.sound.references active.sound.state.within) active.blocks
+      let new : IsNewIndex (present conf) conf.index (places_of conf (grant 0).0) (new_index (present conf) (places_of conf) conf.index (grant 0).0) =
+      new_at (present conf) (places_of conf) conf.index active.sound.valid.valid active.blocks
       (new_object (present conf) (grant 0) makes.new.kind) (may_make conf prepared done makes).first in
-      record { within = free.within; uninhabited = free.uninhabited }
+      record { within = new.free.within; uninhabited = new.free.uninhabited }
 
   -- the entry, and the end
   finishes : (conf : Config) → IsPrepared conf at call → Leads conf (acting at conf) (λ new. HasActed new at)
@@ -240,7 +241,7 @@ module _ (at : ℕ) (call : Current) where
 
 module _ (conf : Config) (at : ℕ) (sound : IsSound conf)
     (nine : KeepsNine conf.history) (is_cpu : at < CPUS) (free : conf.turn ≡ None) (call : Current)
-    (is : ready (conf.cpu at) ≡ Some call) (blocks : InBlocks (present conf) conf.index) where
+    (is : ready (conf.cpu at) ≡ Some call) (blocks : InBlocks (present conf) (places_of conf) conf.index) where
   abbrev Taken : Config
   Taken = taken conf at
 
@@ -251,7 +252,7 @@ module _ (conf : Config) (at : ℕ) (sound : IsSound conf)
   begins = take_begins conf at sound is_cpu free call is
 
   prepared : Leads Taken (preparing at Taken) (λ new. IsPrepared new at begins.call)
-  prepared = preparing_leads at begins.call Taken (is_sweeping Taken at taken_sound is_cpu (record { partitions = blocks.partitions; others = blocks.others }) begins) nine
+  prepared = preparing_leads at begins.call Taken (is_sweeping Taken at taken_sound is_cpu (record { apart = blocks.apart; few = blocks.few; each = blocks.each }) begins) nine
 
   rest_leads : Leads Taken (and_then (preparing at) (and_then (acting at) (and_then (freeing at) (unpins at))) Taken) (HasEnded at)
   rest_leads =

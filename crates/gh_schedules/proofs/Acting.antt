@@ -32,7 +32,7 @@ use Rattle.gh_events.specs.Sound.{IsSound}
 use Rattle.gh_events.specs.TurnEvents.{acted_ending, ending}
 use Rattle.gh_events.specs.ValidState as fits
 use Rattle.gh_events.specs.ValidState.{CpuFits, IsExiting, MayRun}
-use Rattle.gh_schedules.proofs.BlocksStay.{plain_blocks}
+use Rattle.gh_schedules.proofs.BlocksStay.{plain_blocks, entered_blocks, places_next}
 use Rattle.gh_schedules.proofs.Commits.{IsActive, IsCommitted, entered_by, plain_commits}
 use Rattle.gh_events.proofs.EntryKeeps.{some_of}
 use Rattle.gh_schedules.proofs.EntryReferences.{MakesNone, MakesOne, Objects, event_objects}
@@ -166,7 +166,7 @@ module _ (conf : Config) (at : ℕ) (call : Current) (judges : IsJudged conf at 
 
   pub has_acted_there : (later : ℕ → ℕ) (dead : ℕ → Bool) (revived : List ℕ) (new : Config) → IsDone
       → NoneKilled (history.after_event (present conf) (logged entry call)) later dead
-      → InBlocks (history.after_event (present conf) (logged entry call)) later
+      → InBlocks (history.after_event (present conf) (logged entry call)) (places_next conf (logged entry call)) later
       → IsCommitted conf holder entry call later dead revived new → HasActed new at
   has_acted_there later dead revived new done none blocks committed =
       subst (λ (there : Config). HasActed there at) (sym committed.is) record {
@@ -179,7 +179,7 @@ module _ (conf : Config) (at : ℕ) (call : Current) (judges : IsJudged conf at 
         owes_nothing = committed.owes;
         none_killed = subst (λ (s : State). NoneKilled s later dead) (sym grown) none;
         has_ended = ending_there later committed.cap committed.count dead revived committed.owed done;
-        blocks = subst (λ (s : State). InBlocks s later) (sym grown) blocks;
+        blocks = entered_blocks conf (logged entry call) later blocks;
       }
 
   -- an act that makes no object
@@ -201,7 +201,7 @@ module _ (conf : Config) (at : ℕ) (call : Current) (judges : IsJudged conf at 
     plain_acts done =
         leads_so conf (committing at entry conf) (IsCommitted conf holder entry call conf.index conf.dead holder.revived) (λ new. HasActed new at)
         (plain_commits conf at entry holder call judges.active (acted_allows done) makes)
-        (λ new committed. has_acted_there conf.index conf.dead holder.revived new done none_plain (plain_blocks (present conf) (logged entry call) conf.index makes judges.active.blocks) committed)
+        (λ new committed. has_acted_there conf.index conf.dead holder.revived new done none_plain (plain_blocks conf (logged entry call) conf.index makes judges.active.blocks) committed)
 
   -- what an act that is refused ends with
   refused_acts : is_some (ending conf at holder call) ≡ true → HasActed conf at

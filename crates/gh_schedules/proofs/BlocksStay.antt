@@ -1,14 +1,15 @@
 -- Objects stay in the blocks of their partitions: no entry changes an object's kind or partition.
-use Rattle.std.proofs.Common.{◌≡◌, ◌%◌, ◌∙◌, inl, inr, ℕ, Bool, true, false, List, [], ◌∷◌, refl, subst, sym, ap, IsTrue, Option, Some, None, find, is_some, if◌then◌else◌}
+use Rattle.std.proofs.Common.{◌≡◌, ◌%◌, ◌∙◌, inl, inr, ℕ, Bool, true, false, List, [], ◌∷◌, refl, subst, sym, ap, IsTrue, Option, Some, None, find, is_some, if◌then◌else◌, ◌++◌, ◌<◌}
 use Rattle.std.specs.Prelude.{◌&&◌, option_map}
 use Rattle.std.specs.List.{list_all}
 use Rattle.std.proofs.lemmas.Bool.{and_parts, eqb-true}
+use Rattle.std.proofs.lemmas.List.Sums.{fold-append}
 use Rattle.gh_base.specs.declared.ids.Serial.{Serial}
 use Rattle.gh_base.specs.declared.kind.Kind.{Kind}
 use Rattle.gh_model.specs.Act.{counted, grants_of}
 use Rattle.gh_model.specs.Changes.{changed, changed_all, reclaim_object, retire_object, with_cost, with_counters, with_stage}
 use Rattle.gh_model.specs.Decide.{has_moved, verdict}
-use Rattle.gh_model.specs.History.{Event, after_entry, after_event, after_verdict, is_retired, is_unretired, may_act, may_part, numbered}
+use Rattle.gh_model.specs.History.{Event, after_entry, after_event, after_verdict, is_retired, is_unretired, may_act, may_part, numbered, replay}
 use Rattle.gh_model.specs.Legal.{is_revoke}
 use Rattle.gh_model.specs.References.{is_doomed}
 use Rattle.gh_model.specs.Rows.{change_row, fills, is_object, object_row}
@@ -20,16 +21,18 @@ use Rattle.gh_model.specs.declared.entry.Entry.{Entry}
 use Rattle.gh_model.specs.declared.entry.Entry.TheVariants.{Acted, Part, Retired, Reclaimed}
 use Rattle.gh_model.specs.declared.rows.ObjectRow.{ObjectRow}
 use Rattle.gh_model.specs.declared.state.State.{State}
-use Rattle.gh_invariant.specs.Events.{entry_changes, judged_by, made_by}
+use Rattle.gh_invariant.specs.Events.{entry_changes, judged_by, made_by, changes_of}
 use Rattle.gh_invariant.proofs.ChangedRow.{find_change_seen}
 use Rattle.gh_invariant.proofs.SetsOne.{keeps_objects}
-use Rattle.gh_schedules.specs.Committing.{added}
-use Rattle.gh_schedules.specs.Indices.{InBlocks, is_partition_kind, place_of}
+use Rattle.gh_schedules.specs.Places.{added, is_partition_kind, boot_place, places_behind, places_of, places_with}
+use Rattle.gh_schedules.specs.Indices.{InBlocks, place_of}
 use Rattle.gh_events.specs.References.{IsRow}
 use Rattle.gh_schedules.proofs.CallMakes.{Makes, decision_makes, keeps_all}
 use Rattle.gh_schedules.proofs.EntryReferences.{MakesNone}
 use Rattle.gh_events.proofs.Finding.{found_passes}
 use Rattle.gh_events.proofs.GraceReclaim.{Changed, Kept, RowBehind, reclaim_row}
+use Rattle.gh_base.specs.declared.limits.TheConstants.{PARTITIONS}
+use Rattle.gh_events.specs.Config.{Config, present}
 
 -- what stays of an object: its kind and its partition
 record Lot : Type 0 where
@@ -151,15 +154,55 @@ old_by s row (Some old) is same =
       lot_is = let lots : lot_of row ≡ lot_of old = cc in sym lots;
     }
 
+-- the places behind one more event
+places_push : (s : State) (places : ℕ → ℕ) (events : List Event) (event : Event)
+    → places_behind s places (events ++ event ∷ [])
+    ≡ places_with (replay s events) (places_behind s places events) (added (changes_of (replay s events) event))
+unfolding places_behind
+places_push s places [] event = refl
+places_push s places (first ∷ events) event =
+    places_push (after_event s first) (places_with s places (added (changes_of s first))) events event
+
+-- the places behind an event of the present state
+abbrev pub places_next : Config → Event → ℕ → ℕ
+places_next conf event = places_with (present conf) (places_of conf) (added (changes_of (present conf) event))
+
+-- objects lie in their blocks behind an entry, where they lie so in the state that it makes
+pub entered_blocks : (conf : Config) (event : Event) (index : ℕ → ℕ)
+    → InBlocks (after_event (present conf) event) (places_next conf event) index
+    → InBlocks (replay conf.boot (conf.history ++ event ∷ [])) (places_behind conf.boot (boot_place conf.boot) (conf.history ++ event ∷ [])) index
+entered_blocks conf event index blocks =
+    subst (λ (places : ℕ → ℕ). InBlocks (replay conf.boot (conf.history ++ event ∷ [])) places index)
+    (sym (places_push conf.boot (boot_place conf.boot) conf.history event))
+    (subst (λ (s : State). InBlocks s (places_next conf event) index) (sym (fold-append after_event conf.boot conf.history (event ∷ []))) blocks)
+
 -- objects stay in their blocks
-pub plain_blocks : (s : State) (event : Event) (index : ℕ → ℕ) → MakesNone s event → InBlocks s index
-    → InBlocks (after_event s event) index
-plain_blocks s event index makes blocks = record {
-  partitions = λ row is part. let one : OldRow s row = old_row row is in subst (λ (n : ℕ). index n % 128 ≡ 0) one.same (blocks.partitions one.old one.is_old (ap (λ (its : Lot). is_partition_kind its.kind) one.lot_is ∙ part));
-  others = λ row is other. let one : OldRow s row = old_row row is in ap (λ (n : ℕ). place_of (index n)) (sym one.same) ∙ blocks.others one.old one.is_old (ap (λ (its : Lot). is_partition_kind its.kind) one.lot_is ∙ other) ∙ ap (λ (its : Lot). place_of (index its.partition.0)) one.lot_is;
+stay_blocks : (s : State) (event : Event) (places index : ℕ → ℕ) → MakesNone s event → InBlocks s places index
+    → InBlocks (after_event s event) places index
+stay_blocks s event places index makes blocks = record {
+  apart = λ row other is also part too same.
+      let one : OldRow s row = old_row row is in
+      let two : OldRow s other = old_row other also in
+      sym one.same ∙ blocks.apart one.old two.old one.is_old two.is_old (of_kind row one part) (of_kind other two too) (ap places one.same ∙ same ∙ sym (ap places two.same)) ∙ two.same;
+  few = λ row is part.
+      let one : OldRow s row = old_row row is in
+      subst (λ (n : ℕ). places n < PARTITIONS) one.same (blocks.few one.old one.is_old (of_kind row one part));
+  each = λ row is.
+      let one : OldRow s row = old_row row is in
+      ap (λ (n : ℕ). place_of (index n)) (sym one.same) ∙ blocks.each one.old one.is_old ∙ ap (λ (its : Lot). places its.partition.0) one.lot_is;
 }
   where
     old_row : (row : ObjectRow) → IsRow (after_event s event) row → OldRow s row
     old_row row is =
         old_by s row (object_row s row.serial.0) refl
         (sym (ap (option_map lot_of) is) ∙ entry_lot s event event.entry row.serial.0 makes.none (ap is_some is))
+
+    of_kind : (row : ObjectRow) (one : OldRow s row) → is_partition_kind row.kind ≡ true → is_partition_kind one.old.kind ≡ true
+    of_kind row one part = ap (λ (its : Lot). is_partition_kind its.kind) one.lot_is ∙ part
+
+pub plain_blocks : (conf : Config) (event : Event) (index : ℕ → ℕ) → MakesNone (present conf) event
+    → InBlocks (present conf) (places_of conf) index → InBlocks (after_event (present conf) event) (places_next conf event) index
+plain_blocks conf event index makes blocks =
+    subst (λ (places : ℕ → ℕ). InBlocks (after_event (present conf) event) places index)
+    (sym (ap (places_with (present conf) (places_of conf)) makes.none))
+    (stay_blocks (present conf) event (places_of conf) index makes blocks)

@@ -22,7 +22,8 @@ use Rattle.gh_invariant.specs.Lives.{lives}
 use Rattle.gh_invariant.proofs.Counting.{count_cons}
 use Rattle.gh_invariant.proofs.EventWords.{event_sets_few}
 use Rattle.gh_invariant.proofs.EventsKept.{event_valid}
-use Rattle.gh_schedules.specs.Committing.{commits_of, committing, cpu_no, entry_event, gains_owed, index_no, is_made, losses_settled, revives, slot_word, with_new, added}
+use Rattle.gh_schedules.specs.Committing.{commits_of, committing, cpu_no, entry_event, gains_owed, index_no, is_made, losses_settled, revives, slot_word, with_new}
+use Rattle.gh_schedules.specs.Places.{added, places_of}
 use Rattle.gh_base.specs.CapWord.{object_of}
 use Rattle.gh_model.specs.Word.{word_at}
 use Rattle.gh_events.specs.Config.{AtAct, Config, Current, HasTurn, Holder, IsIn, OwesNothing, live_references, present, put, references_at}
@@ -123,7 +124,7 @@ pub record IsActive (conf : Config) (at : ℕ) (holder : Holder) (call : Current
   pub owes_nothing : OwesNothing holder
   pub unrevived : holder.revived ≡ []
   -- and objects lie in the blocks of their partitions
-  pub blocks : InBlocks (present conf) conf.index
+  pub blocks : InBlocks (present conf) (places_of conf) conf.index
 
 -- the holder has one more entry, and these indices are revived
 abbrev pub entered_by : Holder → Entry → List ℕ → (ℕ → ℕ) → Holder
@@ -410,8 +411,8 @@ module _ (conf : Config) (at : ℕ) (entry : Entry) (holder : Holder) (call : Cu
     made_leads : (made : Option ObjectRow) → added changes ≡ made → made ≡ None
         → Leads conf
         (gains_owed at s conf.index (gained s changes)
-        ++ (revives at s conf.index (gained s changes) made
-        ++ (entry_event at entry new conf.index (with_new s conf.index made) (slot_set changes) ∷ losses_settled at conf.index (lost s changes))))
+        ++ (revives at s (places_of conf) conf.index (gained s changes) made
+        ++ (entry_event at entry new conf.index (with_new s (places_of conf) conf.index made) (slot_set changes) ∷ losses_settled at conf.index (lost s changes))))
         (IsCommitted conf holder entry call conf.index conf.dead holder.revived)
     made_leads (Some row) is none = absurd (let never : ⊥ = cc in never)
     made_leads None is none =

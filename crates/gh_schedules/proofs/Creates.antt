@@ -14,7 +14,7 @@ use Rattle.gh_base.specs.declared.cap_word.CapWord.{CapWord}
 use Rattle.gh_base.specs.declared.ids.Serial.{Serial}
 use Rattle.gh_base.specs.declared.kind.Kind.{Kind}
 use Rattle.gh_base.specs.declared.kind.Kind.TheVariants as kind
-use Rattle.gh_base.specs.declared.limits.TheConstants.{OBJECT_INDICES}
+use Rattle.gh_base.specs.declared.limits.TheConstants.{OBJECT_INDICES, PARTITIONS}
 use Rattle.gh_model.specs.Act.{grants_of}
 use Rattle.gh_model.specs.Changes.{changed, changed_all}
 use Rattle.gh_model.specs.Decisions.{grant_at}
@@ -48,12 +48,13 @@ use Rattle.gh_invariant.proofs.EventsKept.{event_valid}
 use Rattle.gh_invariant.proofs.FactLemmas.{entry_word}
 use Rattle.gh_invariant.proofs.NotLiving.{not_living}
 use Rattle.gh_invariant.proofs.WordsLeft.{slot_set, word_set}
-use Rattle.gh_schedules.specs.Committing.{added, commits_of, committing, cpu_no, entry_event, gains_owed, index_no, is_made, losses_settled, revives, slot_word, with_new}
+use Rattle.gh_schedules.specs.Committing.{commits_of, committing, cpu_no, entry_event, gains_owed, index_no, is_made, losses_settled, revives, slot_word, with_new}
+use Rattle.gh_schedules.specs.Places.{added, is_partition_kind, new_place, places_of, places_with}
 use Rattle.gh_events.specs.Config.{Config, Current, Holder, is_killed, object_at, present, put, references_at}
 use Rattle.gh_events.specs.Entries.{Allows, Covers, index_after, is_that_index, logged, makes_object, owed_after, row_shown, shown}
 use Rattle.gh_events.specs.Entries as entries
 use Rattle.gh_events.specs.HolderEvents.{MayRevive, is_done}
-use Rattle.gh_schedules.specs.Indices.{InBlocks, IsFreeIndex, is_partition_kind, new_index, place_of}
+use Rattle.gh_schedules.specs.Indices.{InBlocks, IsFreeIndex, new_index, place_of}
 use Rattle.gh_events.specs.Sound.{IsSound}
 use Rattle.gh_schedules.specs.Trace.{after_all}
 use Rattle.gh_events.specs.TurnEvents.{MaySetCap, committed_by, put_word, set_cap}
@@ -62,7 +63,8 @@ use Rattle.gh_events.specs.declared.event.Event.{Event}
 use Rattle.gh_events.specs.declared.event.Event.TheVariants.{Revive, SetCap}
 use Rattle.gh_events.proofs.ActFits.{grants_made}
 use Rattle.gh_schedules.proofs.Acting.{IsDone, IsJudged, acted_allows, has_acted_there}
-use Rattle.gh_schedules.proofs.Blocks.{new_first, new_place}
+use Rattle.gh_schedules.proofs.Blocks.{IsNewIndex, IsNewPlace, new_at, new_placed}
+use Rattle.gh_schedules.proofs.BlocksStay.{places_next}
 use Rattle.gh_schedules.proofs.ChangeLives.{AllLive, gains_live, lives_here}
 use Rattle.gh_schedules.proofs.Commits.{IsActive, IsCommitted, entered_by, gains_lead, owed_serials}
 use Rattle.gh_schedules.proofs.Commits as commits
@@ -112,7 +114,7 @@ few_rights kind.Queue = omega arith
 
 module _ (conf : Config) (at : ℕ) (call : Current) (judges : IsJudged conf at call) (done : IsDone conf at call judges)
     (makes : MakesOne (present conf) (logged (Acted (cpu_no at) call.given.number) call))
-    (free : IsFreeIndex conf (new_index (present conf) conf.index makes.new.kind (grant_at (grants_of call.given.call (map word_of call.seen)) 0).0))
+    (free : IsFreeIndex conf (new_index (present conf) (places_of conf) conf.index (grant_at (grants_of call.given.call (map word_of call.seen)) 0).0))
   where
     abbrev s : State
     s = present conf
@@ -150,8 +152,11 @@ module _ (conf : Config) (at : ℕ) (call : Current) (judges : IsJudged conf at 
     abbrev next : ℕ
     next = s.next_serial
 
+    abbrev places : ℕ → ℕ
+    places = places_of conf
+
     abbrev home : ℕ
-    home = new_index s conf.index makes.new.kind (grant 0).0
+    home = new_index s places conf.index (grant 0).0
 
     abbrev later : ℕ → ℕ
     later = put conf.index next home
@@ -422,39 +427,86 @@ module _ (conf : Config) (at : ℕ) (call : Current) (judges : IsJudged conf at 
         sym (find_push_other (is_object one.serial.0) s.objects row (let other : (next == one.serial.0) ≡ false = grind (arith, nat_tests) in other))
         ∙ sym (ap (find (is_object one.serial.0)) objects_are) ∙ is
 
-    home_kept : (one : ObjectRow) → object_row s one.serial.0 ≡ Some one → later one.partition.0 ≡ conf.index one.partition.0
-    home_kept one is =
-        let its : HomeOf s valid one = lives_in_home s valid one is in
-        subst (λ (n : ℕ). later n ≡ conf.index n) its.that (later_old its.home.serial.0 (active.sound.state.given its.home.serial.0 (ap is_some its.is_row)))
-
     row_kept : (one : ObjectRow) → object_row s one.serial.0 ≡ Some one → later one.serial.0 ≡ conf.index one.serial.0
     row_kept one is = later_old one.serial.0 (active.sound.state.given one.serial.0 (ap is_some is))
-
-    partition_kept : later (grant 0).0 ≡ conf.index (grant 0).0
-    partition_kept =
-        later_old (grant 0).0 (active.sound.state.given (grant 0).0 (lives_any s.objects (grant 0).0 kind.Partition may_change.first.partition))
 
     same_row : (one : ObjectRow) → object_row new one.serial.0 ≡ Some one → one.serial.0 ≡ next → row ≡ one
     same_row one is that =
         let both : Some row ≡ Some one = sym (ap (object_row new) that ∙ new_row) ∙ is in cc
 
-    parts_fit : (one : ObjectRow) → object_row new one.serial.0 ≡ Some one → is_partition_kind one.kind ≡ true → later one.serial.0 % 128 ≡ 0
-    parts_fit one is part =
-        elim (eqb_tells one.serial.0 next) as (λ _. later one.serial.0 % 128 ≡ 0) [
-          | inl same ↦ subst (λ (n : ℕ). n % 128 ≡ 0) (sym (ap later same.1 ∙ later_next)) (new_first s conf.index valid births.indices active.blocks row may_change.first (ap (λ (its : ObjectRow). is_partition_kind its.kind) (same_row one is same.1) ∙ part))
-          | inr differs ↦ let was : object_row s one.serial.0 ≡ Some one = old_row one is differs.0 in subst (λ (n : ℕ). n % 128 ≡ 0) (sym (row_kept one was)) (active.blocks.partitions one was part)
+    -- the new object is noted with a place
+    abbrev noted : ℕ → ℕ
+    noted = put places next (new_place s places)
+
+    noted_here : (one : ObjectRow) → one.serial.0 ≡ next → noted one.serial.0 ≡ new_place s places
+    noted_here one same = ap noted same ∙ put_here places next (new_place s places)
+
+    noted_old : (object : ℕ) → object < next → noted object ≡ places object
+    noted_old object below = put_other places next (new_place s places) object (let other : (object == next) ≡ false = grind (arith, nat_tests) in other)
+
+    noted_row : (one : ObjectRow) → object_row s one.serial.0 ≡ Some one → noted one.serial.0 ≡ places one.serial.0
+    noted_row one is = noted_old one.serial.0 (active.sound.state.given one.serial.0 (ap is_some is))
+
+    noted_home : (one : ObjectRow) → object_row s one.serial.0 ≡ Some one → noted one.partition.0 ≡ places one.partition.0
+    noted_home one is =
+        let its : HomeOf s valid one = lives_in_home s valid one is in
+        subst (λ (n : ℕ). noted n ≡ places n) its.that (noted_old its.home.serial.0 (active.sound.state.given its.home.serial.0 (ap is_some its.is_row)))
+
+    partition_noted : noted (grant 0).0 ≡ places (grant 0).0
+    partition_noted =
+        noted_old (grant 0).0 (active.sound.state.given (grant 0).0 (lives_any s.objects (grant 0).0 kind.Partition may_change.first.partition))
+
+    found_new : IsNewIndex s conf.index (places (grant 0).0) home
+    found_new = new_at s places conf.index valid active.blocks row may_change.first
+
+    -- a new partition has a place of its own
+    found_place : (one : ObjectRow) → row ≡ one → is_partition_kind one.kind ≡ true → IsNewPlace s places (new_place s places)
+    found_place one that part =
+        new_placed s places conf.index valid active.blocks row may_change.first (ap (λ (its : ObjectRow). is_partition_kind its.kind) that ∙ part)
+
+    abbrev Parted : ObjectRow → ObjectRow → Type 0
+    Parted one other = noted one.serial.0 ≡ noted other.serial.0 → one.serial.0 ≡ other.serial.0
+
+    parted_new : (one other : ObjectRow) → object_row new one.serial.0 ≡ Some one → one.serial.0 ≡ next → is_partition_kind one.kind ≡ true
+        → object_row s other.serial.0 ≡ Some other → is_partition_kind other.kind ≡ true → noted one.serial.0 ≡ noted other.serial.0 → ⊥
+    parted_new one other is that part was too same =
+        (found_place one (same_row one is that) part).alone other was too (sym (noted_row other was) ∙ sym same ∙ noted_here one that)
+
+    apart_fit : (one other : ObjectRow) → object_row new one.serial.0 ≡ Some one → object_row new other.serial.0 ≡ Some other
+        → is_partition_kind one.kind ≡ true → is_partition_kind other.kind ≡ true → Parted one other
+    apart_fit one other is also part too =
+        elim (eqb_tells one.serial.0 next) as (λ _. Parted one other) [
+          | inl first ↦ elim (eqb_tells other.serial.0 next) as (λ _. Parted one other) [
+            | inl second ↦ λ same. first.1 ∙ sym second.1
+            | inr differs ↦ λ same. absurd (parted_new one other is first.1 part (old_row other also differs.0) too same)
+          ]
+          | inr apart ↦ elim (eqb_tells other.serial.0 next) as (λ _. Parted one other) [
+            | inl second ↦ λ same. absurd (parted_new other one also second.1 too (old_row one is apart.0) part (sym same))
+            | inr differs ↦ λ same.
+              let was : object_row s one.serial.0 ≡ Some one = old_row one is apart.0 in
+              let were : object_row s other.serial.0 ≡ Some other = old_row other also differs.0 in
+              active.blocks.apart one other was were part too (sym (noted_row one was) ∙ same ∙ noted_row other were)
+          ]
         ]
 
-    others_fit : (one : ObjectRow) → object_row new one.serial.0 ≡ Some one → is_partition_kind one.kind ≡ false
-        → place_of (later one.serial.0) ≡ place_of (later one.partition.0)
-    others_fit one is other =
-        elim (eqb_tells one.serial.0 next) as (λ _. place_of (later one.serial.0) ≡ place_of (later one.partition.0)) [
-          | inl same ↦ let that : row ≡ one = same_row one is same.1 in ap place_of (ap later same.1 ∙ later_next) ∙ new_place s conf.index valid births.indices active.blocks row may_change.first (ap (λ (its : ObjectRow). is_partition_kind its.kind) that ∙ other) ∙ ap place_of (sym partition_kept) ∙ ap (λ (its : ObjectRow). place_of (later its.partition.0)) that
-          | inr differs ↦ let was : object_row s one.serial.0 ≡ Some one = old_row one is differs.0 in ap place_of (row_kept one was) ∙ active.blocks.others one was other ∙ ap place_of (sym (home_kept one was))
+    few_fit : (one : ObjectRow) → object_row new one.serial.0 ≡ Some one → is_partition_kind one.kind ≡ true → noted one.serial.0 < PARTITIONS
+    few_fit one is part =
+        elim (eqb_tells one.serial.0 next) as (λ _. noted one.serial.0 < PARTITIONS) [
+          | inl same ↦ subst (λ (n : ℕ). n < PARTITIONS) (sym (noted_here one same.1)) (found_place one (same_row one is same.1) part).within
+          | inr differs ↦ let was : object_row s one.serial.0 ≡ Some one = old_row one is differs.0 in subst (λ (n : ℕ). n < PARTITIONS) (sym (noted_row one was)) (active.blocks.few one was part)
         ]
 
-    new_blocks : InBlocks new later
-    new_blocks = record { partitions = parts_fit; others = others_fit }
+    each_fit : (one : ObjectRow) → object_row new one.serial.0 ≡ Some one → place_of (later one.serial.0) ≡ noted one.partition.0
+    each_fit one is =
+        elim (eqb_tells one.serial.0 next) as (λ _. place_of (later one.serial.0) ≡ noted one.partition.0) [
+          | inl same ↦ ap place_of (ap later same.1 ∙ later_next) ∙ found_new.there ∙ sym partition_noted ∙ ap (λ (its : ObjectRow). noted its.partition.0) (same_row one is same.1)
+          | inr differs ↦ let was : object_row s one.serial.0 ≡ Some one = old_row one is differs.0 in ap place_of (row_kept one was) ∙ active.blocks.each one was ∙ sym (noted_home one was)
+        ]
+
+    new_blocks : InBlocks new (places_next conf event) later
+    new_blocks =
+        subst (λ (its : ℕ → ℕ). InBlocks new its later) (sym (ap (λ (made : List Change). places_with s places (added made)) made_is))
+        record { apart = apart_fit; few = few_fit; each = each_fit }
 
     -- behind the gains and the revival
 
@@ -640,14 +692,14 @@ module _ (conf : Config) (at : ℕ) (call : Current) (judges : IsJudged conf at 
 
     -- the events of the entry are these
     events_are : gains_owed at s conf.index (gained s changes)
-        ++ (revives at s conf.index (gained s changes) (added changes)
-        ++ (entry_event at entry new conf.index (with_new s conf.index (added changes)) (entries.slot_set changes)
+        ++ (revives at s places conf.index (gained s changes) (added changes)
+        ++ (entry_event at entry new conf.index (with_new s places conf.index (added changes)) (entries.slot_set changes)
         ∷ losses_settled at conf.index (lost s changes)))
         ≡ gains_owed at s conf.index (gained s changes) ++ rest_events
     events_are =
-        ap (λ (made : Option ObjectRow). gains_owed at s conf.index (gained s changes) ++ (revives at s conf.index (gained s changes) made ++ (entry_event at entry new conf.index (with_new s conf.index made) (entries.slot_set changes) ∷ losses_settled at conf.index (lost s changes)))) (ap added made_is)
-        ∙ ap (λ (set : Option (ℕ × ℕ)). gains_owed at s conf.index (gained s changes) ++ (revives at s conf.index (gained s changes) (Some row) ++ (entry_event at entry new conf.index later set ∷ losses_settled at conf.index (lost s changes)))) slot_is
-        ∙ ap (λ (losses : List Serial). gains_owed at s conf.index (gained s changes) ++ (revives at s conf.index (gained s changes) (Some row) ++ (SetCap (cpu_no at) entry (index_no (conf.index (grant 1).0)) makes.new.slot word ∷ losses_settled at conf.index losses))) lost_is
+        ap (λ (made : Option ObjectRow). gains_owed at s conf.index (gained s changes) ++ (revives at s places conf.index (gained s changes) made ++ (entry_event at entry new conf.index (with_new s places conf.index made) (entries.slot_set changes) ∷ losses_settled at conf.index (lost s changes)))) (ap added made_is)
+        ∙ ap (λ (set : Option (ℕ × ℕ)). gains_owed at s conf.index (gained s changes) ++ (revives at s places conf.index (gained s changes) (Some row) ++ (entry_event at entry new conf.index later set ∷ losses_settled at conf.index (lost s changes)))) slot_is
+        ∙ ap (λ (losses : List Serial). gains_owed at s conf.index (gained s changes) ++ (revives at s places conf.index (gained s changes) (Some row) ++ (SetCap (cpu_no at) entry (index_no (conf.index (grant 1).0)) makes.new.slot word ∷ losses_settled at conf.index losses))) lost_is
 
     -- the entry of a create is committed, and its object has the new index
     pub create_commits : Leads conf (committing at entry conf) Done

@@ -33,7 +33,7 @@ use Rattle.gh_invariant.proofs.EventWords.{entry_of_calls, event_may}
 use Rattle.gh_invariant.proofs.SetsOne.{is_of_calls, keeps_objects}
 use Rattle.gh_invariant.proofs.ValidKept.{valid_kept}
 use Rattle.gh_model.proofs.RoomLemmas.{change_counts}
-use Rattle.gh_schedules.specs.Committing.{added, adds}
+use Rattle.gh_schedules.specs.Places.{added, adds}
 use Rattle.gh_events.specs.Config.{is_acted}
 use Rattle.gh_events.specs.Entries.{or_else, slot_set}
 use Rattle.gh_events.specs.HolderEvents.{is_create}

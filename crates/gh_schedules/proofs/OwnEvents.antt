@@ -15,7 +15,8 @@ use Rattle.gh_model.specs.declared.state.State.{State}
 use Rattle.gh_invariant.specs.Effects.{gained, lost}
 use Rattle.gh_invariant.specs.Events.{changes_of}
 use Rattle.gh_events.specs.CallEvents.{has_needs}
-use Rattle.gh_schedules.specs.Committing.{added, commits, commits_of, committing, cpu_no, entry_event, gains_owed, is_made, owe, revives, settle, with_new}
+use Rattle.gh_schedules.specs.Committing.{commits, commits_of, committing, cpu_no, entry_event, gains_owed, is_made, owe, revives, settle, with_new}
+use Rattle.gh_schedules.specs.Places.{added, places_of}
 use Rattle.gh_events.specs.Config.{AtAct, Config, Cpu, Current, DeadPin, Failed, Given, Looked, Pin as Held, Reading, Stage, Undone, came_to, judged, object_at, present, put}
 use Rattle.gh_events.specs.Entries.{index_after, logged, next_state, slot_set}
 use Rattle.gh_events.specs.Events.{after}
@@ -138,25 +139,25 @@ module _ (at : ℕ) where
   by_test false events more own also = also
 
   -- an entry
-  revives_own : (s : State) (index : ℕ → ℕ) (gains : List Serial) (row : Option ObjectRow) → AreOwn at (revives at s index gains row)
-  revives_own s index gains None = refl
-  revives_own s index gains (Some row) = and_from _ _ this refl
+  revives_own : (s : State) (places index : ℕ → ℕ) (gains : List Serial) (row : Option ObjectRow) → AreOwn at (revives at s places index gains row)
+  revives_own s places index gains None = refl
+  revives_own s places index gains (Some row) = and_from _ _ this refl
 
   entry_own : (entry : Entry) (new : State) (index later : ℕ → ℕ) (place : Option (ℕ × ℕ))
       → maker (entry_event at entry new index later place) ≡ at
   entry_own entry new index later None = refl
   entry_own entry new index later (Some place) = refl
 
-  commits_own : (entry : Entry) (s new : State) (index : ℕ → ℕ) (changes : List Change) → AreOwn at (commits at entry s new index changes)
-  commits_own entry s new index changes =
+  commits_own : (entry : Entry) (s new : State) (places index : ℕ → ℕ) (changes : List Change) → AreOwn at (commits at entry s new places index changes)
+  commits_own entry s new places index changes =
       joined (gains_owed at s index (gained s changes)) _ (mapped (owe at index) (λ serial. refl) (filter (is_made s.next_serial) (gained s changes)))
-      (joined (revives at s index (gained s changes) (added changes)) _ (revives_own s index (gained s changes) (added changes))
-      (and_from _ _ (eq-eqb _ at (entry_own entry new index (with_new s index (added changes)) (slot_set changes)))
+      (joined (revives at s places index (gained s changes) (added changes)) _ (revives_own s places index (gained s changes) (added changes))
+      (and_from _ _ (eq-eqb _ at (entry_own entry new index (with_new s places index (added changes)) (slot_set changes)))
       (mapped (settle at index) (λ serial. refl) (lost s changes))))
 
   commits_by : (entry : Entry) (conf : Config) (call : Option Current) → AreOwn at (commits_of at entry conf call)
   commits_by entry conf None = refl
-  commits_by entry conf (Some call) = commits_own entry (present conf) (next_state conf call entry) conf.index (changes_of (present conf) (logged entry call))
+  commits_by entry conf (Some call) = commits_own entry (present conf) (next_state conf call entry) (places_of conf) conf.index (changes_of (present conf) (logged entry call))
 
   committing_own : (entry : Entry) → IsOwn (committing at entry)
   unfolding committing

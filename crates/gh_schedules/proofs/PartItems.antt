@@ -40,6 +40,7 @@ use Rattle.gh_schedules.proofs.KilledNone.{NoneKilled, none_some}
 use Rattle.gh_schedules.proofs.Revokes.{AreTaken, NextPart, Parted, next_is, one_fewer, parted_is, revoke_decision, slot_of, some_next, taken_more, unfinished_left}
 use Rattle.gh_schedules.proofs.SweepSteps.{no_object, none_acted}
 use Rattle.gh_schedules.proofs.TraceLaws.{Leads, leads_none, leads_so, leads_then}
+use Rattle.gh_schedules.proofs.BlocksStay.{entered_blocks, plain_blocks}
 
 -- the object of a revoke
 
@@ -181,7 +182,7 @@ module _ (conf : Config) (at : ℕ) (call : Current) (revoking : IsRevoking conf
             in_act = revoking.judged.active.in_act;
             owes_nothing = none;
             unrevived = revoking.judged.active.unrevived;
-            blocks = subst (λ (now : State). InBlocks now conf.index) (sym grown) (record { partitions = revoking.judged.active.blocks.partitions; others = revoking.judged.active.blocks.others });
+            blocks = entered_blocks conf (logged entry call) conf.index (plain_blocks conf (logged entry call) conf.index (no_object conf at entry holder call revoking.judged.active part_allows refl) revoking.judged.active.blocks);
           };
           not_acted = none_acted holder.entries entry is_acted revoking.judged.not_acted refl;
           none_killed = subst (λ (now : State). NoneKilled now conf.index conf.dead) (sym grown) (λ serial. revoking.judged.none_killed serial);

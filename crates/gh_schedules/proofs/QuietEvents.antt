@@ -29,7 +29,7 @@ same_blocks : (conf new : Config) → new.boot ≡ conf.boot → new.history ≡
 same_blocks conf new boot log index blocks =
     subst (λ (its : ℕ → ℕ). HasBlocks (record new { index = its })) (sym index)
     (subst (λ (events : List history.Event). HasBlocks (record new { index = conf.index; history = events })) (sym log)
-    (subst (λ (state : State). HasBlocks (record new { index = conf.index; history = conf.history; boot = state })) (sym boot) (record { partitions = blocks.partitions; others = blocks.others })))
+    (subst (λ (state : State). HasBlocks (record new { index = conf.index; history = conf.history; boot = state })) (sym boot) (record { apart = blocks.apart; few = blocks.few; each = blocks.each })))
 
 failed_blocks : (conf : Config) (object : ℕ) (found : Option ObjectRow) → HasBlocks conf → HasBlocks (kill_failed conf object found)
 failed_blocks conf object None blocks = blocks

@@ -24,7 +24,8 @@ use Rattle.gh_invariant.specs.Valid.{IsValid}
 use Rattle.gh_invariant.proofs.BootValid.{boot_valid}
 use Rattle.gh_invariant.proofs.Counting.{count_cons, found_all, one_false, one_true}
 use Rattle.gh_invariant.proofs.Referred.{found_counted}
-use Rattle.gh_schedules.specs.Indices.{boot_index, boot_place, is_partition_kind, row_index}
+use Rattle.gh_schedules.specs.Indices.{boot_index, row_index}
+use Rattle.gh_schedules.specs.Places.{boot_place, is_partition_kind}
 use Rattle.gh_events.specs.References.{IsRow}
 use Rattle.gh_events.specs.Start.{AreIndices}
 use Rattle.gh_schedules.proofs.EntryBalance.{lives_some}
@@ -235,6 +236,14 @@ module _ (s : State) (valid : IsValid s) where
 
   pub index_of : (row : ObjectRow) → IsRow s row → boot_index s row.serial.0 ≡ row_index s row
   index_of row is = ap (λ (found : Option ObjectRow). option_map_or (row_index s) found 0) is
+
+  -- a partition's place is the number of earlier ones
+  pub place_within : (row : ObjectRow) → IsRow s row → is_partition_kind row.kind ≡ true → boot_place s row.serial.0 < PARTITIONS
+  place_within row is part = omega (arith, rank_below in_partition s.objects row is part, few_partitions)
+
+  pub place_alone : (row other : ObjectRow) → IsRow s row → IsRow s other → is_partition_kind row.kind ≡ true → is_partition_kind other.kind ≡ true
+      → boot_place s row.serial.0 ≡ boot_place s other.serial.0 → row.serial.0 ≡ other.serial.0
+  place_alone row other is also part too same = same_rank in_partition s.objects row other is also part too same
 
   -- every object that lives has an index that there is, its own
   pub ranked_indices : AreIndices s (boot_index s)

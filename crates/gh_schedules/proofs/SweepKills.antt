@@ -79,7 +79,7 @@ scanned_on conf at call sweeping new has =
           in_act = sweeping.active.in_act;
           owes_nothing = sweeping.active.owes_nothing;
           unrevived = sweeping.active.unrevived;
-          blocks = record { partitions = sweeping.active.blocks.partitions; others = sweeping.active.blocks.others };
+          blocks = record { apart = sweeping.active.blocks.apart; few = sweeping.active.blocks.few; each = sweeping.active.blocks.each };
         };
         not_acted = sweeping.not_acted;
         no_part = sweeping.no_part;
@@ -210,7 +210,7 @@ module _ (at : ℕ) (call : Current) (serial : Serial) where
               in_act = dying.active.in_act;
               owes_nothing = dying.active.owes_nothing;
               unrevived = dying.active.unrevived;
-              blocks = record { partitions = dying.active.blocks.partitions; others = dying.active.blocks.others };
+              blocks = record { apart = dying.active.blocks.apart; few = dying.active.blocks.few; each = dying.active.blocks.each };
             };
             not_acted = dying.not_acted;
             no_part = dying.no_part;
@@ -362,7 +362,7 @@ module _ (conf : Config) (at : ℕ) (call : Current) (serial : Serial) (scanned 
           in_act = scanned.sweeping.active.in_act;
           owes_nothing = scanned.sweeping.active.owes_nothing;
           unrevived = scanned.sweeping.active.unrevived;
-          blocks = record { partitions = scanned.sweeping.active.blocks.partitions; others = scanned.sweeping.active.blocks.others };
+          blocks = record { apart = scanned.sweeping.active.blocks.apart; few = scanned.sweeping.active.blocks.few; each = scanned.sweeping.active.blocks.each };
         };
         not_acted = scanned.sweeping.not_acted;
         no_part = scanned.sweeping.no_part;
@@ -395,7 +395,7 @@ module _ (conf : Config) (at : ℕ) (call : Current) (serial : Serial) (scanned 
             in_act = scanned.sweeping.active.in_act;
             owes_nothing = scanned.sweeping.active.owes_nothing;
             unrevived = scanned.sweeping.active.unrevived;
-            blocks = record { partitions = scanned.sweeping.active.blocks.partitions; others = scanned.sweeping.active.blocks.others };
+            blocks = record { apart = scanned.sweeping.active.blocks.apart; few = scanned.sweeping.active.blocks.few; each = scanned.sweeping.active.blocks.each };
           };
           not_acted = scanned.sweeping.not_acted;
           no_part = scanned.sweeping.no_part;

@@ -3,7 +3,7 @@ use Rattle.std.proofs.Common.{◌≡◌, ◌<◌, ◌∙◌, ℕ, true, subst, s
 use Rattle.gh_base.specs.declared.limits.TheConstants.{CPUS}
 use Rattle.gh_events.specs.Config.{Config, Holder, present}
 use Rattle.gh_schedules.specs.Causes.{causes_now}
-use Rattle.gh_schedules.specs.Indices.{InBlocks}
+use Rattle.gh_schedules.specs.Indices.{InBlocks, HasBlocks}
 use Rattle.gh_events.specs.Sound.{IsSound}
 use Rattle.gh_schedules.specs.Sweep.{HasNotBegun, KeepsNine, sweep}
 use Rattle.gh_schedules.specs.Trace.{AreDone, after_all}
@@ -13,9 +13,10 @@ use Rattle.gh_schedules.proofs.SweepRounds.{IsSwept, sweep_leads}
 use Rattle.gh_schedules.proofs.SweepSteps.{IsScanned, IsSweeping}
 use Rattle.gh_schedules.proofs.TraceLaws.{Leads}
 use Rattle.gh_schedules.proofs.TraceSound.{trace_nine}
+use Rattle.gh_schedules.specs.Places.{places_of}
 
 module _ (conf : Config) (at : ℕ) (sound : IsSound conf) (is_cpu : at < CPUS)
-    (blocks : InBlocks (present conf) conf.index) (begins : HasNotBegun conf at) where
+    (blocks : InBlocks (present conf) (places_of conf) conf.index) (begins : HasNotBegun conf at) where
   pub is_sweeping : IsSweeping conf at begins.call
   is_sweeping = record {
     holder = begins.holder;
@@ -54,7 +55,7 @@ module _ (conf : Config) (at : ℕ) (sound : IsSound conf) (is_cpu : at < CPUS)
   }
 
   -- objects still lie in their blocks
-  pub sweep_blocks : InBlocks (present (after_all conf (sweep at conf))) (after_all conf (sweep at conf)).index
+  pub sweep_blocks : HasBlocks (after_all conf (sweep at conf))
   sweep_blocks = leads.behind.0.sweeping.active.blocks
 
   -- and the act may begin behind it

@@ -32,7 +32,7 @@ use Rattle.gh_events.specs.Length.{EntriesCount, is_leaving, is_staying, makes_o
 use Rattle.gh_schedules.specs.Indices.{InBlocks}
 use Rattle.gh_events.specs.Sound.{IsSound}
 use Rattle.gh_schedules.specs.Sweep.{counters, have_left, has_left, is_left, may_reclaim, reclaiming}
-use Rattle.gh_schedules.proofs.BlocksStay.{plain_blocks}
+use Rattle.gh_schedules.proofs.BlocksStay.{plain_blocks, entered_blocks}
 use Rattle.gh_schedules.proofs.Commits.{IsActive, IsCommitted, entered_by, plain_commits}
 use Rattle.gh_schedules.proofs.EntryReferences.{MakesNone, Objects, event_objects}
 use Rattle.gh_events.proofs.GraceReclaim.{Changed, Kept, RowBehind, reclaim_row}
@@ -158,7 +158,7 @@ module _ (conf : Config) (at : ℕ) (call : Current) (entry : Entry) (holder : H
       in_act = active.in_act;
       owes_nothing = committed.owes;
       unrevived = active.unrevived;
-      blocks = subst (λ (st : State). InBlocks st conf.index) (sym grown) (plain_blocks (present conf) (logged entry call) conf.index (no_object conf at entry holder call active allows not_act) active.blocks);
+      blocks = entered_blocks conf (logged entry call) conf.index (plain_blocks conf (logged entry call) conf.index (no_object conf at entry holder call active allows not_act) active.blocks);
     };
     not_acted = none_acted holder.entries entry is_acted allows.not_acted not_act;
     no_part = none_acted holder.entries entry is_part no_part not_part;

@@ -3,6 +3,7 @@ pub mod Committing
 pub mod Course
 pub mod Indices
 pub mod Items
+pub mod Places
 pub mod Schedule
 pub mod Sweep
 pub mod Trace
