@@ -64,7 +64,7 @@ module _ (conf : Config) (at : ℕ) (call : Current) (next : ActsNext conf at ca
       cc
 
   sweeping : IsSweeping (taken conf at) at begins.call
-  sweeping = is_sweeping (taken conf at) at taken_sound next.is_cpu (record { partitions = next.steady.blocks.partitions; others = next.steady.blocks.others }) begins
+  sweeping = is_sweeping (taken conf at) at taken_sound next.is_cpu (record { apart = next.steady.blocks.apart; few = next.steady.blocks.few; each = next.steady.blocks.each }) begins
 
   pub taken_now : ((taken conf at).cpu at).current ≡ Some call
   taken_now = ap (λ (cpu : Cpu). cpu.current) (put_here conf.cpu at _) ∙ next.is_ready

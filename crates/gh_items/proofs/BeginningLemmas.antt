@@ -8,7 +8,7 @@ use Rattle.gh_base.specs.declared.ids.ObjIndex.{ObjIndex}
 use Rattle.gh_base.specs.declared.limits.TheConstants.{CPUS, OBJECT_INDICES}
 use Rattle.gh_core.specs.declared.current.CurrentCall.{CurrentCall}
 use Rattle.gh_events.specs.Start.{new_cpu, start}
-use Rattle.gh_items.specs.Beginning.{ArePlaced, new_seat}
+use Rattle.gh_items.specs.Beginning.{AreAllNoted, ArePlaced, new_seat}
 use Rattle.gh_items.specs.Stands.{SeatStands, Stands}
 use Rattle.gh_items.specs.declared.progress.Progress.{Progress}
 use Rattle.gh_items.specs.declared.progress.Seat.{Seat}
@@ -19,6 +19,7 @@ use Rattle.gh_model.specs.declared.boot_line.BootLine.{BootLine}
 use Rattle.gh_model.specs.declared.rows.ObjectRow.{ObjectRow}
 use Rattle.gh_model.specs.declared.state.State.{State}
 use Rattle.gh_schedules.specs.Indices.{boot_index, row_index}
+use Rattle.gh_schedules.specs.Places.{boot_place, places_behind}
 use Rattle.gh_schedules.proofs.BootBlocks.{start_is_steady}
 use Rattle.gh_schedules.proofs.Ranks.{boot_indices}
 
@@ -54,6 +55,7 @@ earlier_place (first ∷ places) place (suc at) within = earlier_place places pl
 
 module _ (boot : State) (progress : Progress) (plain : progress.plain ≡ boot) (entries : progress.entries ≡ []) (marks : progress.marks ≡ [])
     (placed : ArePlaced boot.next_serial progress.places (boot_index boot))
+    (noted : AreAllNoted boot.next_serial progress.noted (boot_place boot))
     (seats : progress.seats ≡ map (new_seat boot) (range_with_len 0 CPUS)) (calls : progress.calls ≡ replicate CPUS None) where
   first_seat : (at : ℕ) → SeatStands at (cspace_of boot at) [] (new_seat boot at) None new_cpu
   first_seat at = record {
@@ -80,11 +82,14 @@ module _ (boot : State) (progress : Progress) (plain : progress.plain ≡ boot) 
       (subst (λ (c : Option CurrentCall). SeatStands at (cspace_of boot at) [] (new_seat boot at) c new_cpu) none (first_seat at)))
 
   pub first_stands : Stands progress (start boot (boot_index boot))
+  unfolding places_behind
   first_stands = record {
     state = plain;
     entries = entries;
     places = placed.each;
     all_placed = placed.count;
+    noted = noted.each;
+    all_noted = noted.count;
     nine_seats = ap (λ (list : List Seat). length list) seats ∙ length-map-range_with_len (new_seat boot) 0 CPUS;
     nine_calls = ap (λ (list : List (Option CurrentCall)). length list) calls;
     seats = all_seats;

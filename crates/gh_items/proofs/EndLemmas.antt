@@ -153,6 +153,8 @@ module _ (progress : Progress) (conf : Config) (at : ℕ) (call : CurrentCall) (
     entries = stands.entries;
     places = stands.places;
     all_placed = stands.all_placed;
+    noted = stands.noted;
+    all_noted = stands.all_noted;
     nine_seats = length-set progress.seats at (seat_behind seat call end) ∙ stands.nine_seats;
     nine_calls = length-set progress.calls at None ∙ sym (length-set progress.calls at (Some call)) ∙ stands.nine_calls;
     seats = all_seats;

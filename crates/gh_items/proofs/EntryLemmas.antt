@@ -1,11 +1,12 @@
 -- The history gets an entry that makes no object: the progress that stands for it.
-use Rattle.std.proofs.Common.{◌≡◌, ◌<◌, ◌∙◌, ℕ, Bool, List, [], ◌∷◌, ◌++◌, sym, ap, subst, Option, None}
+use Rattle.std.proofs.Common.{◌≡◌, ◌<◌, ◌∙◌, ℕ, Bool, List, [], ◌∷◌, ◌++◌, sym, ap, subst, Option, None, Some}
 use Rattle.std.proofs.lemmas.List.{map_push}
 use Rattle.std.proofs.lemmas.List.Sums.{fold-append}
 use Rattle.gh_base.specs.declared.cap_word.CapWord.{CapWord}
 use Rattle.gh_schedules.specs.Places.{added}
 use Rattle.gh_events.specs.Config.{Config, Current, Holder, present}
 use Rattle.gh_events.specs.Entries.{logged, next_state}
+use Rattle.gh_schedules.proofs.BlocksStay.{places_stay}
 use Rattle.gh_schedules.proofs.Commits.{IsCommitted}
 use Rattle.gh_invariant.specs.Events.{changes_of}
 use Rattle.gh_items.specs.Acts.{in_state, with_entry}
@@ -32,6 +33,10 @@ module _ (progress : Progress) (conf : Config) (stands : Stands progress conf) (
     entries = ap (λ (entries : List Entry). entries ++ entry ∷ []) stands.entries ∙ sym (map_push entry_of conf.history (logged entry call));
     places = λ serial some made. stands.places serial some (subst (λ (next : ℕ). serial < next) serials made);
     all_placed = stands.all_placed ∙ sym serials;
+    noted = λ serial some made.
+        stands.noted serial some (subst (λ (next : ℕ). serial < next) serials made)
+        ∙ ap (λ (places : ℕ → ℕ). Some (places serial)) (sym (places_stay conf (logged entry call) none));
+    all_noted = stands.all_noted ∙ sym serials;
     nine_seats = stands.nine_seats;
     nine_calls = stands.nine_calls;
     seats = stands.seats;

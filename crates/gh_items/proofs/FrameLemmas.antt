@@ -111,6 +111,8 @@ module _ (progress : Progress) (conf : Config) (stands : Stands progress conf) (
       entries = stands.entries;
       places = stands.places;
       all_placed = stands.all_placed;
+      noted = stands.noted;
+      all_noted = stands.all_noted;
       nine_seats = length-set progress.seats at (seat_refused seat frame) ∙ stands.nine_seats;
       nine_calls = stands.nine_calls;
       seats = all_seats;

@@ -2,8 +2,7 @@
 use Rattle.std.proofs.Common.{◌≡◌, ◌==◌, ◌+◌, ◌<◌, ◌∙◌, not, ℕ, zero, suc, Bool, true, false, List, [], ◌∷◌, refl, ap, arith, Option, Some, find, is_some, slice_get, if◌then◌else◌}
 use Rattle.std.specs.Prelude.{◌&&◌, ◌||◌}
 use Rattle.std.specs.List.{list_any, range_with_len}
-use Rattle.std.specs.Option.{option_map_or, unwrap_or}
-use Rattle.gh_base.specs.declared.kind.Kind.{Kind}
+use Rattle.std.specs.Option.{unwrap_or}
 use Rattle.gh_base.specs.declared.limits.TheConstants.{PARTITION_PLACES, PARTITIONS}
 use Rattle.gh_events.specs.Config.{is_at}
 use Rattle.gh_events.proofs.CausesHeld.{stands_found}
@@ -13,9 +12,9 @@ use Rattle.gh_invariant.specs.Valid.{IsValid}
 use Rattle.gh_model.specs.Rows.{is_object}
 use Rattle.gh_model.specs.declared.rows.ObjectRow.{ObjectRow}
 use Rattle.gh_model.specs.declared.state.State.{State}
-use Rattle.gh_items.specs.NewIndex.{index_for, least_in}
-use Rattle.gh_schedules.specs.Indices.{block_at, free_index, is_free, new_index, place_of}
-use Rattle.gh_schedules.specs.Places.{free_place, has_place, is_free_place, is_partition_kind}
+use Rattle.gh_items.specs.NewIndex.{index_in_block, least_in, place_for}
+use Rattle.gh_schedules.specs.Indices.{block_at, free_index, is_free}
+use Rattle.gh_schedules.specs.Places.{has_place, is_free_place, is_partition_kind, new_place}
 
 -- what is found in a range is below its end
 pub found_below : (test : ℕ → Bool) (from count at : ℕ) → find test (range_with_len from count) ≡ Some at → at < from + count
@@ -49,38 +48,30 @@ pub row_lives : (s : State) → IsValid s → (i : ℕ) (row : ObjectRow) → sl
 row_lives s valid i row is =
     ap is_some (stands_found (is_object row.serial.0) s.objects i row is (same_number row.serial.0) (valid.objects.once row.serial.0))
 
--- where objects that live have the same indices, a new one gets the same
+-- where objects that live have the same indices and the same places, a new one gets the same
 
-module _ (s : State) (valid : IsValid s) (index other : ℕ → ℕ) (same : (serial : ℕ) → lives s.objects serial ≡ true → index serial ≡ other serial) where
-  row_same : (i : ℕ) (row : ObjectRow) → slice_get s.objects i ≡ Some row → index row.serial.0 ≡ other row.serial.0
-  row_same i row is = same row.serial.0 (row_lives s valid i row is)
+module _ (s : State) (valid : IsValid s) where
+  module _ (index other : ℕ → ℕ) (same : (serial : ℕ) → lives s.objects serial ≡ true → index serial ≡ other serial) where
+    free_same : (at : ℕ) → is_free s index at ≡ is_free s other at
+    free_same at =
+        ap (λ (found : Option ObjectRow). not (is_some found))
+        (find_same (is_at index at) (is_at other at) s.objects (λ i row is. ap (λ (n : ℕ). n == at) (same row.serial.0 (row_lives s valid i row is))))
 
-  free_same : (at : ℕ) → is_free s index at ≡ is_free s other at
-  free_same at =
-      ap (λ (found : Option ObjectRow). not (is_some found))
-      (find_same (is_at index at) (is_at other at) s.objects (λ i row is. ap (λ (n : ℕ). n == at) (row_same i row is)))
+    pub new_same : (place : ℕ) → index_in_block s index place ≡ unwrap_or (free_index s other place) 0
+    unfolding least_in
+    new_same place =
+        ap (λ (found : Option ℕ). unwrap_or found 0)
+        (find_same (is_free s index) (is_free s other) (range_with_len (block_at place) PARTITION_PLACES) (λ i at is. free_same at))
 
-  place_same : (place : ℕ) → is_free_place s index place ≡ is_free_place s other place
-  place_same place =
-      ap not
-      (any_same (has_place index place) (has_place other place) s.objects
-      (λ i row is. ap (λ (n : ℕ). is_partition_kind row.kind && (place_of n == place)) (row_same i row is)))
+  module _ (places other : ℕ → ℕ) (same : (serial : ℕ) → lives s.objects serial ≡ true → places serial ≡ other serial) where
+    place_same : (place : ℕ) → is_free_place s places place ≡ is_free_place s other place
+    place_same place =
+        ap not
+        (any_same (has_place places place) (has_place other place) s.objects
+        (λ i row is. ap (λ (n : ℕ). is_partition_kind row.kind && (n == place)) (same row.serial.0 (row_lives s valid i row is))))
 
-  pub new_same : (k : Kind) (partition : ℕ) → lives s.objects partition ≡ true → new_index s index k partition ≡ new_index s other k partition
-  new_same k partition alive = by_kind (is_partition_kind k)
-    where
-      by_kind : (is : Bool)
-          → (if is then option_map_or block_at (free_place s index) 0 else unwrap_or (free_index s index (place_of (index partition))) 0)
-          ≡ (if is then option_map_or block_at (free_place s other) 0 else unwrap_or (free_index s other (place_of (other partition))) 0)
-      by_kind true =
-          ap (λ (found : Option ℕ). option_map_or block_at found 0)
-          (find_same (is_free_place s index) (is_free_place s other) (range_with_len 0 PARTITIONS) (λ i place is. place_same place))
-      by_kind false =
-          ap (λ (n : ℕ). unwrap_or (free_index s index (place_of n)) 0) (same partition alive)
-          ∙ ap (λ (found : Option ℕ). unwrap_or found 0)
-          (find_same (is_free s index) (is_free s other) (range_with_len (block_at (place_of (other partition))) PARTITION_PLACES) (λ i at is. free_same at))
-
--- the index that the code finds is that one
-pub for_is_new : (s : State) (index : ℕ → ℕ) (k : Kind) (partition : ℕ) → index_for s index k partition ≡ new_index s index k partition
-unfolding least_in
-for_is_new s index k partition = refl
+    pub place_is_new : place_for s places ≡ new_place s other
+    unfolding least_in
+    place_is_new =
+        ap (λ (found : Option ℕ). unwrap_or found 0)
+        (find_same (is_free_place s places) (is_free_place s other) (range_with_len 0 PARTITIONS) (λ i place is. place_same place))

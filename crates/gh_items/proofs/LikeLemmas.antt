@@ -4,6 +4,7 @@ use Rattle.std.proofs.lemmas.Bool.{cases_Bool, eqb-true}
 use Rattle.gh_events.specs.CallEvents.{unpinned, without_pin}
 use Rattle.gh_events.specs.Config.{Config, Cpu, Pin, present, put}
 use Rattle.gh_schedules.specs.Items.{unpin, unpins}
+use Rattle.gh_schedules.specs.Places.{boot_place, places_behind}
 use Rattle.gh_schedules.specs.Trace.{after_all}
 use Rattle.gh_events.proofs.Finding.{put_here, put_other, same_number}
 use Rattle.gh_items.specs.Stands.{SeatStands, Stands}
@@ -41,6 +42,11 @@ stands_like progress conf other like stands =
       places = λ serial some made.
           stands.places serial some (subst (λ (s : State). serial < s.next_serial) (sym same) made) ∙ ap Some (like.index serial);
       all_placed = stands.all_placed ∙ ap (λ (s : State). s.next_serial) same;
+      noted = λ serial some made.
+          stands.noted serial some (subst (λ (s : State). serial < s.next_serial) (sym same) made)
+          ∙ ap (λ (boot : State). Some (places_behind boot (boot_place boot) conf.history serial)) like.boot
+          ∙ ap (λ (events : List Event). Some (places_behind other.boot (boot_place other.boot) events serial)) like.history;
+      all_noted = stands.all_noted ∙ ap (λ (s : State). s.next_serial) same;
       nine_seats = stands.nine_seats;
       nine_calls = stands.nine_calls;
       seats = λ at seat call is is_call.

@@ -9,6 +9,8 @@ use Rattle.gh_events.specs.Config.{Config, Current, Holder, present, put}
 use Rattle.gh_events.specs.Entries.{logged, next_state}
 use Rattle.gh_events.proofs.Finding.{put_here, put_other}
 use Rattle.gh_invariant.specs.Events.{made_by}
+use Rattle.gh_schedules.specs.Places.{boot_place, places_behind, places_of}
+use Rattle.gh_schedules.proofs.BlocksStay.{places_next, places_push}
 use Rattle.gh_items.specs.Acts.{in_state, with_entry}
 use Rattle.gh_items.specs.Stands.{Stands, index_number}
 use Rattle.gh_items.specs.Swept.{with_place}
@@ -49,7 +51,8 @@ made_serial s true (Make changes reply) row cap is = ap (λ (list : List Change)
 -- the history with it
 
 module _ (progress : Progress) (conf : Config) (stands : Stands progress conf) (entry : Entry) (call : Current)
-    (serials : (next_state conf call entry).next_serial ≡ (present conf).next_serial + 1) (home : ℕ) (index : ObjIndex) (is_home : index.0 ≡ home) where
+    (serials : (next_state conf call entry).next_serial ≡ (present conf).next_serial + 1) (home : ℕ) (index : ObjIndex) (is_home : index.0 ≡ home)
+    (place : ℕ) (placing : places_next conf (logged entry call) ≡ put (places_of conf) (present conf).next_serial place) where
   abbrev next : ℕ
   next = (present conf).next_serial
 
@@ -78,14 +81,39 @@ module _ (progress : Progress) (conf : Config) (stands : Stands progress conf) (
             ∙ ap Some (sym (put_other conf.index (present conf).next_serial home serial differs.0))
       ]
 
+  all_noted : length (progress.noted ++ place ∷ []) + 1 ≡ (present conf).next_serial + 1
+  all_noted = omega (arith, length-append progress.noted (place ∷ []), stands.all_noted)
+
+  noted_by : (serial : ℕ) → 0 < serial → serial < (present conf).next_serial + 1
+      → slice_get (progress.noted ++ place ∷ []) (serial - 1) ≡ Some (put (places_of conf) (present conf).next_serial place serial)
+  noted_by serial some made =
+      elim (eqb_tells serial (present conf).next_serial)
+      as (λ _. slice_get (progress.noted ++ place ∷ []) (serial - 1) ≡ Some (put (places_of conf) (present conf).next_serial place serial)) [
+        | inl same ↦
+            (let last : serial - 1 ≡ length progress.noted = omega (arith, same.1, stands.all_noted) in
+            ap (slice_get (progress.noted ++ place ∷ [])) last ∙ item_last progress.noted place
+            ∙ sym (ap (λ (n : ℕ). Some (put (places_of conf) (present conf).next_serial place n)) same.1 ∙ ap Some (put_here (places_of conf) (present conf).next_serial place)))
+        | inr differs ↦
+            item_front progress.noted place (serial - 1) (omega (arith, some, made, differs.1, stands.all_noted))
+            ∙ stands.noted serial some (omega (arith, made, differs.1))
+            ∙ ap Some (sym (put_other (places_of conf) (present conf).next_serial place serial differs.0))
+      ]
+
+  grown_places : places_behind conf.boot (boot_place conf.boot) (conf.history ++ logged entry call ∷ []) ≡ put (places_of conf) (present conf).next_serial place
+  grown_places = places_push conf.boot (boot_place conf.boot) conf.history (logged entry call) ∙ placing
+
   pub made_stands : (cap : ℕ → ℕ → CapWord) (count : ℕ → ℕ) (dead : ℕ → Bool) (turn : Option Holder)
-      → Stands (with_place (with_entry (in_state progress (next_state conf call entry)) entry) (Some index))
+      → Stands (with_place (with_entry (in_state progress (next_state conf call entry)) entry) (Some index) place)
       (record conf { history = conf.history ++ logged entry call ∷ []; index = put conf.index (present conf).next_serial home; cap = cap; count = count; dead = dead; turn = turn })
   made_stands cap count dead turn = record {
     state = sym grown;
     entries = ap (λ (entries : List Entry). entries ++ entry ∷ []) stands.entries ∙ sym (map_push entry_of conf.history (logged entry call));
     places = λ serial some made. placed_by serial some (subst (λ (n : ℕ). serial < n) its_serials made);
     all_placed = all_placed ∙ sym its_serials;
+    noted = λ serial some made.
+        noted_by serial some (subst (λ (n : ℕ). serial < n) its_serials made)
+        ∙ ap (λ (places : ℕ → ℕ). Some (places serial)) (sym grown_places);
+    all_noted = all_noted ∙ sym its_serials;
     nine_seats = stands.nine_seats;
     nine_calls = stands.nine_calls;
     seats = stands.seats;

@@ -86,6 +86,8 @@ module _ (progress : Progress) (conf : Config) (stands : Stands progress conf) (
     entries = stands.entries;
     places = stands.places;
     all_placed = stands.all_placed;
+    noted = stands.noted;
+    all_noted = stands.all_noted;
     nine_seats = stands.nine_seats;
     nine_calls = length-set progress.calls at call ∙ stands.nine_calls;
     seats = seat_after;

@@ -237,6 +237,14 @@ module _ (progress : Progress) (cpu : ℕ) (call : CurrentCall) (conf : Config) 
       index_is (present conf).next_serial progress.places conf.index there.stands.places serial
       (serial_some serial (object_row (present conf) serial) refl alive) (there.sound.state.given serial alive)
 
+  -- and the place that it was noted with
+  found_note : (serial : ℕ) → 0 < serial → serial < (present conf).next_serial → noted_in progress.noted serial ≡ places_of conf serial
+  found_note serial some made = ap (λ (found : Option ℕ). unwrap_or found 0) (there.stands.noted serial some made)
+
+  pub noted_is : (serial : ℕ) → IsMade conf serial → noted_in progress.noted serial ≡ places_of conf serial
+  noted_is serial alive =
+      found_note serial (serial_some serial (object_row (present conf) serial) refl alive) (there.sound.state.given serial alive)
+
   -- the pins on it
   pub object_pins : (serial index : ℕ) → index ≡ index_in progress.places serial → IsMade conf serial
       → total CPUS (λ at. call_pins index (one_at at)) ≡ pins_at conf.cpu (conf.index serial)

@@ -20,17 +20,17 @@ use Rattle.gh_events.proofs.ValidEntries.{event_fits}
 use Rattle.gh_invariant.specs.Events.{judged_by}
 use Rattle.gh_invariant.specs.Lives.{lives}
 use Rattle.gh_items.specs.Acts.{ActsNext, act_entry, after_judged, in_state, judged_in, with_entry}
-use Rattle.gh_items.specs.NewIndex.{index_for, index_made}
+use Rattle.gh_items.specs.NewIndex.{index_in_block, index_made, place_for}
 use Rattle.gh_items.specs.Calling.{AddsMark}
-use Rattle.gh_items.specs.Stands.{Stands, index_in, index_number, mark_at, with_call}
+use Rattle.gh_items.specs.Stands.{Stands, index_in, index_number, mark_at, noted_in, with_call}
 use Rattle.gh_items.specs.SweepReads.{StandsWith}
 use Rattle.gh_items.specs.Swept.{refused_end, with_done, with_place, with_refusal}
 use Rattle.gh_items.specs.declared.progress.Progress.{Progress}
 use Rattle.gh_items.specs.declared.progress.Seat.{Seat}
 use Rattle.gh_items.proofs.ActLemmas.{act_is, begins, prepared, taken_now, taken_sound}
-use Rattle.gh_items.proofs.IndexLemmas.{for_is_new, new_same}
+use Rattle.gh_items.proofs.IndexLemmas.{new_same, place_is_new}
 use Rattle.gh_items.proofs.MadeLemmas.{made_serial, made_stands}
-use Rattle.gh_items.proofs.SweepReadLemmas.{place_is}
+use Rattle.gh_items.proofs.SweepReadLemmas.{noted_is, place_is as indexed_is}
 use Rattle.gh_items.proofs.VerdictLemmas.{done_stands, entered_stands, new_is, refusal_stands}
 use Rattle.gh_model.specs.Act.{Done, Judges, Refused, grants_of}
 use Rattle.gh_model.specs.Decisions.{grant_at}
@@ -47,6 +47,9 @@ use Rattle.gh_schedules.specs.Indices.{HasBlocks, kind_made, new_index}
 use Rattle.gh_schedules.specs.Items.{act, object_revoked, parts, plain_caps, preparing, prepares, sweeps, taking}
 use Rattle.gh_schedules.specs.Sweep.{HasNotBegun, sweep}
 use Rattle.gh_schedules.specs.Trace.{after_all, and_then}
+use Rattle.gh_schedules.specs.Places.{added, new_place, places_of, places_with}
+use Rattle.gh_schedules.proofs.BlocksStay.{places_next}
+use Rattle.gh_model.specs.declared.change.Change.{Change}
 use Rattle.gh_schedules.proofs.Acting.{IsDone, acted_allows}
 use Rattle.gh_schedules.proofs.ActItems.{IsPrepared, new_home_lives, new_is_free}
 use Rattle.gh_schedules.proofs.Commits.{IsCommitted}
@@ -86,7 +89,7 @@ module _ (conf : Config) (at : ℕ) (call : Current) (next : ActsNext conf at ca
       else (if is_revoke call.given.call then parts at (length (plain_caps (present (taken conf at)) (object_revoked call))) (taken conf at) else []))) swept
 
   blocks : HasBlocks (taken conf at)
-  blocks = record { partitions = next.steady.blocks.partitions; others = next.steady.blocks.others }
+  blocks = record { apart = next.steady.blocks.apart; few = next.steady.blocks.few; each = next.steady.blocks.each }
 
   -- nothing of the act was committed
   pub judged_begins : HasNotBegun (judged_in conf at) at
@@ -137,7 +140,8 @@ module _ (progress : Progress) (conf : Config) (at : ℕ) (call : CurrentCall) (
   -- an act that is done
 
   module _ (new : State) (reply : Reply) (done : judged progress.plain at (current_of call) ≡ Done new reply) (index : Option ObjIndex)
-      (indexed : option_map index_number index ≡ index_made progress.plain (index_in progress.places) call.given.call grants) where
+      (indexed : option_map index_number index ≡ index_made progress.plain (noted_in progress.noted) (index_in progress.places) call.given.call grants)
+      (place : ℕ) (placed : place ≡ place_for progress.plain (noted_in progress.noted)) where
     abbrev s : State
     s = present there
 
@@ -148,13 +152,13 @@ module _ (progress : Progress) (conf : Config) (at : ℕ) (call : CurrentCall) (
     is_made = record { new = new; reply = reply; is = done_there }
 
     abbrev Behind : Option ObjIndex → Type 0
-    Behind index = Stands (with_done (in_state progress new) at seat call index reply) (after_judged there at)
+    Behind index = Stands (with_done (in_state progress new) at seat call index place reply) (after_judged there at)
 
     -- no object
-    other_stands : is_create call.given.call ≡ false → Stands (with_done (in_state progress new) at seat call index reply) (after_judged there at)
+    other_stands : is_create call.given.call ≡ false → Stands (with_done (in_state progress new) at seat call index place reply) (after_judged there at)
     other_stands other =
-        subst (λ (index : Option ObjIndex). Stands (with_done (in_state progress new) at seat call index reply) (after_judged there at))
-        (sym (none_of index (indexed ∙ ap (option_map (λ (k : Kind). index_for progress.plain (index_in progress.places) k (grant_at grants 0).0)) (none_made call.given.call other))))
+        subst (λ (index : Option ObjIndex). Stands (with_done (in_state progress new) at seat call index place reply) (after_judged there at))
+        (sym (none_of index (indexed ∙ ap (option_map (λ (k : Kind). index_in_block progress.plain (index_in progress.places) (noted_in progress.noted (grant_at grants 0).0))) (none_made call.given.call other))))
         (done_stands progress there at call stands next.is_cpu seat seated is_prepared new reply done_there
         (by_objects (event_objects (present there) (logged (act_entry at call) (current_of call)) is_prepared.judges.active.sound.valid.valid
         (event_fits there at (act_entry at call) is_prepared.judges.holder (current_of call) there.index
@@ -178,21 +182,34 @@ module _ (progress : Progress) (conf : Config) (at : ℕ) (call : CurrentCall) (
 
       abbrev home : ℕ
       home =
-          new_index (present there) there.index makes.new.kind (grant_at grants 0).0
+          new_index (present there) (places_of there) there.index (grant_at grants 0).0
 
       same_index : (serial : ℕ) → lives (present there).objects serial ≡ true → index_in progress.places serial ≡ there.index serial
-      same_index serial alive = place_is progress at call there stands_with serial alive
+      same_index serial alive = indexed_is progress at call there stands_with serial alive
+
+      same_noted : (serial : ℕ) → lives (present there).objects serial ≡ true → noted_in progress.noted serial ≡ places_of there serial
+      same_noted serial alive = noted_is progress at call there stands_with serial alive
 
       home_is : option_map index_number index ≡ Some home
       home_is =
           indexed
-          ∙ ap (option_map (λ (k : Kind). index_for progress.plain (index_in progress.places) k (grant_at grants 0).0)) makes.new.numbered
-          ∙ ap (λ (state : State). Some (index_for state (index_in progress.places) makes.new.kind (grant_at grants 0).0)) stands.state
+          ∙ ap (option_map (λ (k : Kind). index_in_block progress.plain (index_in progress.places) (noted_in progress.noted (grant_at grants 0).0))) makes.new.numbered
+          ∙ ap (λ (state : State). Some (index_in_block state (index_in progress.places) (noted_in progress.noted (grant_at grants 0).0))) stands.state
+          ∙ ap (λ (n : ℕ). Some (index_in_block (present there) (index_in progress.places) n))
+          (same_noted (grant_at grants 0).0 (new_home_lives at (current_of call) there is_prepared is_made makes))
           ∙ ap Some
-          (for_is_new (present there) (index_in progress.places) makes.new.kind (grant_at grants 0).0
-          ∙ new_same (present there) is_prepared.judges.active.sound.valid.valid (index_in progress.places) there.index same_index
-          makes.new.kind (grant_at grants 0).0
-          (new_home_lives at (current_of call) there is_prepared is_made makes))
+          (new_same (present there) is_prepared.judges.active.sound.valid.valid (index_in progress.places) there.index same_index
+          (places_of there (grant_at grants 0).0))
+
+      place_is : place ≡ new_place (present there) (places_of there)
+      place_is =
+          placed ∙ ap (λ (state : State). place_for state (noted_in progress.noted)) stands.state
+          ∙ place_is_new (present there) is_prepared.judges.active.sound.valid.valid (noted_in progress.noted) (places_of there) same_noted
+
+      placing : places_next there (logged (act_entry at call) (current_of call)) ≡ put (places_of there) (present there).next_serial place
+      placing =
+          ap (λ (made : List Change). places_with (present there) (places_of there) (added made)) makes.new.is
+          ∙ ap (put (places_of there) (present there).next_serial) (sym place_is)
 
       abbrev behind : Config
       behind = after_all there (committing at (act_entry at call) there)
@@ -212,32 +229,32 @@ module _ (progress : Progress) (conf : Config) (at : ℕ) (call : CurrentCall) (
           makes.new.is
 
       stood : (i : ObjIndex) → i.0 ≡ home
-          → Stands (with_call (with_place (with_entry (in_state progress new) (act_entry at call)) (Some i)) at (Some call)) behind
+          → Stands (with_call (with_place (with_entry (in_state progress new) (act_entry at call)) (Some i) place) at (Some call)) behind
       stood i is =
-          subst (λ (state : State). Stands (with_place (with_entry (in_state (with_call progress at (Some call)) state) (act_entry at call)) (Some i)) behind)
+          subst (λ (state : State). Stands (with_place (with_entry (in_state (with_call progress at (Some call)) state) (act_entry at call)) (Some i) place) behind)
           (new_is progress there at call stands next.is_cpu seat seated is_prepared new reply done_there)
-          (subst (Stands (with_place (with_entry (in_state (with_call progress at (Some call)) (next_state there (current_of call) (act_entry at call))) (act_entry at call)) (Some i))) (sym commits.is)
-          (made_stands (with_call progress at (Some call)) there stands (act_entry at call) (current_of call) serials home i is
+          (subst (Stands (with_place (with_entry (in_state (with_call progress at (Some call)) (next_state there (current_of call) (act_entry at call))) (act_entry at call)) (Some i) place)) (sym commits.is)
+          (made_stands (with_call progress at (Some call)) there stands (act_entry at call) (current_of call) serials home i is place placing
           commits.cap commits.count (put there.dead home false) _))
 
       number : IsNumber index home
       number = number_of index home home_is
 
-      create_stands : Stands (with_done (in_state progress new) at seat call index reply) (after_judged there at)
+      create_stands : Stands (with_done (in_state progress new) at seat call index place reply) (after_judged there at)
       create_stands =
-          subst (λ (index : Option ObjIndex). Stands (with_done (in_state progress new) at seat call index reply) (after_judged there at)) (sym number.there)
+          subst (λ (index : Option ObjIndex). Stands (with_done (in_state progress new) at seat call index place reply) (after_judged there at)) (sym number.there)
           (entered_stands progress there at call stands next.is_cpu seat seated is_prepared new reply done_there
           (put there.index (present there).next_serial home) (put there.dead home false) (is_prepared.judges.holder.revived ++ home ∷ []) commits
-          (with_place (with_entry (in_state progress new) (act_entry at call)) (Some number.one)) seated (stood number.one number.is))
+          (with_place (with_entry (in_state progress new) (act_entry at call)) (Some number.one) place) seated (stood number.one number.is))
 
     by_create : (creates : Bool) → is_create call.given.call ≡ creates
-        → Stands (with_done (in_state progress new) at seat call index reply) (after_judged there at)
+        → Stands (with_done (in_state progress new) at seat call index place reply) (after_judged there at)
     by_create true is = create_stands is
     by_create false is = other_stands is
 
-    pub swept_done : Stands (with_done (in_state progress new) at seat call index reply) (after_all conf (act at conf))
+    pub swept_done : Stands (with_done (in_state progress new) at seat call index place reply) (after_all conf (act at conf))
     swept_done =
-        subst (Stands (with_done (in_state progress new) at seat call index reply)) (sym (act_is conf at (current_of call) next))
+        subst (Stands (with_done (in_state progress new) at seat call index place reply)) (sym (act_is conf at (current_of call) next))
         (by_create (is_create call.given.call) refl)
 
   -- what the code says of the verdict, and the progress behind it
@@ -264,12 +281,13 @@ module _ (progress : Progress) (conf : Config) (at : ℕ) (call : CurrentCall) (
         (swept_refused reply (refused_is reply one).0)
 
     pub done_ends : (reply : Reply) → says_of ≡ says.Done reply → (index : Option ObjIndex)
-        → option_map index_number index ≡ index_made progress.plain (index_in progress.places) call.given.call grants
-        → (last : Progress) → last ≡ with_done behind at seat call index reply → Stands last (after_all conf (act at conf))
-    done_ends reply one index indexed last ends =
+        → option_map index_number index ≡ index_made progress.plain (noted_in progress.noted) (index_in progress.places) call.given.call grants
+        → (place : ℕ) → place ≡ place_for progress.plain (noted_in progress.noted)
+        → (last : Progress) → last ≡ with_done behind at seat call index place reply → Stands last (after_all conf (act at conf))
+    done_ends reply one index indexed place placed last ends =
         subst (λ (p : Progress). Stands p (after_all conf (act at conf)))
-        (sym (ends ∙ ap (λ (p : Progress). with_done p at seat call index reply) same))
-        (swept_done behind.plain reply (done_is reply one) index indexed)
+        (sym (ends ∙ ap (λ (p : Progress). with_done p at seat call index place reply) same))
+        (swept_done behind.plain reply (done_is reply one) index indexed place placed)
 
 -- one call ends
 
@@ -278,17 +296,17 @@ pub refusal_marks : (progress judged_at : Progress) (new : State) (at : ℕ) (se
 refusal_marks progress judged_at new at seat call held reply last within same ends =
     inr (record { mark = mark_at at call (refused_end call.given.call reply new.entries held) reply; its_cpu = within; is = ap (λ (p : Progress). p.marks) (ends ∙ ap (λ (p : Progress). with_refusal p at seat call held reply) same) })
 
-place_marks : (progress : Progress) (index : Option ObjIndex) → (with_place progress index).marks ≡ progress.marks
-place_marks progress None = refl
-place_marks progress (Some index) = refl
+place_marks : (progress : Progress) (index : Option ObjIndex) (place : ℕ) → (with_place progress index place).marks ≡ progress.marks
+place_marks progress None place = refl
+place_marks progress (Some index) place = refl
 
-pub done_marks : (progress judged_at : Progress) (new : State) (at : ℕ) (seat : Seat) (call : CurrentCall) (index : Option ObjIndex) (reply : Reply) (last : Progress)
-    → at < CPUS → judged_at ≡ in_state progress new → last ≡ with_done judged_at at seat call index reply → AddsMark progress.marks last.marks
-done_marks progress judged_at new at seat call index reply last within same ends =
+pub done_marks : (progress judged_at : Progress) (new : State) (at : ℕ) (seat : Seat) (call : CurrentCall) (index : Option ObjIndex) (place : ℕ) (reply : Reply) (last : Progress)
+    → at < CPUS → judged_at ≡ in_state progress new → last ≡ with_done judged_at at seat call index place reply → AddsMark progress.marks last.marks
+done_marks progress judged_at new at seat call index place reply last within same ends =
     inr (record {
       mark = mark_at at call (ends_as.Entry new.entries) reply;
       its_cpu = within;
       is =
-          ap (λ (p : Progress). p.marks) (ends ∙ ap (λ (p : Progress). with_done p at seat call index reply) same)
-          ∙ ap (λ (marks : List Mark). marks ++ mark_at at call (ends_as.Entry new.entries) reply ∷ []) (place_marks (with_entry (in_state progress new) (act_entry at call)) index);
+          ap (λ (p : Progress). p.marks) (ends ∙ ap (λ (p : Progress). with_done p at seat call index place reply) same)
+          ∙ ap (λ (marks : List Mark). marks ++ mark_at at call (ends_as.Entry new.entries) reply ∷ []) (place_marks (with_entry (in_state progress new) (act_entry at call)) index place);
     })

@@ -1,7 +1,7 @@
 -- A run's progress before the first call: the seats of its CPUs, and the indices of its objects.
 use Rattle.std.specs.Prelude.{◌≡◌, ◌+◌, ℕ, List, false, length}
 use Rattle.gh_base.specs.declared.ids.ObjIndex.{ObjIndex}
-use Rattle.gh_items.specs.Stands.{AreIndexed}
+use Rattle.gh_items.specs.Stands.{AreIndexed, AreNoted}
 use Rattle.gh_items.specs.declared.progress.Seat.{Seat}
 use Rattle.gh_model.specs.Marks.{cspace_of}
 use Rattle.gh_model.specs.declared.state.State.{State}
@@ -21,3 +21,8 @@ new_seat boot at = record {
 pub record ArePlaced (next : ℕ) (places : List ObjIndex) (index : ℕ → ℕ) : Type 0 where
   pub count : length places + 1 ≡ next
   pub each : AreIndexed next places index
+
+-- and were noted with these places
+pub record AreAllNoted (next : ℕ) (noted : List ℕ) (places : ℕ → ℕ) : Type 0 where
+  pub count : length noted + 1 ≡ next
+  pub each : AreNoted next noted places

@@ -31,6 +31,7 @@ use Rattle.gh_model.specs.Marks.{cspace_of, has_looks, mark_of, place, place_aft
 use Rattle.gh_model.specs.Program.{is_exit}
 use Rattle.gh_model.specs.Run.{is_mark_of}
 use Rattle.gh_model.specs.declared.rows.CapabilityRow.{CapabilityRow}
+use Rattle.gh_schedules.specs.Places.{places_of}
 
 -- a CPU's seat: no next call is given, the call in progress is that of the CPU, and the others are
 -- counted. Its pins are dropped between calls
@@ -68,6 +69,15 @@ IsNamed places (Some row) = IsPlaced places row.serial.0
 abbrev pub AreIndexed : ℕ → List ObjIndex → (ℕ → ℕ) → Type 0
 AreIndexed next places index = (serial : ℕ) → 0 < serial → serial < next
     → option_map index_number (slice_get places (serial - 1)) ≡ Some (index serial)
+
+-- the place that the object of a serial was noted with, 0 where none was made
+abbrev pub noted_in : List ℕ → ℕ → ℕ
+noted_in noted serial = unwrap_or (slice_get noted (serial - 1)) 0
+
+-- the place that each object was noted with
+abbrev pub AreNoted : ℕ → List ℕ → (ℕ → ℕ) → Type 0
+AreNoted next noted places = (serial : ℕ) → 0 < serial → serial < next
+    → slice_get noted (serial - 1) ≡ Some (places serial)
 
 -- the progress with another call of a CPU in progress
 abbrev pub with_call : Progress → ℕ → Option CurrentCall → Progress
@@ -148,6 +158,8 @@ pub record Stands (progress : Progress) (conf : Config) : Type 0 where
   pub entries : progress.entries ≡ map entry_of conf.history
   pub places : AreIndexed (present conf).next_serial progress.places conf.index
   pub all_placed : length progress.places + 1 ≡ (present conf).next_serial
+  pub noted : AreNoted (present conf).next_serial progress.noted (places_of conf)
+  pub all_noted : length progress.noted + 1 ≡ (present conf).next_serial
   -- a seat and a call for each CPU
   pub nine_seats : length progress.seats ≡ CPUS
   pub nine_calls : length progress.calls ≡ CPUS

@@ -30,10 +30,13 @@ abbrev pub AreMade : Config → List ObjectRow → Type 0
 AreMade conf rows = (i : ℕ) (row : ObjectRow)
     → slice_get rows i ≡ Some row → IsMade conf row.serial.0
 
--- the index of an object that was made, if one was
-abbrev pub with_place : Progress → Option ObjIndex → Progress
-with_place progress None = progress
-with_place progress (Some index) = record progress { places = progress.places ++ index ∷ [] }
+-- the index of an object that was made, if one was, and the place that it is noted with
+abbrev pub with_place : Progress → Option ObjIndex → ℕ → Progress
+with_place progress None place = progress
+with_place progress (Some index) place = record progress {
+  places = progress.places ++ index ∷ [];
+  noted = progress.noted ++ place ∷ [];
+}
 
 -- want of units names what holds objects, and another refusal doesn't
 abbrev pub refused_end : Call → Reply → ℕ → List Held → End
@@ -47,7 +50,7 @@ with_refusal progress at seat call held reply =
     (refused_end call.given.call reply progress.plain.entries held) reply
 
 -- the end of one that is done
-abbrev pub with_done : Progress → ℕ → Seat → CurrentCall → Option ObjIndex → Reply → Progress
-with_done progress at seat call index reply =
-    with_end (with_place (with_entry progress (act_entry at call)) index) at seat call
+abbrev pub with_done : Progress → ℕ → Seat → CurrentCall → Option ObjIndex → ℕ → Reply → Progress
+with_done progress at seat call index place reply =
+    with_end (with_place (with_entry progress (act_entry at call)) index place) at seat call
     (ends.Entry progress.plain.entries) reply

@@ -1,10 +1,10 @@
 //! A run's progress before the first call.
 
-ghost use Rattle.std.specs.Prelude.{◌≡◌, ◌+◌, ◌<◌, ℕ, [], IfOk, None, count_by, length, map, replicate};
+ghost use Rattle.std.specs.Prelude.{◌≡◌, ◌+◌, ◌<◌, ◌≤◌, ℕ, [], IfOk, None, count_by, length, map, replicate};
 ghost use Rattle.std.specs.List.{range_with_len};
-ghost use Rattle.gh_base.specs.declared.limits.TheConstants.{CPUS, OBJECT_INDICES};
+ghost use Rattle.gh_base.specs.declared.limits.TheConstants.{CPUS, OBJECT_INDICES, PARTITIONS};
 ghost use Rattle.gh_events.specs.Start.{start};
-ghost use Rattle.gh_items.specs.Beginning.{ArePlaced, new_seat};
+ghost use Rattle.gh_items.specs.Beginning.{AreAllNoted, ArePlaced, new_seat};
 ghost use Rattle.gh_items.specs.Stands.{Stands};
 ghost use Rattle.gh_model.specs.Boot.{boot_state};
 ghost use Rattle.gh_schedules.specs.Indices.{boot_index, is_earlier_in, row_index};
@@ -75,6 +75,20 @@ fn boot_places(alloc: Global, boot: &State) -> Result<Sequence<ObjIndex>, NoMemo
     Ok(places)
 }
 
+/// The place that each object of the boot is noted with, by serial from 1 on.
+fn boot_noted(alloc: Global, boot: &State) -> Result<Sequence<u8>, NoMemory>
+    requires some { 0 < boot.now.next_serial }
+    requires within { (serial : ℕ) → boot_place boot.now serial ≤ PARTITIONS }
+    ensures { IfOk result (λ noted. AreAllNoted boot.now.next_serial noted (boot_place boot.now)) }
+{
+    let mut noted = Sequence::new(alloc);
+    for serial in 1..boot.next_serial {
+        let place = boot_place(boot.objects.as_slice(), Serial(serial));
+        noted.push(place as u8)?;
+    }
+    Ok(noted)
+}
+
 /// The seat of a CPU that has made no call. One that isn't in the boot has no capability space.
 fn new_seat(boot: &State, cpu: CpuNo) -> Seat
     ensures { result ≡ new_seat boot.now cpu.0 }
@@ -125,6 +139,7 @@ pub fn begin_run(alloc: Global, boot: &Boot) -> Result<Progress, NoMemory>
     let _lines = boot.lines();
     let plain = Plain::boot(alloc, boot)?;
     let places = boot_places(alloc, plain.state())?;
+    let noted = boot_noted(alloc, plain.state())?;
     let seats = new_seats(alloc, plain.state())?;
     let calls = no_calls(alloc)?;
     Ok(Progress {
@@ -132,6 +147,7 @@ pub fn begin_run(alloc: Global, boot: &Boot) -> Result<Progress, NoMemory>
         entries: Sequence::new(alloc),
         marks: Sequence::new(alloc),
         places,
+        noted,
         seats,
         calls,
     })

@@ -33,6 +33,9 @@ pub struct Progress {
     pub marks: Sequence<Mark>,
     /// The index of each object that was made, by serial from 1 on.
     pub places: Sequence<ObjIndex>,
+    /// The place that each object was noted with as it was made, 0 to 7, by serial from 1 on: the
+    /// least that no partition had. A partition's objects have their indices in its block.
+    pub noted: Sequence<u8>,
     /// The CPUs, by number.
     pub seats: Sequence<Seat>,
     /// Their calls in progress.

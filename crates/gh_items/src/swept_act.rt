@@ -6,7 +6,7 @@ ghost use Rattle.gh_events.specs.Config.{Config};
 ghost use Rattle.gh_events.specs.TurnEvents.{taken};
 ghost use Rattle.gh_items.specs.Acts.{ActsNext, judged_in};
 ghost use Rattle.gh_items.specs.Calling.{AddsMark};
-ghost use Rattle.gh_items.specs.Stands.{Stands, index_in, index_number, with_call};
+ghost use Rattle.gh_items.specs.Stands.{Stands, index_in, index_number, noted_in, with_call};
 ghost use Rattle.gh_items.specs.SweepReads.{StandsWith};
 ghost use Rattle.gh_items.specs.Swept.{refused_end, with_done, with_place, with_refusal};
 ghost use Rattle.gh_model.specs.Act.{grants_of};
@@ -23,7 +23,7 @@ ghost use Rattle.gh_schedules.specs.Trace.{after_all};
 use crate::causes::causes;
 use crate::end::end_call;
 use crate::judge::{grants, judge, words_of};
-use crate::new_index::new_index;
+use crate::new_index::{new_index, new_place};
 use crate::progress::{Progress, Seat, seat_of};
 use crate::sweep::sweep;
 use gh_base::{Call, CpuNo, End, Kind, NoMemory, ObjIndex, Reply, Serial};
@@ -62,17 +62,18 @@ fn index_made(
     call: &CurrentCall,
 ) -> Result<Option<ObjIndex>, NoMemory>
     ensures { IfOk result (λ index. option_map index_number index
-        ≡ index_made progress.now.plain (index_in progress.now.places) call.now.given.call
+        ≡ index_made progress.now.plain (noted_in progress.now.noted)
+        (index_in progress.now.places) call.now.given.call
         (grants_of call.now.given.call (map word_of (map seen_of call.now.seen)))) }
 {
     let words = words_of(&call.seen);
     let grants = grants(alloc, &call.given.call, words.as_slice())?;
     match kind_made(&call.given.call) {
         None => Ok(None),
-        Some(kind) => Ok(Some(new_index(
+        Some(_) => Ok(Some(new_index(
             progress.plain.state(),
+            progress.noted.as_slice(),
             progress.places.as_slice(),
-            kind,
             first_grant(grants.as_slice()),
         ))),
     }
@@ -136,13 +137,16 @@ fn end_refused(
     end_call(progress, cpu, seat, call, end, reply)
 }
 
-/// The object that was made has its index.
-fn push_place(progress: &mut Progress, index: Option<ObjIndex>) -> Result<(), NoMemory>
-    ensures { OnOk result (progress.new ≡ with_place progress.old index) }
+/// The object that was made has its index, and is noted with the place.
+fn push_place(progress: &mut Progress, index: Option<ObjIndex>, place: u8) -> Result<(), NoMemory>
+    ensures { OnOk result (progress.new ≡ with_place progress.old index place) }
 {
     match index {
         None => Ok(()),
-        Some(index) => progress.places.push(index),
+        Some(index) => {
+            progress.places.push(index)?;
+            progress.noted.push(place)
+        }
     }
 }
 
@@ -153,13 +157,15 @@ fn end_done(
     seat: Seat,
     call: &CurrentCall,
     index: Option<ObjIndex>,
+    place: u8,
     reply: Reply,
 ) -> Result<(), NoMemory>
     requires seats { cpu.0 < length progress.old.seats }
     requires calls { cpu.0 < length progress.old.calls }
     requires counts { seat.calls + 1 < 4294967296 }
     requires sections { seat.sections + 1 < 4294967296 }
-    ensures { OnOk result (progress.new ≡ with_done progress.old cpu.0 seat call.now index reply) }
+    ensures { OnOk result
+        (progress.new ≡ with_done progress.old cpu.0 seat call.now index place reply) }
 {
     let number = progress.plain.entries();
     let entry = Entry::Acted {
@@ -167,7 +173,7 @@ fn end_done(
         number: call.given.number,
     };
     progress.entries.push(entry)?;
-    push_place(progress, index)?;
+    push_place(progress, index, place)?;
     end_call(progress, cpu, seat, call, End::Entry { number }, reply)
 }
 
@@ -187,10 +193,11 @@ fn swept_judged(
 {
     let seat = seat_of(progress, cpu);
     let index = index_made(progress, alloc, call)?;
+    let place = new_place(progress.plain.state(), progress.noted.as_slice());
     let judged = judge(progress, alloc, cpu, call)?;
     match judged {
         Judged::Refused(reply) => end_refused(progress, alloc, cpu, seat, call, reply),
-        Judged::Done(reply) => end_done(progress, cpu, seat, call, index, reply),
+        Judged::Done(reply) => end_done(progress, cpu, seat, call, index, place, reply),
     }
 }
 

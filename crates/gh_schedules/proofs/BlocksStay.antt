@@ -155,7 +155,7 @@ old_by s row (Some old) is same =
     }
 
 -- the places behind one more event
-places_push : (s : State) (places : ℕ → ℕ) (events : List Event) (event : Event)
+pub places_push : (s : State) (places : ℕ → ℕ) (events : List Event) (event : Event)
     → places_behind s places (events ++ event ∷ [])
     ≡ places_with (replay s events) (places_behind s places events) (added (changes_of (replay s events) event))
 unfolding places_behind
@@ -166,6 +166,12 @@ places_push s places (first ∷ events) event =
 -- the places behind an event of the present state
 abbrev pub places_next : Config → Event → ℕ → ℕ
 places_next conf event = places_with (present conf) (places_of conf) (added (changes_of (present conf) event))
+
+-- an event that makes no object leaves the places
+pub places_stay : (conf : Config) (event : Event) → added (changes_of (present conf) event) ≡ None
+    → places_behind conf.boot (boot_place conf.boot) (conf.history ++ event ∷ []) ≡ places_of conf
+places_stay conf event none =
+    places_push conf.boot (boot_place conf.boot) conf.history event ∙ ap (places_with (present conf) (places_of conf)) none
 
 -- objects lie in their blocks behind an entry, where they lie so in the state that it makes
 pub entered_blocks : (conf : Config) (event : Event) (index : ℕ → ℕ)

@@ -483,9 +483,9 @@ module _ (conf : Config) (at : ℕ) (call : Current) (judges : IsJudged conf at 
           | inr apart ↦ elim (eqb_tells other.serial.0 next) as (λ _. Parted one other) [
             | inl second ↦ λ same. absurd (parted_new other one also second.1 too (old_row one is apart.0) part (sym same))
             | inr differs ↦ λ same.
-              let was : object_row s one.serial.0 ≡ Some one = old_row one is apart.0 in
-              let were : object_row s other.serial.0 ≡ Some other = old_row other also differs.0 in
-              active.blocks.apart one other was were part too (sym (noted_row one was) ∙ same ∙ noted_row other were)
+                let was : object_row s one.serial.0 ≡ Some one = old_row one is apart.0 in
+                let were : object_row s other.serial.0 ≡ Some other = old_row other also differs.0 in
+                active.blocks.apart one other was were part too (sym (noted_row one was) ∙ same ∙ noted_row other were)
           ]
         ]
 

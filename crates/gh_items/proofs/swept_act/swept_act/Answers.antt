@@ -12,7 +12,7 @@ sweep-requires g c = (
   (
     taken_sound g.conf c.args.cpu.0 (current_of c.args.call.now) c.requires.1.0,
     (
-      record { partitions = c.requires.1.0.steady.blocks.partitions; others = c.requires.1.0.steady.blocks.others },
+      record { apart = c.requires.1.0.steady.blocks.apart; few = c.requires.1.0.steady.blocks.few; each = c.requires.1.0.steady.blocks.each },
       (c.requires.1.0.steady.nine, begins g.conf c.args.cpu.0 (current_of c.args.call.now) c.requires.1.0),
     ),
   ),

@@ -73,7 +73,7 @@ returns-in-Done-clause-stands g c =
     (λ ends.
     done_ends c.args.progress.now g.conf c.args.cpu.0 c.args.call.now c.requires.1.0 c.requires.0 c.seat_of-seat.result c.seat_of-seat.ensures c.requires.1.1
     c.judge.new.progress c.in_ok-judged.judged c.in_ok-judged.ensures.judged c.in_ok-judged.ensures.same c.in-Done.reply c.in-Done.is
-    c.in_ok-index.index c.in_ok-index.ensures c.end_done.new.progress ends)
+    c.in_ok-index.index c.in_ok-index.ensures c.new_place-place.result c.new_place-place.ensures c.end_done.new.progress ends)
     c.end_done.ensures
 
 pub returns-in-Done-clause-marks : goal.returns-in-Done-clause-marks
@@ -81,6 +81,6 @@ returns-in-Done-clause-marks g c =
     if_ok c.end_done.result
     (λ ends.
     done_marks c.args.progress.now c.judge.new.progress c.judge.new.progress.plain c.args.cpu.0 c.seat_of-seat.result c.args.call.now
-    c.in_ok-index.index c.in-Done.reply c.end_done.new.progress c.requires.1.0.is_cpu
+    c.in_ok-index.index c.new_place-place.result c.in-Done.reply c.end_done.new.progress c.requires.1.0.is_cpu
     c.in_ok-judged.ensures.same ends)
     c.end_done.ensures
