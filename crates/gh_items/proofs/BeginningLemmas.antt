@@ -1,11 +1,10 @@
 -- The progress of a run before the first call.
-use Rattle.std.proofs.Common.{◌≡◌, ◌<◌, ◌+◌, ◌∙◌, ℕ, zero, suc, List, [], ◌∷◌, ◌++◌, ap, arith, length, map, refl, replicate, subst, sym, Option, Some, None, is_some, slice_get}
-use Rattle.std.specs.Prelude.{IsTrue}
+use Rattle.std.proofs.Common.{◌≡◌, ◌<◌, ◌≤◌, ◌+◌, ◌∙◌, ℕ, zero, suc, List, [], ◌∷◌, ◌++◌, ap, arith, length, map, refl, replicate, subst, sym, Option, Some, None, is_some, slice_get}
+use Rattle.std.specs.Prelude.{IsTrue, nat_lt}
 use Rattle.std.specs.List.{range_with_len}
 use Rattle.std.specs.Option.{option_map_or}
 use Rattle.std.proofs.lemmas.List.FromFn.{length-map-range_with_len}
-use Rattle.gh_base.specs.declared.ids.ObjIndex.{ObjIndex}
-use Rattle.gh_base.specs.declared.limits.TheConstants.{CPUS, OBJECT_INDICES}
+use Rattle.gh_base.specs.declared.limits.TheConstants.{CPUS, OBJECT_INDICES, PARTITIONS}
 use Rattle.gh_core.specs.declared.current.CurrentCall.{CurrentCall}
 use Rattle.gh_events.specs.Start.{new_cpu, start}
 use Rattle.gh_items.specs.Beginning.{AreAllNoted, ArePlaced, new_seat}
@@ -19,9 +18,12 @@ use Rattle.gh_model.specs.declared.boot_line.BootLine.{BootLine}
 use Rattle.gh_model.specs.declared.rows.ObjectRow.{ObjectRow}
 use Rattle.gh_model.specs.declared.state.State.{State}
 use Rattle.gh_schedules.specs.Indices.{boot_index, row_index}
-use Rattle.gh_schedules.specs.Places.{boot_place, places_behind}
+use Rattle.gh_schedules.specs.Places.{boot_place, is_earlier_partition, is_partition_kind, places_behind}
+use Rattle.gh_events.proofs.Boxes.{more_pass}
+use Rattle.gh_invariant.proofs.BootValid.{boot_valid}
+use Rattle.std.proofs.lemmas.Bool.{and_parts}
 use Rattle.gh_schedules.proofs.BootBlocks.{start_is_steady}
-use Rattle.gh_schedules.proofs.Ranks.{boot_indices}
+use Rattle.gh_schedules.proofs.Ranks.{boot_indices, few_partitions}
 
 -- an item of a list that a function of the place makes, and of one that has one item all over
 
@@ -38,18 +40,6 @@ same_at : {X : Type 0} (count at : ℕ) (x y : X) → slice_get (replicate count
 same_at zero at x y is = absurd (let never : ⊥ = cc in never)
 same_at (suc count) zero x y is = let same : x ≡ y = cc in same
 same_at (suc count) (suc at) x y is = same_at count at x y is
-
--- an index more
-
-last_place : (places : List ObjIndex) (place : ObjIndex) → slice_get (places ++ place ∷ []) (length places) ≡ Some place
-last_place [] place = refl
-last_place (first ∷ places) place = last_place places place
-
-earlier_place : (places : List ObjIndex) (place : ObjIndex) (at : ℕ) → at < length places
-    → slice_get (places ++ place ∷ []) at ≡ slice_get places at
-earlier_place [] place at within = absurd (omega (arith, within))
-earlier_place (first ∷ places) place zero within = refl
-earlier_place (first ∷ places) place (suc at) within = earlier_place places place at (omega (arith, within))
 
 -- the start
 
@@ -109,6 +99,16 @@ module _ (lines : List BootLine) (fits : IsTrue (boot_fits lines)) where
 
   pub boot_within : (serial : ℕ) → boot_index boot serial < OBJECT_INDICES
   boot_within serial = within_by serial (object_row boot serial) refl
+
+  -- there are no more places than partitions
+  pub boot_few : (serial : ℕ) → boot_place boot serial ≤ PARTITIONS
+  boot_few serial =
+      omega (
+        arith,
+        more_pass (is_earlier_partition serial) (λ (row : ObjectRow). is_partition_kind row.kind) boot.objects
+            (λ i row is passes. (and_parts (nat_lt row.serial.0 serial) (is_partition_kind row.kind) passes).1),
+        few_partitions boot (boot_valid lines fits),
+      )
 
   -- serials are given from 1 on
   pub boot_some : 0 < boot.next_serial

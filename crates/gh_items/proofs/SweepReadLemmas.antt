@@ -22,7 +22,8 @@ use Rattle.gh_events.specs.References.{IsRow, dead_pin, owed_at, pin_at_stage, p
 use Rattle.gh_events.specs.Sound.{IsSound}
 use Rattle.gh_events.proofs.Finding.{found_passes, same_number}
 use Rattle.gh_invariant.proofs.Counting.{count_cons, found_one}
-use Rattle.gh_items.specs.Stands.{SeatStands, index_in}
+use Rattle.gh_items.specs.Stands.{SeatStands, index_in, noted_in}
+use Rattle.gh_schedules.specs.Places.{places_of}
 use Rattle.gh_items.specs.SweepReads.{IsMade, StandsWith, call_at, call_pins, call_steps, counter_at, is_look_at, pinned_count, seat_sections}
 use Rattle.gh_items.specs.declared.progress.Progress.{Progress}
 use Rattle.gh_items.specs.declared.progress.Seat.{Seat}
