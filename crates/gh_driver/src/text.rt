@@ -1,7 +1,7 @@
 //! The history text.
 
 ghost use Rattle.std.specs.Prelude.{◌≡◌, ◌+◌, ◌<◌, ◌^◌, ◌++◌};
-ghost use Rattle.std.specs.Prelude.{ℕ, OnOk, IfOk, string_bytes, filter};
+ghost use Rattle.std.specs.Prelude.{ℕ, OnOk, IfOk, IfSome, string_bytes, filter};
 ghost use Rattle.std.specs.List.{flat_map, enumerate_from, list_any};
 ghost use Rattle.gh_driver.specs.Mapped.{maps_page};
 ghost use Rattle.gh_model.specs.Access.{access_at};
@@ -22,17 +22,45 @@ use std::alloc::Global;
 /// The pages of an address space.
 const PAGES: u16 = 4096;
 
+/// A space and a number of one digit, which is the same in both bases; most numbers are such. None
+/// for a greater number.
+#[tactic(auto, using(std::proofs::lemmas::Fmt::decimal_digit, std::proofs::lemmas::Fmt::hex_one_digit))]
+fn one_digit(n: u64) -> Option<&'static str>
+    ensures decimal { IfSome result (λ text. text.now ≡ spaced n) }
+    ensures hexadecimal { IfSome result (λ text. text.now ≡ spaced_register n) }
+{
+    match n {
+        0 => Some(" 0"),
+        1 => Some(" 1"),
+        2 => Some(" 2"),
+        3 => Some(" 3"),
+        4 => Some(" 4"),
+        5 => Some(" 5"),
+        6 => Some(" 6"),
+        7 => Some(" 7"),
+        8 => Some(" 8"),
+        9 => Some(" 9"),
+        _ => None,
+    }
+}
+
 fn put(out: &mut String, n: u64) -> Result<(), NoMemory>
     ensures { OnOk result (string_bytes out.new ≡ string_bytes out.old ++ spaced n) }
 {
-    write!(out, " {n}")?;
+    match one_digit(n) {
+        Some(text) => out.push_str(text)?,
+        None => write!(out, " {n}")?,
+    }
     Ok(())
 }
 
 fn put_register(out: &mut String, x: u64) -> Result<(), NoMemory>
     ensures { OnOk result (string_bytes out.new ≡ string_bytes out.old ++ spaced_register x) }
 {
-    write!(out, " {x:x}")?;
+    match one_digit(x) {
+        Some(text) => out.push_str(text)?,
+        None => write!(out, " {x:x}")?,
+    }
     Ok(())
 }
 
