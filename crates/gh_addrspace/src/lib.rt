@@ -11,6 +11,3 @@ pub use law::spaces_are_their_rows;
 pub use mapping::{Chosen, Mapping};
 pub use space::Space;
 pub use spaces::Spaces;
-
-#[cfg(test)]
-mod tests;

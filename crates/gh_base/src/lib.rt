@@ -47,6 +47,3 @@ pub use rm::{
     ACCEPT_ID, DONATE_ID, LEND_ID, MemRequest, RECLAIM_ID, RELEASE_ID, Request, RmError, SHARE_ID,
 };
 pub use sequence::Sequence;
-
-#[cfg(test)]
-mod tests;

@@ -5,6 +5,3 @@ mod cspace;
 mod words;
 
 pub use cspace::Cspace;
-
-#[cfg(test)]
-mod tests;

@@ -88,6 +88,3 @@ impl Bell {
         (self.flags, self.enable, self.ack)
     }
 }
-
-#[cfg(test)]
-mod tests;

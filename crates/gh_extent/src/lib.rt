@@ -6,6 +6,3 @@ mod run_list;
 mod runs;
 
 pub use extents::{EXTENT_PAGES, Extents};
-
-#[cfg(test)]
-mod tests;

@@ -5,6 +5,3 @@ mod queue;
 mod slot;
 
 pub use queue::Queue;
-
-#[cfg(test)]
-mod tests;

@@ -22,6 +22,3 @@ pub use law::{
     stage_changes_one_header,
 };
 pub use objects::Objects;
-
-#[cfg(test)]
-mod tests;

@@ -11,6 +11,3 @@ mod upper;
 pub use descriptor::NUMBERED_PAGES;
 pub use law::tables_are_their_answers;
 pub use page_table::PageTable;
-
-#[cfg(test)]
-mod tests;

@@ -119,6 +119,3 @@ impl Partition {
         }
     }
 }
-
-#[cfg(test)]
-mod tests;

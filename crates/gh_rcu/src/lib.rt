@@ -7,6 +7,3 @@ mod law;
 pub use gh_base::{CPUS, Counters};
 pub use grace::Grace;
 pub use law::grace_law;
-
-#[cfg(test)]
-mod tests;

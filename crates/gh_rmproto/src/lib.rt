@@ -10,6 +10,3 @@ pub use gh_base::{MemRequest, Request, RmError};
 pub use law::written_request_is_read;
 pub use reply::write_reply;
 pub use request::{is_request_id, read_request};
-
-#[cfg(test)]
-mod tests;

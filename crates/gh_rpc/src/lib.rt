@@ -14,6 +14,3 @@ pub use law::{
     open_message_is_unfinished, stream_gives_its_messages,
 };
 pub use message::fragments;
-
-#[cfg(test)]
-mod tests;

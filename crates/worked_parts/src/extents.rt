@@ -3,8 +3,9 @@
 ghost use Rattle.std.specs.Prelude.{◌≤◌, length};
 ghost use Rattle.gh_extent.specs.Extents.{CanGiveBack};
 
-use crate::Extents;
+use crate::outcome::holds;
 use gh_base::{Access, Errno, NoMemory, PageNo, Relation, Serial};
+use gh_extent::Extents;
 use gh_model::{Holders, Span};
 use std::alloc::Global;
 
@@ -13,17 +14,6 @@ const ROOT: Serial = Serial(4);
 const FIRST: Serial = Serial(5);
 
 const SECOND: Serial = Serial(6);
-
-// What is seen of extents stands behind functions that promise nothing, so that no proof carries
-// it.
-
-/// Whether it holds, and there was memory to find out.
-fn holds(found: Result<bool, NoMemory>) -> bool {
-    match found {
-        Ok(found) => found,
-        Err(NoMemory) => false,
-    }
-}
 
 /// Whether the pages 2 to 4 of eight are the derived extent's.
 fn are_derived(extents: &Extents) -> bool

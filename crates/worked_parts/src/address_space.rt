@@ -2,7 +2,8 @@
 
 ghost use Rattle.std.specs.Prelude.{◌<◌, ◌≤◌};
 
-use crate::Space;
+use crate::outcome::holds;
+use gh_addrspace::Space;
 use gh_base::{Access, Errno, NoMemory, PageNo, Serial};
 use gh_extent::{EXTENT_PAGES, Extents};
 use gh_model::{Holders, MapRow};
@@ -24,16 +25,6 @@ fn row(extent: Serial, base: u64, count: u64) -> MapRow {
         count,
         access: Access::ALL,
         handle: 0,
-    }
-}
-
-// What is seen of spaces stands behind functions without clauses, so that no proof carries it.
-
-/// Whether it holds, and there was memory to find out.
-fn holds(found: Result<bool, NoMemory>) -> bool {
-    match found {
-        Ok(found) => found,
-        Err(NoMemory) => false,
     }
 }
 

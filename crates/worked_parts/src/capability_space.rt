@@ -1,11 +1,9 @@
 //! Worked slots of one capability space.
 
-use crate::Cspace;
 use gh_base::{CapState, CapWord, Errno, Kind, ObjIndex, Rights};
+use gh_cspace::Cspace;
 
 const BELL: ObjIndex = ObjIndex(7);
-
-// What is seen of a space stands behind functions without clauses, so that no proof carries it.
 
 /// Whether the least free slot is this one. It is filled.
 fn fills(space: &mut Cspace, slot: u8) -> bool {

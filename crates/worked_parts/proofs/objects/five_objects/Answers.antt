@@ -1,6 +1,6 @@
 -- The conditions of each call are computed from the calls before it.
 use Rattle.std.proofs.Common.{refl, lit<}
-use Rattle.gh_objects.proofs.tests.five_objects.Goals as goal
+use Rattle.worked_parts.proofs.objects.five_objects.Goals as goal
 
 pub insert-requires-2-clause-index : goal.insert-requires-2-clause-index
 insert-requires-2-clause-index c = rw (c.insert.ensures.inserted, c.in_ok-objects.ensures) (record { partition = refl; first = refl; place = lit< tt; free = refl })

@@ -1,18 +1,9 @@
 //! A session of a queue of one message, and messages that wrap round the end of the ring.
 
-use crate::Queue;
+use crate::outcome::holds;
 use gh_base::{Errno, NoMemory};
+use gh_msgqueue::Queue;
 use std::alloc::Global;
-
-// What is seen of a queue stands behind functions without clauses, so that no proof carries it.
-
-/// Whether it holds, and there was memory to find out.
-fn holds(found: Result<bool, NoMemory>) -> bool {
-    match found {
-        Ok(found) => found,
-        Err(NoMemory) => false,
-    }
-}
 
 /// Why no message is received into a buffer of so many bytes.
 fn refusal(queue: &mut Queue, room: u64) -> Option<Errno> {

@@ -1,10 +1,9 @@
 //! A worked life of a few objects.
 
-use crate::Objects;
+use crate::outcome::holds;
 use gh_base::{Kind, NoMemory, ObjIndex, Serial, Stage};
+use gh_objects::Objects;
 use std::alloc::Global;
-
-// What is seen of objects stands behind functions without clauses, so that no proof carries it.
 
 /// Three partitions, a doorbell and a capability space, and the indices that they were given.
 fn five_objects(alloc: Global) -> Result<(Objects, [ObjIndex; 5]), NoMemory> {
@@ -20,14 +19,6 @@ fn five_objects(alloc: Global) -> Result<(Objects, [ObjIndex; 5]), NoMemory> {
         objects.insert(Kind::Cspace, made, Serial(5), Stage::Ready),
     ];
     Ok((objects, indices))
-}
-
-/// Whether it holds, and there was memory to find out.
-fn holds(found: Result<bool, NoMemory>) -> bool {
-    match found {
-        Ok(found) => found,
-        Err(NoMemory) => false,
-    }
 }
 
 /// Whether each of the five has the least index that is free in its partition.

@@ -1,6 +1,6 @@
 -- The conditions of each call are computed from the calls before it.
 use Rattle.std.proofs.Common.{refl, lit<, arith}
-use Rattle.gh_objects.proofs.tests.life_of_a_doorbell.Goals as goal
+use Rattle.worked_parts.proofs.objects.life_of_a_doorbell.Goals as goal
 
 pub insert-requires-2-clause-index : goal.insert-requires-2-clause-index
 insert-requires-2-clause-index c = rw (c.insert.ensures.inserted, c.in_ok-objects.ensures) (lit< tt)
