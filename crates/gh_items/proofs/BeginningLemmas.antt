@@ -1,5 +1,5 @@
 -- The progress of a run before the first call.
-use Rattle.std.proofs.Common.{◌≡◌, ◌<◌, ◌≤◌, ◌+◌, ◌∙◌, ℕ, zero, suc, List, [], ◌∷◌, ◌++◌, ap, arith, length, map, refl, replicate, subst, sym, Option, Some, None, is_some, slice_get}
+use Rattle.std.proofs.Common.{◌≡◌, ◌<◌, ◌≤◌, ◌+◌, ◌∙◌, ℕ, zero, suc, List, [], ◌∷◌, ◌++◌, ap, arith, inl, inr, ◌-◌, length, length-append, map, refl, replicate, subst, sym, Option, Some, None, is_some, slice_get}
 use Rattle.std.specs.Prelude.{IsTrue, nat_lt}
 use Rattle.std.specs.List.{range_with_len}
 use Rattle.std.specs.Option.{option_map_or}
@@ -22,6 +22,8 @@ use Rattle.gh_schedules.specs.Places.{boot_place, is_earlier_partition, is_parti
 use Rattle.gh_events.proofs.Boxes.{more_pass}
 use Rattle.gh_invariant.proofs.BootValid.{boot_valid}
 use Rattle.std.proofs.lemmas.Bool.{and_parts}
+use Rattle.std.proofs.lemmas.Bool.Decides.{eqb_tells}
+use Rattle.gh_items.proofs.MadeLemmas.{item_front, item_last}
 use Rattle.gh_schedules.proofs.BootBlocks.{start_is_steady}
 use Rattle.gh_schedules.proofs.Ranks.{boot_indices, few_partitions}
 
@@ -40,6 +42,21 @@ same_at : {X : Type 0} (count at : ℕ) (x y : X) → slice_get (replicate count
 same_at zero at x y is = absurd (let never : ⊥ = cc in never)
 same_at (suc count) zero x y is = let same : x ≡ y = cc in same
 same_at (suc count) (suc at) x y is = same_at count at x y is
+
+-- one more object is noted
+pub noted_more : (next : ℕ) (noted : List ℕ) (places : ℕ → ℕ) (place : ℕ) → AreAllNoted next noted places → place ≡ places next
+    → AreAllNoted (next + 1) (noted ++ place ∷ []) places
+noted_more next noted places place all is = record {
+  count = omega (arith, length-append noted (place ∷ []), all.count);
+  each = λ serial some made. elim (eqb_tells serial next) as (λ _. slice_get (noted ++ place ∷ []) (serial - 1) ≡ Some (places serial)) [
+    | inl same ↦
+        (let last : serial - 1 ≡ length noted = omega (arith, same.1, all.count) in
+        ap (slice_get (noted ++ place ∷ [])) last ∙ item_last noted place ∙ ap Some (is ∙ ap places (sym same.1)))
+    | inr differs ↦
+        item_front noted place (serial - 1) (omega (arith, some, made, differs.1, all.count))
+        ∙ all.each serial some (omega (arith, made, differs.1))
+  ];
+}
 
 -- the start
 

@@ -5,7 +5,7 @@ use Rattle.gh_base.specs.CapWord.{object_of}
 use Rattle.gh_base.specs.declared.cap_word.CapWord.{CapWord}
 use Rattle.gh_base.specs.declared.ids.Serial.{Serial}
 use Rattle.gh_schedules.specs.Committing.{commits_of, committing, entry_event, gains_owed, is_made, losses_settled, owe, revives, settle, slot_word, with_new}
-use Rattle.gh_schedules.specs.Places.{added}
+use Rattle.gh_schedules.specs.Places.{added, places_of}
 use Rattle.gh_events.specs.Config.{Config, Cpu, Current, present, put}
 use Rattle.gh_events.specs.Entries.{index_after, logged, makes_object, next_state, slot_set}
 use Rattle.gh_events.specs.Events.{after}
@@ -124,8 +124,8 @@ module _ (conf : Config) (at : ℕ) (entry : Entry) (call : Current) (now : (con
 
   by_made : (made : Option ObjectRow) → made ≡ None
       → IsLike (with_logged conf entry call)
-      (after_all conf (gains ++ (revives at s conf.index (gained s changes) made
-      ++ (entry_event at entry new conf.index (with_new s conf.index made) (slot_set changes) ∷ losses_settled at conf.index (lost s changes)))))
+      (after_all conf (gains ++ (revives at s (places_of conf) conf.index (gained s changes) made
+      ++ (entry_event at entry new conf.index (with_new s (places_of conf) conf.index made) (slot_set changes) ∷ losses_settled at conf.index (lost s changes)))))
   by_made (Some row) none = absurd (let never : ⊥ = cc in never)
   by_made None none = rest_like
 

@@ -29,12 +29,12 @@ use Rattle.gh_model.specs.declared.state.State.{State}
 
 -- a list with one more item
 
-item_front : {X : Type 0} (xs : List X) (x : X) (i : ℕ) → i < length xs → slice_get (xs ++ x ∷ []) i ≡ slice_get xs i
+pub item_front : {X : Type 0} (xs : List X) (x : X) (i : ℕ) → i < length xs → slice_get (xs ++ x ∷ []) i ≡ slice_get xs i
 item_front [] x i few = absurd (omega (arith, few))
 item_front (y ∷ xs) x zero few = refl
 item_front (y ∷ xs) x (suc i) few = item_front xs x i (omega (arith, few))
 
-item_last : {X : Type 0} (xs : List X) (x : X) → slice_get (xs ++ x ∷ []) (length xs) ≡ Some x
+pub item_last : {X : Type 0} (xs : List X) (x : X) → slice_get (xs ++ x ∷ []) (length xs) ≡ Some x
 item_last [] x = refl
 item_last (y ∷ xs) x = item_last xs x
 

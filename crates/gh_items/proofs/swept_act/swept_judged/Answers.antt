@@ -1,7 +1,10 @@
 -- The seat has room for the call, and the call ends as its act was judged.
-use Rattle.std.proofs.Common.{◌<◌, length, subst, sym}
+use Rattle.std.proofs.Common.{◌<◌, ◌∙◌, ℕ, List, ap, length, subst, sym}
 use Rattle.gh_core.specs.Running.{current_of}
 use Rattle.gh_items.specs.Acts.{judged_in}
+use Rattle.gh_items.specs.NewIndex.{place_for}
+use Rattle.gh_items.specs.Stands.{noted_in}
+use Rattle.gh_model.specs.declared.state.State.{State}
 use Rattle.gh_items.specs.declared.progress.Progress.{Progress}
 use Rattle.gh_items.proofs.ActLemmas.{prepared}
 use Rattle.gh_items.proofs.LeaveLemmas.{calls_few, sections_few}
@@ -73,7 +76,10 @@ returns-in-Done-clause-stands g c =
     (λ ends.
     done_ends c.args.progress.now g.conf c.args.cpu.0 c.args.call.now c.requires.1.0 c.requires.0 c.seat_of-seat.result c.seat_of-seat.ensures c.requires.1.1
     c.judge.new.progress c.in_ok-judged.judged c.in_ok-judged.ensures.judged c.in_ok-judged.ensures.same c.in-Done.reply c.in-Done.is
-    c.in_ok-index.index c.in_ok-index.ensures c.new_place-place.result c.new_place-place.ensures c.end_done.new.progress ends)
+    c.in_ok-index.index c.in_ok-index.ensures c.new_place-place.result
+    (c.new_place-place.ensures ∙ ap (λ (s : State). place_for s (noted_in c.as_slice.result.now)) c.state.ensures.state
+    ∙ ap (λ (noted : List ℕ). place_for c.args.progress.now.plain (noted_in noted)) c.as_slice.ensures)
+    c.end_done.new.progress ends)
     c.end_done.ensures
 
 pub returns-in-Done-clause-marks : goal.returns-in-Done-clause-marks
