@@ -21,6 +21,3 @@ pub use laws::{
 };
 pub use read::read_boot;
 pub use write::write_boot;
-
-#[cfg(test)]
-mod tests;

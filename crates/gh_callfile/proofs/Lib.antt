@@ -4,5 +4,4 @@ mod CpuLemmas
 mod RegisterLemmas
 pub mod ProgramLemmas
 mod SpellingLemmas
-mod WorkedLemmas
 mod WritingLemmas

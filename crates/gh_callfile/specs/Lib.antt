@@ -3,5 +3,4 @@ pub mod Grammar
 pub mod Schedule
 pub mod Spelling
 pub mod VmProgress
-pub mod WorkedBoot
 pub mod Writing

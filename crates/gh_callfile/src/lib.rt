@@ -20,6 +20,3 @@ pub use vm_program::VmProgram;
 pub use writing_law::{
     file_read_is_spelled, file_written_is_read, line_written_is_read, value_written_is_read,
 };
-
-#[cfg(test)]
-mod tests;

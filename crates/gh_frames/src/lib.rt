@@ -14,6 +14,3 @@ mod refusals;
 
 pub use capabilities::needs;
 pub use read::read_call;
-
-#[cfg(test)]
-mod tests;

@@ -23,6 +23,3 @@ pub use memory_sink::{MemSink, SureSink};
 pub use sink::{PutErr, Sink};
 pub use system::{StandardOutput, SystemDisk, SystemFile};
 pub use writer::Writer;
-
-#[cfg(test)]
-mod tests;

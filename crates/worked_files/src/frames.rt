@@ -1,10 +1,8 @@
 //! Worked frames that are refused, and frames with hostile registers that are read all the same.
 
-use crate::read_call;
 use gh_base::{Call, Errno, Frame, NoMemory, Sequence};
+use gh_frames::read_call;
 use std::alloc::Global;
-
-// What is read of frames stands behind functions without clauses, so that no proof carries it.
 
 /// Registers x0 to x8.
 type Registers = [u64; 9];

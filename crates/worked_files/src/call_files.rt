@@ -2,22 +2,13 @@
 
 ghost use Rattle.std.specs.Prelude.{◌≡◌, true, false, OnOk};
 ghost use Rattle.gh_callfile.specs.VmProgress.{has_made_one};
-ghost use Rattle.gh_callfile.specs.WorkedBoot.{worked_lines};
 
-use crate::{FileErr, VmProgram, read_calls, read_schedule};
-use gh_base::{CpuNo, NoMemory, Reply, Serial};
-use gh_model::{Boot, BootLine, Line, Program, Step};
+use crate::outcome::holds;
+use gh_base::{CpuNo, NoMemory, Reply};
+use gh_bootfile::read_boot;
+use gh_callfile::{FileErr, VmProgram, read_calls, read_schedule};
+use gh_model::{Boot, Line, Program, Step};
 use std::alloc::Global;
-
-// What is read stands behind functions without clauses, so that no proof carries it.
-
-/// Whether it holds, and there was memory to find out.
-fn holds(found: Result<bool, NoMemory>) -> bool {
-    match found {
-        Ok(found) => found,
-        Err(NoMemory) => false,
-    }
-}
 
 /// A line, its registers x0 to x3, its bytes and how often it may be made.
 type LineRow = (&'static str, [u64; 4], &'static [u8], u32);
@@ -149,35 +140,8 @@ fn the_first_bad_line_is_named(rt: HostRuntime) {
 }
 
 /// A boot file of a VM and the resource manager.
-#[tactic(auto, unfolding(crate::specs::WorkedBoot::worked_lines))]
-fn lines() -> [BootLine; 9]
-    ensures { result ≡ worked_lines }
-{
-    let partition = Serial(1);
-    [
-        BootLine::Pages { count: 1 },
-        BootLine::Partition { quota: 40 },
-        BootLine::Cspace { partition },
-        BootLine::Cspace { partition },
-        BootLine::Addrspace { partition },
-        BootLine::Addrspace { partition },
-        BootLine::RootExtent { partition },
-        BootLine::Vm {
-            cspace: Serial(2),
-            space: Serial(4),
-        },
-        BootLine::Rm {
-            cspace: Serial(3),
-            space: Serial(5),
-            partition,
-        },
-    ]
-}
-
-#[tactic(auto, using(crate::proofs::WorkedLemmas::worked_lines_fit))]
-fn boot(alloc: Global) -> Result<Boot, NoMemory> {
-    Ok(Boot::new(Vec::from_slice(alloc, &lines())?))
-}
+const BOOT: &str = "gunyah 1\npages 1\npartition 40\ncspace 1\ncspace 1\naddrspace 1\n\
+                    addrspace 1\nrootextent 1\nvm 2 4\nrm 3 5 1\n";
 
 fn cpus_are_read(alloc: Global, boot: &Boot) -> bool {
     match read_schedule(alloc, "\n10\n\n1".as_bytes(), boot) {
@@ -214,14 +178,16 @@ fn items_are_named(alloc: Global, boot: &Boot) -> bool {
     all
 }
 
-fn schedules_are_read(alloc: Global) -> Result<bool, NoMemory> {
-    let boot = boot(alloc)?;
-    Ok(cpus_are_read(alloc, &boot) && items_are_named(alloc, &boot))
+fn schedules_are_read(alloc: Global) -> bool {
+    match read_boot(alloc, BOOT.as_bytes()) {
+        Ok(boot) => cpus_are_read(alloc, &boot) && items_are_named(alloc, &boot),
+        Err(_) => false,
+    }
 }
 
 #[test]
 fn a_schedule_names_cpus_of_the_boot_file(rt: HostRuntime) {
-    assert!(rt; holds(schedules_are_read(rt.alloc())));
+    assert!(rt; schedules_are_read(rt.alloc()));
 }
 
 /// What a call has in x0; 0 where the program has ended, and 1 where it is idle.

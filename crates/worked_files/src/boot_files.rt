@@ -1,21 +1,12 @@
 //! Boot files that are read and written back, and for each condition lines that break it, with the
 //! first bad line counted by hand.
 
-use crate::{FileErr, read_boot, write_boot};
+use crate::outcome::holds;
 use gh_base::NoMemory;
+use gh_bootfile::{FileErr, read_boot, write_boot};
 use gh_model::Boot;
 use std::alloc::Global;
 use std::ops::Range;
-
-// What is read and written stands behind functions without clauses, so that no proof carries it.
-
-/// Whether it holds, and there was memory to find out.
-fn holds(found: Result<bool, NoMemory>) -> bool {
-    match found {
-        Ok(found) => found,
-        Err(NoMemory) => false,
-    }
-}
 
 /// The partition is object 1, its capability space 2, its address space 3, the root extent 4.
 fn one_vm() -> &'static str {

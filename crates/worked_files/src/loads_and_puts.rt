@@ -3,26 +3,16 @@
 
 ghost use Rattle.std.specs.Prelude.{None, false};
 
-use crate::{
+use crate::outcome::holds;
+use gh_base::{CpuNo, NoMemory};
+use gh_io::{
     Disk, Files, Gate, HostFiles, HostSink, LoadErr, MemFiles, MemSink, NoGate, PutErr, Reader,
     Sink, SureFiles, SureSink,
 };
-use gh_base::{CpuNo, NoMemory};
 use std::alloc::Global;
 use std::fmt::Display;
 use std::io::ErrorKind;
 use std::{fs, io};
-
-// What is seen of files and sinks stands behind functions without clauses, so that no proof carries
-// it.
-
-/// Whether it holds, and there was memory to find out.
-fn holds(found: Result<bool, NoMemory>) -> bool {
-    match found {
-        Ok(found) => found,
-        Err(NoMemory) => false,
-    }
-}
 
 fn entry(alloc: Global, name: &str, text: &str) -> Result<(String, Vec<u8>), NoMemory> {
     let name = String::from_str(alloc, name)?;
@@ -137,7 +127,7 @@ fn no_file_fails<F: Files>(files: &mut F, alloc: Global, path: &str) -> bool {
 #[test]
 fn a_real_file_gives_its_first_bytes(rt: HostRuntime) {
     let alloc = rt.alloc();
-    let path = "gh_io_real_file.tmp";
+    let path = "real_file.tmp";
     let written = fs::write(&rt, path, "gunyah 1\n").is_ok();
     let mut files = HostFiles::new(&rt, alloc);
     let loaded = loads_fronts(&mut files, alloc, path);
