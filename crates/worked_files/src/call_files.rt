@@ -53,18 +53,17 @@ fn is_one(lines: &[Line], x: &[u64; 4], bytes: &[u8], times: u32) -> bool {
     }
 }
 
-fn is_read(alloc: Global, row: LineRow) -> bool {
-    let (text, x, bytes, times) = row;
+fn is_read(alloc: Global, text: &str, x: &[u64; 4], bytes: &[u8], times: u32) -> bool {
     match read_calls(alloc, text.as_bytes(), 65_536) {
-        Ok(lines) => is_one(lines.as_slice(), &x, bytes, times),
+        Ok(lines) => is_one(lines.as_slice(), x, bytes, times),
         Err(_) => false,
     }
 }
 
 fn are_read(alloc: Global) -> bool {
     let mut all = true;
-    for row in line_rows() {
-        all = all && is_read(alloc, row);
+    for (text, x, bytes, times) in line_rows() {
+        all = all && is_read(alloc, text, &x, bytes, times);
     }
     all
 }
