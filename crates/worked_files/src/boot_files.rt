@@ -113,29 +113,27 @@ fn boot_files_are_written_back(rt: HostRuntime) {
 }
 
 /// Whole texts, and the number of the first bad line.
-fn whole_texts() -> [(&'static str, u32); 12] {
-    [
-        ("", 1),
-        ("gunyah 1", 1),
-        ("gunyah 2\npages 8\n", 1),
-        ("gunyah 1\n", 2),
-        ("gunyah 1\npages 0\n", 2),
-        ("gunyah 1\npages 1025\n", 2),
-        ("gunyah 1\npartition 40\n", 2),
-        ("gunyah 1\npages 8\n", 3),
-        ("gunyah 1\npages 8\npartition 1\nrootextent 1\n", 4),
-        ("gunyah 1\npages 8\npartition 40\nrootextent 1\n", 5),
-        (
-            "gunyah 1\npages 8\npartition 40\ncspace 1\naddrspace 1\nvm 2 3\n",
-            7,
-        ),
-        ("gunyah 1\npages 8\npartition 40\nrootextent 1", 4),
-    ]
-}
+const WHOLE_TEXTS: [(&str, u32); 12] = [
+    ("", 1),
+    ("gunyah 1", 1),
+    ("gunyah 2\npages 8\n", 1),
+    ("gunyah 1\n", 2),
+    ("gunyah 1\npages 0\n", 2),
+    ("gunyah 1\npages 1025\n", 2),
+    ("gunyah 1\npartition 40\n", 2),
+    ("gunyah 1\npages 8\n", 3),
+    ("gunyah 1\npages 8\npartition 1\nrootextent 1\n", 4),
+    ("gunyah 1\npages 8\npartition 40\nrootextent 1\n", 5),
+    (
+        "gunyah 1\npages 8\npartition 40\ncspace 1\naddrspace 1\nvm 2 3\n",
+        7,
+    ),
+    ("gunyah 1\npages 8\npartition 40\nrootextent 1", 4),
+];
 
 fn have_their_bad_line(alloc: Global) -> bool {
     let mut all = true;
-    for (text, line) in whole_texts() {
+    for (text, line) in WHOLE_TEXTS {
         all = all && bad_line(alloc, text) == line;
     }
     all
@@ -260,19 +258,17 @@ fn put_lines(
 }
 
 /// Lines behind the twelve, each with its number, and the first bad line.
-fn numbered_lines() -> [(&'static str, (u32, u32), &'static str, u32); 6] {
-    [
-        // eight partitions, the first among them
-        ("partition ", (1, 8), "", 0),
-        ("partition ", (1, 9), "", 20),
-        // 64 mappings of an address space
-        ("map 3 4 ", (0, 64), " 0 1 7", 0),
-        ("map 3 4 ", (0, 65), " 0 1 7", 77),
-        // all slots of a capability space
-        ("cap 2 ", (2, 128), " 5 3 0", 0),
-        ("cap 2 ", (2, 129), " 5 3 0", 139),
-    ]
-}
+const NUMBERED_LINES: [(&str, (u32, u32), &str, u32); 6] = [
+    // eight partitions, the first among them
+    ("partition ", (1, 8), "", 0),
+    ("partition ", (1, 9), "", 20),
+    // 64 mappings of an address space
+    ("map 3 4 ", (0, 64), " 0 1 7", 0),
+    ("map 3 4 ", (0, 65), " 0 1 7", 77),
+    // all slots of a capability space
+    ("cap 2 ", (2, 128), " 5 3 0", 0),
+    ("cap 2 ", (2, 129), " 5 3 0", 139),
+];
 
 /// The first bad line where there is a line with each of these numbers behind the twelve.
 fn bad_line_of(
@@ -288,7 +284,7 @@ fn bad_line_of(
 
 fn limits_are_kept(alloc: Global) -> bool {
     let mut all = true;
-    for (word, numbers, back, line) in numbered_lines() {
+    for (word, numbers, back, line) in NUMBERED_LINES {
         all = all && bad_line_of(alloc, word, numbers, back) == Ok(line);
     }
     all

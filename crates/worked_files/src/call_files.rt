@@ -101,33 +101,31 @@ fn bad_line(alloc: Global, text: &str, room: u32) -> u32 {
 }
 
 /// Call files, the room for their calls, and the first bad line.
-fn call_files() -> [(&'static str, u32, u32); 19] {
-    [
-        ("", 0, 0),
-        ("0 * 2\n0\n", 3, 0),
-        ("0\nC6008000\n", 9, 2),
-        ("0\n0\n01\n", 9, 3),
-        ("0 0 0 0 0 0 0 0 0 0\n", 9, 1),
-        ("10000000000000000\n", 9, 1),
-        ("0 : 123\n", 9, 1),
-        ("0 :\n", 9, 1),
-        ("0 : AB\n", 9, 1),
-        ("0 * 0\n", 9, 1),
-        ("0 * 65537\n", 99_999, 1),
-        ("0 * 01\n", 9, 1),
-        ("0 * 1 : ab\n", 9, 1),
-        ("0  0\n", 9, 1),
-        ("0 \n", 9, 1),
-        ("\n", 9, 1),
-        ("0\n0", 9, 2),
-        ("0 * 2\n0\n0\n", 3, 3),
-        ("0 * 4\n", 3, 1),
-    ]
-}
+const CALL_FILES: [(&str, u32, u32); 19] = [
+    ("", 0, 0),
+    ("0 * 2\n0\n", 3, 0),
+    ("0\nC6008000\n", 9, 2),
+    ("0\n0\n01\n", 9, 3),
+    ("0 0 0 0 0 0 0 0 0 0\n", 9, 1),
+    ("10000000000000000\n", 9, 1),
+    ("0 : 123\n", 9, 1),
+    ("0 :\n", 9, 1),
+    ("0 : AB\n", 9, 1),
+    ("0 * 0\n", 9, 1),
+    ("0 * 65537\n", 99_999, 1),
+    ("0 * 01\n", 9, 1),
+    ("0 * 1 : ab\n", 9, 1),
+    ("0  0\n", 9, 1),
+    ("0 \n", 9, 1),
+    ("\n", 9, 1),
+    ("0\n0", 9, 2),
+    ("0 * 2\n0\n0\n", 3, 3),
+    ("0 * 4\n", 3, 1),
+];
 
 fn are_named(alloc: Global) -> bool {
     let mut all = true;
-    for (text, room, line) in call_files() {
+    for (text, room, line) in CALL_FILES {
         all = all && bad_line(alloc, text, room) == line;
     }
     all
@@ -159,19 +157,17 @@ fn bad_item(alloc: Global, boot: &Boot, text: &str) -> u32 {
 }
 
 /// Schedules with the first item that isn't a CPU.
-fn schedules() -> [(&'static str, u32); 5] {
-    [
-        ("1\n2", 2),
-        ("9", 1),
-        ("11 1", 3),
-        ("x", 1),
-        ("01\n\n01\n8", 5),
-    ]
-}
+const SCHEDULES: [(&str, u32); 5] = [
+    ("1\n2", 2),
+    ("9", 1),
+    ("11 1", 3),
+    ("x", 1),
+    ("01\n\n01\n8", 5),
+];
 
 fn items_are_named(alloc: Global, boot: &Boot) -> bool {
     let mut all = true;
-    for (text, item) in schedules() {
+    for (text, item) in SCHEDULES {
         all = all && bad_item(alloc, boot, text) == item;
     }
     all
