@@ -81,8 +81,8 @@ fn put<K: Sink>(sink: &mut K, alloc: Global, piece: &[u8]) -> Result<usize, PutE
     }
 }
 
-/// What a sink that takes five bytes of a piece and fails at the second answers to three pieces, and
-/// whether it has the bytes that it took after the second and after the third.
+/// Whether a sink that takes five bytes of a piece and fails at the second answers so to three
+/// pieces, and has the bytes that it took after the second and after the third.
 fn puts_are_as_planned(alloc: Global) -> Result<bool, NoMemory> {
     let mut sink = MemSink::new(vec![in alloc; 2]?, 5);
     let first = put(&mut sink, alloc, b"history 4");
