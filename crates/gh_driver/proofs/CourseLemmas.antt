@@ -59,14 +59,26 @@ some_left : (current : Option Current) (next : Option Given) (call : Given) → 
 some_left None next call is = some_next next call is
 some_left (Some one) next call is = some_at one.stage (length (needs_of one.given.call) - length one.seen)
 
--- a call that is given has seven items at most
+-- a call has seven items at most
+few_at : (stage : Stage) (looks : ℕ) → looks ≤ 2 → items_at stage looks ≤ 7
+few_at Reading looks few = omega (arith, few)
+few_at Looked looks few = omega (arith, few)
+few_at DeadPin looks few = omega arith
+few_at Undone looks few = omega arith
+few_at Failed looks few = omega arith
+few_at AtAct looks few = omega arith
+
 few_next : (next : Option Given) → items_of_next next ≤ 7
 few_next None = omega arith
 few_next (Some one) = omega (arith, few_needs one.call)
 
--- so has a CPU without a call in progress
-few_left : (cpu : Cpu) → cpu.current ≡ None → items_left cpu ≤ 7
-few_left cpu none = subst (λ (current : Option Current). items_of_call current cpu.next ≤ 7) (sym none) (few_next cpu.next)
+few_of : (current : Option Current) (next : Option Given) → items_of_call current next ≤ 7
+few_of None next = few_next next
+few_of (Some one) next = few_at one.stage (length (needs_of one.given.call) - length one.seen) (omega (arith, few_needs one.given.call))
+
+-- so has a CPU
+few_left : (cpu : Cpu) → items_left cpu ≤ 7
+few_left cpu = few_of cpu.current cpu.next
 
 -- the events of an item are its steps
 pub steps_are : (conf : Config) (events : List Event) → after_steps conf (map Does events) ≡ after_all conf events
@@ -127,7 +139,7 @@ module _ {P : Type 0} where
       ∙ sym (items_more n 1 course at)
 
   -- an item leaves the programs
-  item_programs : (course : Course P) (at : ℕ) (has : Bool)
+  pub item_programs : (course : Course P) (at : ℕ) (has : Bool)
       → (if has then with_steps course (map Does (item course.conf at)) else course).programs ≡ course.programs
   item_programs course at true = refl
   item_programs course at false = refl
@@ -266,6 +278,33 @@ module _ {P : Type 0} where
         | inr over ↦ stays_ended (suc n) before course at frame along over
       ]
 
+  -- seven items end any call
+
+  module _ (before course : Course P) (at : ℕ) (frame : Frame) (within : at < CPUS) (along : IsAlong before course at frame) where
+    abbrev left : ℕ
+    left = items_left (course.conf.cpu at)
+
+    pub whole_items : with_items 7 course at ≡ ended_call course at
+    whole_items =
+        ap (λ (n : ℕ). with_items n course at)
+        (let sum : 7 ≡ left + (7 - left) = omega (arith, few_left (course.conf.cpu at)) in sum)
+        ∙ items_more left (7 - left) course at
+        ∙ no_items (7 - left) (ended_call course at) at
+        (over_none before (ended_call course at) at frame
+        (items_end left before course at frame within along (omega arith)).over)
+
+  -- a call in progress
+
+  module _ (course : Course P) (at : ℕ) (steady : IsSteady course.conf) (call : Given)
+      (has : call_of_cpu (course.conf.cpu at) ≡ Some call) where
+    pub under_way : IsAlong course course at call.frame
+    under_way = record {
+      boot = refl;
+      others = λ cpu differs. refl;
+      steady = steady;
+      state = inl (record { call = call; has = has; its_frame = refl; made = refl; marks = refl });
+    }
+
 -- the call that a CPU is given
 
 module _ {P : Type 0} (answer : P → Option Reply → Step) (after : P → Option Reply → P)
@@ -331,27 +370,6 @@ module _ {P : Type 0} (answer : P → Option Reply → Step) (after : P → Opti
     state = given_state (call_of its.frame) here;
   }
 
-  -- it isn't in progress yet
-  no_current : (first.conf.cpu at).current ≡ None
-  no_current = ap (λ (cpu : Cpu). cpu.current) here ∙ by_shape (call_of its.frame)
-    where
-      by_shape : (shape : Result Call Errno) → (shaped shape).current ≡ None
-      by_shape (Ok call) = may.between.none
-      by_shape (Err errno) = may.between.none
-
-  abbrev left : ℕ
-  left = items_left (first.conf.cpu at)
-
-  -- seven items are the whole call
-  whole_items : with_items 7 first at ≡ ended_call first at
-  whole_items =
-      ap (λ (n : ℕ). with_items n first at)
-      (let sum : 7 ≡ left + (7 - left) = omega (arith, few_left (first.conf.cpu at) no_current) in sum)
-      ∙ items_more left (7 - left) first at
-      ∙ no_items (7 - left) (ended_call first at) at
-      (over_none course (ended_call first at) at its.frame
-      (items_end left course first at its.frame within given_along (omega arith)).over)
-
   -- the first item and six more are the whole call
   pub called_is : goes_on course.conf at ≡ true
       → with_items 6 (with_item (with_next_call answer after course at) at) at
@@ -359,28 +377,36 @@ module _ {P : Type 0} (answer : P → Option Reply → Step) (after : P → Opti
   called_is going =
       ap (λ (one : Course P). with_items 6 (with_item one at) at) is_given
       ∙ items_first 6 first at
-      ∙ whole_items
+      ∙ whole_items course first at its.frame within given_along
       ∙ sym (ap (λ (one : Course P). ended_call one at) is_given)
       ∙ sym (ap (λ (on : Bool). if on then ended_call (with_next_call answer after course at) at else course) going)
 
-  -- the call has ended, and the others are as they were
-  pub called_ended : goes_on course.conf at ≡ true → HasEnded course (called answer after course at) at its.frame
-  called_ended going =
-      subst (λ (one : Course P). HasEnded course one at its.frame)
-      (sym (ap (λ (one : Course P). ended_call one at) is_given)
-      ∙ sym (ap (λ (on : Bool). if on then ended_call (with_next_call answer after course at) at else course) going))
-      (items_end left course first at its.frame within given_along (omega arith))
-
   -- its program has the rest left
-  pub called_programs : goes_on course.conf at ≡ true
-      → (called answer after course at).programs ≡ first.programs
-  called_programs going =
-      ap (λ (on : Bool). (if on then ended_call (with_next_call answer after course at) at else course).programs) going
-      ∙ ap (λ (one : Course P). (ended_call one at).programs) is_given
-      ∙ items_programs left first at
+  pub first_programs : (with_item (with_next_call answer after course at) at).programs ≡ first.programs
+  first_programs =
+      item_programs (with_next_call answer after course at) at (is_some (call_of_cpu ((with_next_call answer after course at).conf.cpu at)))
+      ∙ ap (λ (one : Course P). one.programs) is_given
 
   -- its first item goes along
   pub first_along : IsAlong course (with_item (with_next_call answer after course at) at) at its.frame
   first_along =
       subst (λ (one : Course P). IsAlong course (with_item one at) at its.frame) (sym is_given)
       (item_along course first at its.frame within given_along)
+
+-- a call in progress comes to its end, and none is given
+
+module _ {P : Type 0} (answer : P → Option Reply → Step) (after : P → Option Reply → P)
+    (course : Course P) (at : ℕ) (within : at < CPUS) (steady : IsSteady course.conf) (call : Given)
+    (has : call_of_cpu (course.conf.cpu at) ≡ Some call) where
+  pub none_given : with_next_call answer after course at ≡ course
+  none_given = ap (λ (there : Bool). if there then course else with_call answer after course at (next_standing answer after course at)) (ap is_some has)
+
+  pub finished_is : goes_on course.conf at ≡ true
+      → with_items 6 (with_item (with_next_call answer after course at) at) at
+      ≡ called answer after course at
+  finished_is going =
+      ap (λ (one : Course P). with_items 6 (with_item one at) at) none_given
+      ∙ items_first 6 course at
+      ∙ whole_items course course at call.frame within (under_way course at steady call has)
+      ∙ sym (ap (λ (one : Course P). ended_call one at) none_given)
+      ∙ sym (ap (λ (on : Bool). if on then ended_call (with_next_call answer after course at) at else course) going)

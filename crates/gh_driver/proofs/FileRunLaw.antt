@@ -1,5 +1,6 @@
 -- The run of call files is legal, graced, and by their programs. For the crates above.
-use Rattle.std.proofs.Common.{◌≡◌, ◌∙◌, true, false, [], List, map}
+use Rattle.std.proofs.Common.{◌≡◌, ◌∙◌, true, false, List, map}
+use Rattle.gh_base.specs.declared.ids.CpuNo.{CpuNo}
 use Rattle.gh_callfile.specs.VmProgress.{vm_after, vm_answer}
 use Rattle.gh_callfile.proofs.ProgramLemmas.{makes_its_lines}
 use Rattle.gh_driver.specs.FileRun.{file_program, file_run}
@@ -10,13 +11,13 @@ use Rattle.gh_model.specs.Marks.{reply_of}
 use Rattle.gh_model.specs.Run.{IsRun, file_frames, file_of}
 use Rattle.gh_schedules.proofs.CourseRuns.{course_is_run}
 
-pub file_run_is_run : (lines : List BootLine) (files : List (List Line))
+pub file_run_is_run : (lines : List BootLine) (schedule : List CpuNo) (files : List (List Line))
     → boot_fits lines ≡ true
     → has_manager lines ≡ false
-    → IsRun lines (file_frames files) (file_run lines files).entries (file_run lines files).marks
-    (file_run lines files).state
-file_run_is_run lines files fits none =
-    let run = course_is_run vm_answer vm_after lines (file_program files) fits [] in
+    → IsRun lines (file_frames files) (file_run lines schedule files).entries (file_run lines schedule files).marks
+    (file_run lines schedule files).state
+file_run_is_run lines schedule files fits none =
+    let run = course_is_run vm_answer vm_after lines (file_program files) fits schedule in
     record {
       history = run.history;
       calls = run.calls;

@@ -10,12 +10,13 @@ use Rattle.std.proofs.lemmas.List.{length-append, length-set, set-get_or}
 use Rattle.std.proofs.lemmas.List.Folds.{list_any-append}
 use Rattle.std.proofs.lemmas.Option.{slice_get-get_or, slice_get_within}
 use Rattle.gh_base.specs.declared.frame.Frame.{Frame}
+use Rattle.gh_base.specs.declared.ids.CpuNo.{CpuNo}
 use Rattle.gh_base.specs.declared.frame.Reply.{Reply}
 use Rattle.gh_base.specs.declared.limits.TheConstants.{CALL_NUMBERS, CPUS}
 use Rattle.gh_base.specs.declared.mark.Mark.{Mark}
 use Rattle.gh_core.specs.Running.{current_of}
 use Rattle.gh_core.specs.declared.current.CurrentCall.{CurrentCall}
-use Rattle.gh_driver.specs.Follows.{CallsNext, Follows, IsReady, Tracks, ended_seat, has_program, is_going, program_at}
+use Rattle.gh_driver.specs.Follows.{CallsNext, Follows, GoesOn, IsInCall, IsReady, Tracks, ended_seat, has_call, has_program, is_going, program_at}
 use Rattle.gh_driver.specs.declared.running.Running.{Running}
 use Rattle.gh_events.specs.Config.{Config, Cpu, Current, Given, IsBetween}
 use Rattle.gh_events.specs.Sound.{Does, made_by}
@@ -35,11 +36,11 @@ use Rattle.gh_model.specs.Run.{is_mark_of}
 use Rattle.gh_model.specs.declared.program.Standing.{Standing}
 use Rattle.gh_model.specs.declared.program.Step.{Step}
 use Rattle.gh_model.specs.declared.state.State.{State}
-use Rattle.gh_schedules.specs.Course.{Course, call_of_cpu, either_call, goes_on, last_reply, next_standing, with_next_call, with_steps}
+use Rattle.gh_schedules.specs.Course.{Course, call_of_cpu, either_call, goes_on, last_reply, next_standing, with_call, with_next_call, with_steps}
 use Rattle.gh_schedules.specs.Items.{IsSteady, begins, item, item_between, item_of}
-use Rattle.gh_schedules.specs.Schedule.{called, ended_call, with_item, with_items}
+use Rattle.gh_schedules.specs.Schedule.{advanced, called, ended_call, with_item, with_items}
 use Rattle.gh_schedules.specs.Trace.{after_all}
-use Rattle.gh_driver.proofs.CourseLemmas.{HasEnded, IsAlong, IsOver, IsUnderWay, called_ended, called_is, called_programs, first_along, is_given, item_along, items_last, items_none, no_call, no_item, none_between, steps_are}
+use Rattle.gh_driver.proofs.CourseLemmas.{IsAlong, IsOver, IsUnderWay, called_is, finished_is, first_along, first_programs, is_given, item_along, item_programs, items_none, no_call, no_item, none_between, steps_are, under_way}
 use Rattle.gh_driver.proofs.MarkLemmas.{one_mark, reply_is, same_marks, some_last}
 use Rattle.gh_events.proofs.Finding.{put_here, put_other}
 
@@ -166,17 +167,244 @@ module _ {P : Type 0} where
     pub item_tracks : Tracks behind (with_item course at)
     item_tracks = by_call (call_of_cpu (course.conf.cpu at)) refl
 
-  -- no items yet
-  pub none_track : (course : Course P) (progress : Progress) (at : ℕ) → Tracks progress course
-      → Tracks progress (with_items 0 course at)
-  none_track course progress at tracks = subst (λ (one : Course P). Tracks progress one) (sym (items_none course at)) tracks
-
   -- an item's steps lead to what its events do
   begun_is : (course : Course P) (at : ℕ) (has : Bool)
       → (if has then with_steps course (map Does (item course.conf at)) else course).conf
       ≡ (if has then after_all course.conf (item course.conf at) else course.conf)
   begun_is course at true = steps_are course.conf (item course.conf at)
   begun_is course at false = refl
+
+-- what goes on behind an item
+
+module _ {P : Type 0} (wants : P → Bool) (before later : Course P) (at : ℕ) (frame : Frame) (along : IsAlong before later at frame) where
+  -- a CPU that has ended stays so
+  ends_more : (row made more : Bool) → (row && not made) ≡ false → (row && not (made || more)) ≡ false
+  ends_more false made more is = refl
+  ends_more true true more is = refl
+  ends_more true false more is = absurd (let never : ⊥ = cc in never)
+
+  row_kept : (ended : Bool) → (is_some (cpu_row later.conf.boot at) && not ended) ≡ (is_some (cpu_row before.conf.boot at) && not ended)
+  row_kept ended = ap (λ (boot : State). is_some (cpu_row boot at) && not ended) along.boot
+
+  ended_by : IsUnderWay before later at frame ⊎ IsOver before later at frame → goes_on before.conf at ≡ false → goes_on later.conf at ≡ false
+  ended_by (inl way) ended =
+      row_kept (list_any exits (made_by later.conf at))
+      ∙ ap (λ (made : List Made). is_some (cpu_row before.conf.boot at) && not (list_any exits made)) way.made ∙ ended
+  ended_by (inr over) ended =
+      row_kept (list_any exits (made_by later.conf at))
+      ∙ ap (λ (made : List Made). is_some (cpu_row before.conf.boot at) && not (list_any exits made)) over.made
+      ∙ ap (λ (exited : Bool). is_some (cpu_row before.conf.boot at) && not exited) (list_any-append exits (made_by before.conf at) (over.call ∷ []))
+      ∙ ends_more (is_some (cpu_row before.conf.boot at)) (list_any exits (made_by before.conf at)) (list_any exits (over.call ∷ [])) ended
+
+  still_ended : goes_on before.conf at ≡ false → goes_on later.conf at ≡ false
+  still_ended = ended_by along.state
+
+  -- the CPU of the item goes on
+  module _ (going : goes_on before.conf at ≡ true) (waits : is_exit frame ≡ false → wants (later.programs at) ≡ true)
+      (room : is_exit frame ≡ false → length (made_by before.conf at) + 2 ≤ CALL_NUMBERS) where
+    its_parts : (is_some (cpu_row before.conf.boot at) ≡ true) × (list_any exits (made_by before.conf at) ≡ false)
+    its_parts =
+        let both = and_parts (is_some (cpu_row before.conf.boot at)) (not (list_any exits (made_by before.conf at))) going in
+        (both.0, not-true (list_any exits (made_by before.conf at)) both.1)
+
+    row_there : is_some (cpu_row later.conf.boot at) ≡ true
+    row_there = ap (λ (boot : State). is_some (cpu_row boot at)) along.boot ∙ its_parts.0
+
+    in_call : IsUnderWay before later at frame → IsInCall wants later at
+    in_call way = record {
+      call = way.call;
+      has = way.has;
+      is_cpu = row_there;
+      runs = ap (list_any exits) way.made ∙ its_parts.1;
+      ready = λ goes. waits (sym (ap is_exit way.its_frame) ∙ goes);
+      room = λ goes. subst (λ (made : List Made). length made + 2 ≤ CALL_NUMBERS) (sym way.made) (room (sym (ap is_exit way.its_frame) ∙ goes));
+    }
+
+    -- a call that is over, behind which no exit call was made, isn't the exit call
+    no_exit : (over : IsOver before later at frame) → list_any exits (made_by later.conf at) ≡ false → is_exit frame ≡ false
+    no_exit over none =
+        let of_call : list_any exits (over.call ∷ []) ≡ false =
+        (or_parts (list_any exits (made_by before.conf at)) (list_any exits (over.call ∷ []))
+        (sym (list_any-append exits (made_by before.conf at) (over.call ∷ [])) ∙ ap (list_any exits) (sym over.made) ∙ none)).1 in
+        let its : exits over.call ≡ false = (or_parts (exits over.call) false of_call).0 in
+        ap is_exit (sym over.its_frame) ∙ its
+
+    next_call : IsOver before later at frame → goes_on later.conf at ≡ true → CallsNext wants later at
+    next_call over on =
+        let none : list_any exits (made_by later.conf at) ≡ false =
+        not-true (list_any exits (made_by later.conf at)) (and_parts (is_some (cpu_row later.conf.boot at)) (not (list_any exits (made_by later.conf at))) on).1 in
+        let still : is_exit frame ≡ false = no_exit over none in
+        let counted : length (made_by later.conf at) ≡ length (made_by before.conf at) + 1 =
+        ap (λ (made : List Made). length made) over.made ∙ length-append (made_by before.conf at) (over.call ∷ []) in
+        record {
+          may = record {
+            is_cpu = row_there;
+            between = over.between;
+            none = over.none;
+            runs = none;
+            counts = refl;
+            bounded = omega (arith, counted, room still);
+          };
+          waits = waits still
+              ∙ sym (ap (λ (made : List Made). is_some (last_reply made)) over.made ∙ some_last (made_by before.conf at) over.call);
+        }
+
+    goes_by : IsUnderWay before later at frame ⊎ IsOver before later at frame → goes_on later.conf at ≡ true → GoesOn wants later at
+    goes_by (inl way) on = inr (in_call way)
+    goes_by (inr over) on = inl (next_call over on)
+
+    pub goes_again : goes_on later.conf at ≡ true → GoesOn wants later at
+    goes_again = goes_by along.state
+
+  -- the other CPUs go on as they did
+
+  goes_other : (cpu : ℕ) → (cpu == at) ≡ false → goes_on later.conf cpu ≡ goes_on before.conf cpu
+  goes_other cpu differs =
+      ap (λ (boot : State). is_some (cpu_row boot cpu) && not (list_any exits (made_by later.conf cpu))) along.boot
+      ∙ ap (λ (one : Cpu). is_some (cpu_row before.conf.boot cpu) && not (list_any exits one.made)) (along.others cpu differs)
+
+  module _ (others : (cpu : ℕ) → (cpu == at) ≡ false → later.programs cpu ≡ before.programs cpu) where
+    next_other : (cpu : ℕ) → (cpu == at) ≡ false → GoesOn wants before cpu → GoesOn wants later cpu
+    next_other cpu differs (inl was) =
+        let same : later.conf.cpu cpu ≡ before.conf.cpu cpu = along.others cpu differs in
+        inl (record {
+          may = record {
+            is_cpu = ap (λ (boot : State). is_some (cpu_row boot cpu)) along.boot ∙ was.may.is_cpu;
+            between = subst IsBetween (sym same) was.may.between;
+            none = ap (λ (one : Cpu). one.next) same ∙ was.may.none;
+            runs = ap (λ (one : Cpu). list_any exits one.made) same ∙ was.may.runs;
+            counts = refl;
+            bounded = subst (λ (one : Cpu). length one.made + 1 ≤ CALL_NUMBERS) (sym same) was.may.bounded;
+          };
+          waits = ap (λ (program : P). wants program) (others cpu differs) ∙ was.waits
+              ∙ sym (ap (λ (one : Cpu). is_some (last_reply one.made)) same);
+        })
+    next_other cpu differs (inr was) =
+        let same : later.conf.cpu cpu ≡ before.conf.cpu cpu = along.others cpu differs in
+        inr (record {
+          call = was.call;
+          has = ap (λ (one : Cpu). call_of_cpu one) same ∙ was.has;
+          is_cpu = ap (λ (boot : State). is_some (cpu_row boot cpu)) along.boot ∙ was.is_cpu;
+          runs = ap (λ (one : Cpu). list_any exits one.made) same ∙ was.runs;
+          ready = λ goes. ap (λ (program : P). wants program) (others cpu differs) ∙ was.ready goes;
+          room = λ goes. subst (λ (one : Cpu). length one.made + 2 ≤ CALL_NUMBERS) (sym same) (was.room goes);
+        })
+
+    -- and have their programs
+    program_other : (cpu : ℕ) → (cpu == at) ≡ false → program_at later cpu ≡ program_at before cpu
+    program_other cpu differs =
+        ap (λ (boot : State). if is_some (cpu_row boot cpu) then Some (later.programs cpu) else None) along.boot
+        ∙ ap (λ (program : P). if is_some (cpu_row before.conf.boot cpu) then Some program else None) (others cpu differs)
+
+    -- so what goes on behind it goes on
+    all_go : ((cpu : ℕ) → goes_on before.conf cpu ≡ true → GoesOn wants before cpu)
+        → (goes_on later.conf at ≡ true → GoesOn wants later at)
+        → (cpu : ℕ) → goes_on later.conf cpu ≡ true → GoesOn wants later cpu
+    all_go was again cpu on =
+        elim (eqb_tells cpu at) as (λ _. GoesOn wants later cpu) [
+          | inl same ↦ subst (λ (n : ℕ). GoesOn wants later n) (sym same.1) (again (subst (λ (n : ℕ). goes_on later.conf n ≡ true) same.1 on))
+          | inr differs ↦ next_other cpu differs.0 (was cpu (sym (goes_other cpu differs.0) ∙ on))
+        ]
+
+    -- the run behind it, where the CPU's program was asked for its call
+    pub call_follows : at < CPUS → goes_on before.conf at ≡ true → (run new : Running P) (program : P) → Follows wants run before
+        → Tracks new.progress later
+        → program ≡ later.programs at
+        → (goes_on later.conf at ≡ true → GoesOn wants later at)
+        → new.programs ≡ slice_set run.programs at (Some program)
+        → Follows wants new later
+    call_follows within going run new program follows tracks is again put = record {
+      tracks = tracks;
+      nine = ap (λ (programs : List (Option P)). length programs) put ∙ length-set run.programs at (Some program) ∙ follows.nine;
+      programs = λ n one there.
+          let here : at < length run.programs = omega (arith, within, follows.nine) in
+          elim (set_cases run.programs at n _ (Some program) one (slice_get-get_or run.programs at None here) (sym (ap (λ (programs : List (Option P)). slice_get programs n) put) ∙ there))
+          as (λ _. one ≡ program_at later n) [
+            | inl same ↦ sym same.1 ∙ ap Some is ∙ sym own ∙ ap (program_at later) (sym same.0)
+            | inr differs ↦ follows.programs n one differs.1 ∙ sym (program_other n (ne_eqb n at differs.0))
+          ];
+      next = all_go follows.next again;
+    }
+      where
+        own : program_at later at ≡ Some (later.programs at)
+        own =
+            ap (λ (boot : State). if is_some (cpu_row boot at) then Some (later.programs at) else None) along.boot
+            ∙ ap (λ (row : Bool). if row then Some (later.programs at) else None) (and_parts (is_some (cpu_row before.conf.boot at)) (not (list_any exits (made_by before.conf at))) going).0
+
+-- an item of a call in progress, at which no program is asked
+
+module _ {P : Type 0} (wants : P → Bool) (run new : Running P) (course : Course P) (at : ℕ) (within : at < CPUS)
+    (follows : Follows wants run course) (same : new.programs ≡ run.programs)
+    (tracks : Tracks new.progress (with_item course at)) where
+  programs_kept : (with_item course at).programs ≡ course.programs
+  programs_kept = item_programs course at (is_some (call_of_cpu (course.conf.cpu at)))
+
+  own_program : (later : Course P) → later.programs ≡ course.programs → later.conf.boot ≡ course.conf.boot → (cpu : ℕ)
+      → program_at later cpu ≡ program_at course cpu
+  own_program later kept boot cpu =
+      ap (λ (its : State). if is_some (cpu_row its cpu) then Some (later.programs cpu) else None) boot
+      ∙ ap (λ (programs : ℕ → P). if is_some (cpu_row course.conf.boot cpu) then Some (programs cpu) else None) kept
+
+  -- a CPU without a call leaves the course
+  none_follows : call_of_cpu (course.conf.cpu at) ≡ None → Follows wants new (with_item course at)
+  none_follows none =
+      subst (λ (one : Course P). Follows wants new one) (sym (no_item course at none)) (record {
+        tracks = subst (λ (one : Course P). Tracks new.progress one) (no_item course at none) tracks;
+        nine = ap (λ (programs : List (Option P)). length programs) same ∙ follows.nine;
+        programs = λ n one there. follows.programs n one (sym (ap (λ (programs : List (Option P)). slice_get programs n) same) ∙ there);
+        next = follows.next;
+      })
+
+  -- any other one goes on in its call, or behind it
+  module _ (call : Given) (has : call_of_cpu (course.conf.cpu at) ≡ Some call) where
+    along : IsAlong course (with_item course at) at call.frame
+    along = item_along course course at call.frame within (under_way course at tracks_steady call has)
+      where
+        tracks_steady : IsSteady course.conf
+        tracks_steady = follows.tracks.steady
+
+    its_call : GoesOn wants course at → IsInCall wants course at
+    its_call (inl next) =
+        let none : call_of_cpu (course.conf.cpu at) ≡ None = none_between (course.conf.cpu at) next.may.between next.may.none in
+        absurd (let never : ⊥ = cc in never)
+    its_call (inr call_there) = call_there
+
+    same_call : (its : IsInCall wants course at) → its.call ≡ call
+    same_call its = let both : Some its.call ≡ Some call = sym its.has ∙ has in cc
+
+    by_going : (going : Bool) → goes_on course.conf at ≡ going → goes_on (with_item course at).conf at ≡ true → GoesOn wants (with_item course at) at
+    by_going false ended on =
+        let still : goes_on (with_item course at).conf at ≡ false = still_ended wants course (with_item course at) at call.frame along ended in
+        absurd (let never : ⊥ = cc in never)
+    by_going true going on =
+        let its : IsInCall wants course at = its_call (follows.next at going) in
+        goes_again wants course (with_item course at) at call.frame along going
+        (λ goes. ap (λ (programs : ℕ → P). wants (programs at)) programs_kept ∙ its.ready (ap (λ (one : Given). is_exit one.frame) (same_call its) ∙ goes))
+        (λ goes. its.room (ap (λ (one : Given). is_exit one.frame) (same_call its) ∙ goes)) on
+
+    some_follows : Follows wants new (with_item course at)
+    some_follows = record {
+      tracks = tracks;
+      nine = ap (λ (programs : List (Option P)). length programs) same ∙ follows.nine;
+      programs = λ n one there.
+          follows.programs n one (sym (ap (λ (programs : List (Option P)). slice_get programs n) same) ∙ there)
+          ∙ sym (own_program (with_item course at) programs_kept along.boot n);
+      next = all_go wants course (with_item course at) at call.frame along
+          (λ cpu differs. ap (λ (programs : ℕ → P). programs cpu) programs_kept) follows.next
+          (by_going (goes_on course.conf at) refl);
+    }
+
+  follows_by : (call : Option Given) → call_of_cpu (course.conf.cpu at) ≡ call → Follows wants new (with_item course at)
+  follows_by None none = none_follows none
+  follows_by (Some call) has = some_follows call has
+
+  pub item_follows : Follows wants new (with_item course at)
+  item_follows = follows_by (call_of_cpu (course.conf.cpu at)) refl
+
+-- no items yet
+pub none_follow : {P : Type 0} (wants : P → Bool) (run : Running P) (course : Course P) (at : ℕ) → Follows wants run course
+    → Follows wants run (with_items 0 course at)
+none_follow wants run course at follows = subst (λ one. Follows wants run one) (sym (items_none course at)) follows
 
 -- a call that begins
 
@@ -199,14 +427,6 @@ module _ {P : Type 0} (answer : P → Option Reply → Step) (after : P → Opti
       (subst (Stands behind) (sym there) stands) adds
       (first_along answer after course at within tracks.steady may)
 
-  -- a whole call
-  pub call_tracks : (course : Course P) (behind : Progress) (at : ℕ) → at < CPUS → IsSteady course.conf
-      → MayGive course.conf at (length (made_by course.conf at) + 1) → goes_on course.conf at ≡ true
-      → Tracks behind (with_items 6 (with_item (with_next_call answer after course at) at) at)
-      → Tracks behind (called answer after course at)
-  call_tracks course behind at within steady may going tracks =
-      subst (λ (one : Course P). Tracks behind one) (called_is answer after course at within steady may going) tracks
-
   -- its CPU may be given its next one then, unless it exits
 
   -- at the last number the exit call is asked
@@ -225,126 +445,50 @@ module _ {P : Type 0} (answer : P → Option Reply → Step) (after : P → Opti
         | inr other ↦ omega (arith, most, other.1)
       ]
 
-  module _ (wants : P → Bool) (course : Course P) (at : ℕ) (within : at < CPUS) (steady : IsSteady course.conf)
-      (next : CallsNext wants course at) (going : goes_on course.conf at ≡ true) where
-    abbrev later : Course P
-    later = called answer after course at
+  -- a call that begins with its first item
+  module _ (wants : P → Bool) (course : Course P) (cpu : CpuNo) (within : cpu.0 < CPUS) (steady : IsSteady course.conf)
+      (next : CallsNext wants course cpu.0) (going : goes_on course.conf cpu.0 ≡ true) where
+    abbrev begun_course : Course P
+    begun_course = with_item (with_next_call answer after course cpu.0) cpu.0
 
-    ended : HasEnded course later at (next_standing answer after course at).frame
-    ended = called_ended answer after course at within steady next.may going
+    begun_along : IsAlong course begun_course cpu.0 (next_standing answer after course cpu.0).frame
+    begun_along = first_along answer after course cpu.0 within steady next.may
 
-    -- what goes on has made no exit call
-    on_parts : (is_some (cpu_row later.conf.boot at) && not (list_any exits (made_by later.conf at))) ≡ true
-        → (is_some (cpu_row later.conf.boot at) ≡ true) × (list_any exits (made_by later.conf at) ≡ false)
-    on_parts on =
-        let both = and_parts (is_some (cpu_row later.conf.boot at)) (not (list_any exits (made_by later.conf at))) on in
-        (both.0, not-true (list_any exits (made_by later.conf at)) both.1)
+    pub advanced_going : advanced answer after course cpu ≡ begun_course
+    advanced_going = ap (λ (on : Bool). if on then begun_course else course) going
 
-    -- its frame is no exit call then
-    no_exit : list_any exits (made_by later.conf at) ≡ false → is_exit (next_standing answer after course at).frame ≡ false
-    no_exit none =
-        let of_call : list_any exits (ended.over.call ∷ []) ≡ false =
-        (or_parts (list_any exits (made_by course.conf at)) (list_any exits (ended.over.call ∷ []))
-        (sym (list_any-append exits (made_by course.conf at) (ended.over.call ∷ [])) ∙ ap (list_any exits) (sym ended.over.made) ∙ none)).1 in
-        let its : exits ended.over.call ≡ false = (or_parts (exits ended.over.call) false of_call).0 in
-        ap is_exit (sym ended.over.its_frame) ∙ its
+    pub begun_program : begun_course.programs cpu.0 ≡ (next_standing answer after course cpu.0).program
+    begun_program =
+        ap (λ (programs : ℕ → P). programs cpu.0) (first_programs answer after course cpu.0 within steady next.may)
+        ∙ put_here course.programs cpu.0 (next_standing answer after course cpu.0).program
 
-    -- the program behind it
-    pub program_behind : later.programs at ≡ (next_standing answer after course at).program
-    program_behind =
-        ap (λ (programs : ℕ → P). programs at) (called_programs answer after course at within steady next.may going)
-        ∙ put_here course.programs at (next_standing answer after course at).program
+    pub begun_others : (other : ℕ) → (other == cpu.0) ≡ false → begun_course.programs other ≡ course.programs other
+    begun_others other differs =
+        ap (λ (programs : ℕ → P). programs other) (first_programs answer after course cpu.0 within steady next.may)
+        ∙ put_other course.programs cpu.0 (next_standing answer after course cpu.0).program other differs
 
-    -- it has one finished call more
-    counted : length (made_by later.conf at) ≡ length (made_by course.conf at) + 1
-    counted = ap (λ (made : List Made). length made) ended.over.made ∙ length-append (made_by course.conf at) (ended.over.call ∷ [])
+    pub begun_goes : IsReady wants (next_standing answer after course cpu.0) → goes_on begun_course.conf cpu.0 ≡ true
+        → GoesOn wants begun_course cpu.0
+    begun_goes ready =
+        goes_again wants course begun_course cpu.0 (next_standing answer after course cpu.0).frame begun_along going
+        (λ goes. ap (λ (program : P). wants program) begun_program ∙ ready goes)
+        (below_last course cpu.0 (omega (arith, next.may.bounded)))
 
-    pub next_again : IsReady wants (next_standing answer after course at) → goes_on later.conf at ≡ true → CallsNext wants later at
-    next_again ready on =
-        let parts = on_parts on in
-        let still : is_exit (next_standing answer after course at).frame ≡ false = no_exit parts.1 in
-        record {
-          may = record {
-            is_cpu = parts.0;
-            between = ended.over.between;
-            none = ended.over.none;
-            runs = parts.1;
-            counts = refl;
-            bounded = omega (arith, counted, below_last course at (omega (arith, next.may.bounded)) still);
-          };
-          waits = ap (λ (program : P). wants program) program_behind ∙ ready still
-              ∙ sym (ap (λ (made : List Made). is_some (last_reply made)) ended.over.made ∙ some_last (made_by course.conf at) ended.over.call);
-        }
-
-    -- the run behind it
-
-    -- the other programs are as they were
-    others : (cpu : ℕ) → (cpu == at) ≡ false → later.programs cpu ≡ course.programs cpu
-    others cpu differs =
-        ap (λ (programs : ℕ → P). programs cpu) (called_programs answer after course at within steady next.may going)
-        ∙ put_other course.programs at (next_standing answer after course at).program cpu differs
-
-    -- and so are those of the boot
-    program_other : (cpu : ℕ) → (cpu == at) ≡ false → program_at later cpu ≡ program_at course cpu
-    program_other cpu differs =
-        ap (λ (boot : State). if is_some (cpu_row boot cpu) then Some (later.programs cpu) else None) ended.boot
-        ∙ ap (λ (program : P). if is_some (cpu_row course.conf.boot cpu) then Some program else None) (others cpu differs)
-
-    -- the CPU's is that behind its call
-    program_own : program_at later at ≡ Some (later.programs at)
-    program_own =
-        ap (λ (boot : State). if is_some (cpu_row boot at) then Some (later.programs at) else None) ended.boot
-        ∙ ap (λ (row : Bool). if row then Some (later.programs at) else None) next.may.is_cpu
-
-    -- the others go on as they did
-    goes_other : (cpu : ℕ) → (cpu == at) ≡ false → goes_on later.conf cpu ≡ goes_on course.conf cpu
-    goes_other cpu differs =
-        ap (λ (boot : State). is_some (cpu_row boot cpu) && not (list_any exits (made_by later.conf cpu))) ended.boot
-        ∙ ap (λ (one : Cpu). is_some (cpu_row course.conf.boot cpu) && not (list_any exits one.made)) (ended.others cpu differs)
-
-    -- and may be given their next calls
-    next_other : (cpu : ℕ) → (cpu == at) ≡ false → CallsNext wants course cpu → CallsNext wants later cpu
-    next_other cpu differs was =
-        let same : later.conf.cpu cpu ≡ course.conf.cpu cpu = ended.others cpu differs in
-        record {
-          may = record {
-            is_cpu = ap (λ (boot : State). is_some (cpu_row boot cpu)) ended.boot ∙ was.may.is_cpu;
-            between = subst IsBetween (sym same) was.may.between;
-            none = ap (λ (one : Cpu). one.next) same ∙ was.may.none;
-            runs = ap (λ (one : Cpu). list_any exits one.made) same ∙ was.may.runs;
-            counts = refl;
-            bounded = subst (λ (one : Cpu). length one.made + 1 ≤ CALL_NUMBERS) (sym same) was.may.bounded;
-          };
-          waits = ap (λ (program : P). wants program) (others cpu differs) ∙ was.waits
-              ∙ sym (ap (λ (one : Cpu). is_some (last_reply one.made)) same);
-        }
-
-    -- the run with this progress and program is the course behind the call
-    pub run_follows : (run new : Running P) (program : P) → Follows wants run course
-        → Tracks new.progress later
-        → program ≡ later.programs at
-        → (goes_on later.conf at ≡ true → CallsNext wants later at)
-        → new.programs ≡ slice_set run.programs at (Some program)
-        → Follows wants new later
-    run_follows run new program follows tracks is again put = record {
-      tracks = tracks;
-      nine = ap (λ (programs : List (Option P)). length programs) put ∙ length-set run.programs at (Some program) ∙ follows.nine;
-      programs = λ n one there.
-          let here : at < length run.programs = omega (arith, within, follows.nine) in
-          elim (set_cases run.programs at n _ (Some program) one (slice_get-get_or run.programs at None here) (sym (ap (λ (programs : List (Option P)). slice_get programs n) put) ∙ there))
-          as (λ _. one ≡ program_at later n) [
-            | inl same ↦ sym same.1 ∙ ap Some is ∙ sym program_own ∙ ap (program_at later) (sym same.0)
-            | inr differs ↦ follows.programs n one differs.1 ∙ sym (program_other n (ne_eqb n at differs.0))
-          ];
-      next = λ n on. elim (eqb_tells n at) as (λ _. CallsNext wants later n) [
-        | inl same ↦ subst (λ (m : ℕ). CallsNext wants later m) (sym same.1) (again (subst (λ (m : ℕ). goes_on later.conf m ≡ true) same.1 on))
-        | inr differs ↦ next_other n differs.0 (follows.next n (sym (goes_other n differs.0) ∙ on))
-      ];
-    }
+    pub begun_follows : (run new : Running P) (program : P) → Follows wants run course
+        → Tracks new.progress begun_course
+        → program ≡ begun_course.programs cpu.0
+        → (goes_on begun_course.conf cpu.0 ≡ true → GoesOn wants begun_course cpu.0)
+        → new.programs ≡ slice_set run.programs cpu.0 (Some program)
+        → Follows wants new begun_course
+    begun_follows run new program =
+        call_follows wants course begun_course cpu.0 (next_standing answer after course cpu.0).frame begun_along begun_others within going run new program
 
   -- a CPU that has ended, or that the boot doesn't have, does nothing
   pub called_idle : (course : Course P) (at : ℕ) → goes_on course.conf at ≡ false → called answer after course at ≡ course
   called_idle course at ended = ap (λ (on : Bool). if on then ended_call (with_next_call answer after course at) at else course) ended
+
+  pub advanced_idle : (course : Course P) (cpu : CpuNo) → goes_on course.conf cpu.0 ≡ false → advanced answer after course cpu ≡ course
+  advanced_idle course cpu ended = ap (λ (on : Bool). if on then with_item (with_next_call answer after course cpu.0) cpu.0 else course) ended
 
   -- so the run still follows
   pub idle_follows : (wants : P → Bool) (run : Running P) (course : Course P) (at : ℕ) → Follows wants run course
@@ -386,11 +530,6 @@ module _ (progress : Progress) (conf : Config) (seats : List Seat) (at : ℕ) (o
   pub ended_is : (get_or seats at other).ended ≡ list_any exits (made_by conf at)
   ended_is = (seat_of progress conf seats at other stands within are).ended
 
-  -- one that has made it doesn't go on
-  pub ended_goes : (get_or seats at other).ended ≡ true → goes_on conf at ≡ false
-  ended_goes ended =
-      and_right (is_some (cpu_row conf.boot at)) (not (list_any exits (made_by conf at))) (ap not (sym ended_is ∙ ended))
-
 module _ {P : Type 0} (wants : P → Bool) (run : Running P) (course : Course P) (follows : Follows wants run course) (at : ℕ)
     (within : at < CPUS) where
   -- a program in a list of them is that of its CPU
@@ -423,16 +562,6 @@ module _ {P : Type 0} (wants : P → Bool) (run : Running P) (course : Course P)
   program_is programs other program are is =
       (program_by (is_some (cpu_row course.conf.boot at)) program (sym is ∙ its_program programs other are)).1
 
-  -- its CPU goes on where it has made no exit call
-  pub goes_so : (programs : List (Option P)) (other : Option P) (program : P) (seats : List Seat) (seat : Seat)
-      → programs ≡ run.programs → get_or programs at other ≡ Some program
-      → seats ≡ run.progress.seats → (get_or seats at seat).ended ≡ false
-      → goes_on course.conf at ≡ true
-  goes_so programs other program seats seat are is seats_are going =
-      ap (λ (row : Bool). row && not (list_any exits (made_by course.conf at)))
-      (program_by (is_some (cpu_row course.conf.boot at)) program (sym is ∙ its_program programs other are)).0
-      ∙ ap not (sym (ended_is run.progress course.conf seats at seat follows.tracks.stands within seats_are) ∙ going)
-
   some_program : (row : Bool) → is_some (if row then Some (course.programs at) else None) ≡ row
   some_program true = refl
   some_program false = refl
@@ -447,6 +576,66 @@ module _ {P : Type 0} (wants : P → Bool) (run : Running P) (course : Course P)
       ∙ ap (λ (one : Option P). is_some one && not (get_or run.progress.seats at some_seat).ended) (its_program run.programs None refl)
       ∙ ap (λ (row : Bool). row && not (get_or run.progress.seats at some_seat).ended) (some_program (is_some (cpu_row course.conf.boot at)))
       ∙ ap (λ (ended : Bool). is_some (cpu_row course.conf.boot at) && not ended) (ended_is run.progress course.conf run.progress.seats at some_seat follows.tracks.stands within refl)
+
+-- what a run's progress says of calls
+
+module _ (progress : Progress) (conf : Config) (at : ℕ) (stands : Stands progress conf) (within : at < CPUS) where
+  its_seat : IsSeated progress conf at
+  its_seat = seated progress conf at stands within
+
+  call_there : has_call progress at ≡ is_some its_seat.call
+  call_there = ap (λ (one : Option (Option CurrentCall)). option_map_or (λ (call : Option CurrentCall). is_some call) one false) its_seat.called
+
+  none_of : (call : Option CurrentCall) → is_some call ≡ false → (conf.cpu at).current ≡ option_map current_of call
+      → (conf.cpu at).next ≡ None → call_of_cpu (conf.cpu at) ≡ None
+  none_of None none current next =
+      ap (λ (one : Option Current). either_call one (conf.cpu at).next) current ∙ next
+  none_of (Some call) none current next = absurd (let never : ⊥ = cc in never)
+
+  -- a CPU without a call in progress has none
+  pub no_call_there : has_call progress at ≡ false → call_of_cpu (conf.cpu at) ≡ None
+  no_call_there none = none_of its_seat.call (sym call_there ∙ none) its_seat.stands.current its_seat.stands.unasked
+
+  some_of : (call : Option CurrentCall) → is_some call ≡ true → (conf.cpu at).current ≡ option_map current_of call
+      → is_some (call_of_cpu (conf.cpu at)) ≡ true
+  some_of None some current = absurd (let never : ⊥ = cc in never)
+  some_of (Some call) some current =
+      ap (λ (one : Option Current). is_some (either_call one (conf.cpu at).next)) current
+
+  pub some_call_there : has_call progress at ≡ true → is_some (call_of_cpu (conf.cpu at)) ≡ true
+  some_call_there some = some_of its_seat.call (sym call_there ∙ some) its_seat.stands.current
+
+module _ {P : Type 0} (answer : P → Option Reply → Step) (after : P → Option Reply → P) (wants : P → Bool) (run : Running P)
+    (course : Course P) (follows : Follows wants run course) (cpu : CpuNo) (within : cpu.0 < CPUS)
+    (going : goes_on course.conf cpu.0 ≡ true) where
+  -- an item of a call in progress advances its CPU
+  pub busy_advanced : has_call run.progress cpu.0 ≡ true → with_item course cpu.0 ≡ advanced answer after course cpu
+  busy_advanced busy =
+      sym (ap (λ (on : Bool). if on then with_item (with_next_call answer after course cpu.0) cpu.0 else course) going
+      ∙ ap (λ (there : Bool). with_item (if there then course else with_call answer after course cpu.0 (next_standing answer after course cpu.0)) cpu.0)
+      (some_call_there run.progress course.conf cpu.0 follows.tracks.stands within busy))
+
+  -- without one it may be given its next call
+  pub next_free : has_call run.progress cpu.0 ≡ false → CallsNext wants course cpu.0
+  next_free free = by_goes (follows.next cpu.0 going)
+    where
+      by_goes : GoesOn wants course cpu.0 → CallsNext wants course cpu.0
+      by_goes (inl next) = next
+      by_goes (inr call) =
+          let none : call_of_cpu (course.conf.cpu cpu.0) ≡ None = no_call_there run.progress course.conf cpu.0 follows.tracks.stands within free in
+          let some : call_of_cpu (course.conf.cpu cpu.0) ≡ Some call.call = call.has in
+          absurd (let never : ⊥ = cc in never)
+
+  -- six items more are the whole call
+  pub six_more : with_items 6 (advanced answer after course cpu) cpu.0 ≡ called answer after course cpu.0
+  six_more =
+      ap (λ (on : Bool). with_items 6 (if on then with_item (with_next_call answer after course cpu.0) cpu.0 else course) cpu.0) going
+      ∙ by_goes (follows.next cpu.0 going)
+    where
+      by_goes : GoesOn wants course cpu.0
+          → with_items 6 (with_item (with_next_call answer after course cpu.0) cpu.0) cpu.0 ≡ called answer after course cpu.0
+      by_goes (inl next) = called_is answer after course cpu.0 within follows.tracks.steady next.may going
+      by_goes (inr call) = finished_is answer after course cpu.0 within follows.tracks.steady call.call call.has going
 
 -- the reply to the CPU's last call
 pub told_last : {P : Type 0} (progress : Progress) (course : Course P) (marks : List Mark) (at : ℕ) (reply : Option Reply) → at < CPUS

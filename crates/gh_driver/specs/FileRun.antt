@@ -1,6 +1,8 @@
--- The run of call files: each CPU's program makes the lines of its VM's file, and the CPUs in
--- rising order make one whole call each, round after round.
-use Rattle.std.specs.Prelude.{ℕ, List, [], map}
+-- The run of call files by a schedule: each CPU's program makes the lines of its VM's file. The CPUs
+-- advance by one item each as the schedule says; then, in rising order, they make one whole call each,
+-- round after round.
+use Rattle.std.specs.Prelude.{ℕ, List, map}
+use Rattle.gh_base.specs.declared.ids.CpuNo.{CpuNo}
 use Rattle.gh_base.specs.declared.mark.Mark.{Mark}
 use Rattle.gh_callfile.specs.VmProgress.{Progress, fresh, vm_after, vm_answer}
 use Rattle.gh_events.specs.Config.{present}
@@ -17,10 +19,10 @@ use Rattle.gh_schedules.specs.Schedule.{course_of}
 abbrev pub file_program : List (List Line) → ℕ → Progress
 file_program files cpu = fresh (file_of files cpu)
 
--- the course of these programs. No item is scheduled before the rounds of whole calls
-abbrev pub file_course : List BootLine → List (List Line) → Course Progress
-file_course boot files =
-    course_of vm_answer vm_after boot (file_program files) []
+-- the course of these programs by the schedule
+abbrev pub file_course : List BootLine → List CpuNo → List (List Line) → Course Progress
+file_course boot schedule files =
+    course_of vm_answer vm_after boot (file_program files) schedule
 
 -- what a course came to: its history, the marks of its calls in the order in which they ended, and
 -- its last state
@@ -38,5 +40,5 @@ finished_run course = record {
 }
 
 -- the run of these call files
-abbrev pub file_run : List BootLine → List (List Line) → FinishedRun
-file_run boot files = finished_run (file_course boot files)
+abbrev pub file_run : List BootLine → List CpuNo → List (List Line) → FinishedRun
+file_run boot schedule files = finished_run (file_course boot schedule files)

@@ -10,7 +10,7 @@ use Rattle.gh_model.specs.declared.program.Line.{Line}
 use Rattle.std.specs.List.{position}
 use Rattle.std.specs.Prelude.{⊤}
 use Rattle.gh_bootfile.specs.BootFile.{and_then}
-use Rattle.gunyah.specs.Input.{refused_at, boot_result, boot_input, without_items}
+use Rattle.gunyah.specs.Input.{refused_at, boot_result, boot_input}
 use Rattle.gunyah.specs.Input.{schedule_result, schedule_input, vm_lines, calls_result}
 use Rattle.gunyah.specs.Input.{call_file, calls_on, input_with, input_of, ReadsAs}
 use Rattle.gunyah.specs.Outcome.{OfForm, ReadsTexts}
@@ -36,12 +36,8 @@ boot_of_forms : (read : Result (List BootLine) ℕ) → OfForms (boot_result rea
 boot_of_forms (Ok lines) = refused_of_forms (position makes_manager lines) lines
 boot_of_forms (Err line) = tt
 
-items_of_forms : (cpus : List CpuNo) → OfForms (without_items cpus)
-items_of_forms [] = tt
-items_of_forms (cpu ∷ cpus) = tt
-
 schedule_of_forms : (item : Option ℕ) (cpus : List CpuNo) → OfForms (schedule_result item cpus)
-schedule_of_forms None cpus = items_of_forms cpus
+schedule_of_forms None cpus = tt
 schedule_of_forms (Some item) cpus = tt
 
 reading_of_forms : (number : ℕ) (read : Reading) → OfForms (calls_result number read)
@@ -63,11 +59,11 @@ input_of_forms : (texts : List (List ℕ)) → OfForms (input_of texts)
 input_of_forms [] = tt
 input_of_forms (boot ∷ []) = tt
 input_of_forms (boot ∷ schedule ∷ calls) =
-    then_of_forms (boot_input boot) (λ lines. and_then (schedule_input lines schedule) (λ (items : List CpuNo). and_then (calls_on (vm_lines lines) 65536 [] calls) (input_with lines)))
+    then_of_forms (boot_input boot) (λ lines. and_then (schedule_input lines schedule) (λ (cpus : List CpuNo). and_then (calls_on (vm_lines lines) 65536 [] calls) (input_with lines cpus)))
     (boot_of_forms (told (boot_of boot)))
-    (λ lines. then_of_forms (schedule_input lines schedule) (λ (items : List CpuNo). and_then (calls_on (vm_lines lines) 65536 [] calls) (input_with lines))
+    (λ lines. then_of_forms (schedule_input lines schedule) (λ (cpus : List CpuNo). and_then (calls_on (vm_lines lines) 65536 [] calls) (input_with lines cpus))
     (schedule_of_forms (bad_item lines schedule) (cpus_of schedule))
-    (λ items. then_of_forms (calls_on (vm_lines lines) 65536 [] calls) (input_with lines) (calls_of_forms (vm_lines lines) 65536 [] calls) (λ files. tt)))
+    (λ cpus. then_of_forms (calls_on (vm_lines lines) 65536 [] calls) (input_with lines cpus) (calls_of_forms (vm_lines lines) 65536 [] calls) (λ files. tt)))
 
 -- a reader of texts loads nothing and finds no file too large
 pub reads_texts : (texts : List (List ℕ)) (result : Result StepInput ReadErr) → ReadsAs (input_of texts) result → ReadsTexts result

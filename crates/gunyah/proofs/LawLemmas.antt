@@ -36,8 +36,9 @@ record IsTaken (lines : List BootLine) : Type 0 where
   fits : boot_fits lines ≡ true
   no_manager : has_manager lines ≡ false
 
-runs : (lines : List BootLine) (calls : List (List Line)) → IsTaken lines → InputRuns (record { boot = lines; calls = calls })
-runs lines calls taken = file_run_is_run lines calls taken.fits taken.no_manager
+runs : (lines : List BootLine) (cpus : List CpuNo) (calls : List (List Line)) → IsTaken lines
+    → InputRuns (record { boot = lines; schedule = cpus; calls = calls })
+runs lines cpus calls taken = file_run_is_run lines cpus calls taken.fits taken.no_manager
 
 -- the two words for a manager's line are one
 same_line : (line : BootLine) → is_manager_line line ≡ makes_manager line
@@ -90,9 +91,9 @@ files_run : (texts : List (List ℕ)) → IfOk (input_of texts) InputRuns
 files_run [] = tt
 files_run (boot ∷ []) = tt
 files_run (boot ∷ schedule ∷ calls) =
-    then_ok InputRuns (boot_input boot) (λ lines. and_then (schedule_input lines schedule) (λ (items : List CpuNo). and_then (calls_on (vm_lines lines) 65536 [] calls) (input_with lines)))
-    (λ lines reads. then_ok InputRuns (schedule_input lines schedule) (λ (items : List CpuNo). and_then (calls_on (vm_lines lines) 65536 [] calls) (input_with lines))
-    (λ items also. then_ok InputRuns (calls_on (vm_lines lines) 65536 [] calls) (input_with lines) (λ files too. runs lines files (input_fits boot lines reads))))
+    then_ok InputRuns (boot_input boot) (λ lines. and_then (schedule_input lines schedule) (λ (cpus : List CpuNo). and_then (calls_on (vm_lines lines) 65536 [] calls) (input_with lines cpus)))
+    (λ lines reads. then_ok InputRuns (schedule_input lines schedule) (λ (cpus : List CpuNo). and_then (calls_on (vm_lines lines) 65536 [] calls) (input_with lines cpus))
+    (λ cpus also. then_ok InputRuns (calls_on (vm_lines lines) 65536 [] calls) (input_with lines cpus) (λ files too. runs lines cpus files (input_fits boot lines reads))))
 
 step_runs : (texts : List (List ℕ)) → StepRuns texts
 step_runs texts = then_ok InputRuns (sizes_on [] texts) input_of (λ files sized. files_run files)

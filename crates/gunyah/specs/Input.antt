@@ -1,14 +1,14 @@
 -- What the files of a step read as: a boot file and the calls of its VMs, or the first fault.
 use Rattle.std.specs.Prelude.{◌≡◌, ◌+◌, ◌-◌, ⊤, ℕ, Bool, List, []}
-use Rattle.std.specs.Prelude.{◌∷◌, ◌++◌, length, count_by, nat_le, nat_lt}
+use Rattle.std.specs.Prelude.{◌∷◌, ◌++◌, true, length, count_by, nat_le, nat_lt}
 use Rattle.std.specs.Prelude.{Option, Some, None, Result, Ok, Err, if◌then◌else◌}
-use Rattle.std.specs.List.{position}
+use Rattle.std.specs.List.{All, position}
 use Rattle.gh_base.specs.declared.ids.CpuNo.{CpuNo}
 use Rattle.gh_base.specs.declared.limits.TheConstants.{BOOT_FILE_BYTES}
 use Rattle.gh_bootfile.specs.BootFile.{and_then, boot_of, told}
 use Rattle.gh_model.specs.Told.{told_number}
 use Rattle.gh_callfile.specs.CallFile.{Reading, Good, BadAt, reading, calls_of_lines}
-use Rattle.gh_callfile.specs.Schedule.{bad_item, cpus_of, makes_vm, makes_manager}
+use Rattle.gh_callfile.specs.Schedule.{bad_item, cpus_of, is_cpu_of, makes_vm, makes_manager}
 use Rattle.gh_model.specs.declared.boot_line.BootLine.{BootLine}
 use Rattle.gh_model.specs.declared.program.Line.{Line}
 use Rattle.gunyah.specs.declared.input.StepInput.{StepInput}
@@ -55,14 +55,9 @@ boot_input text = boot_result (told (boot_of text))
 
 -- the schedule
 
--- a schedule has no items yet, so its first one is bad
-abbrev pub without_items : List CpuNo → Result (List CpuNo) BadFile
-without_items [] = Ok []
-without_items (cpu ∷ cpus) = Err (bad.Schedule 1)
-
--- the schedule, whose first bad item comes before the first that there may not be
+-- the schedule, or its first item that is no CPU of the boot file
 abbrev pub schedule_result : Option ℕ → List CpuNo → Result (List CpuNo) BadFile
-schedule_result None cpus = without_items cpus
+schedule_result None cpus = Ok cpus
 schedule_result (Some item) cpus = Err (bad.Schedule item)
 
 -- the schedule of a text, for a boot file of these lines
@@ -96,9 +91,10 @@ calls_on vms room files (text ∷ texts) =
 
 -- all files
 
--- the input of these boot lines and these call files
-abbrev pub input_with : List BootLine → List (List Line) → Result StepInput BadFile
-input_with lines calls = Ok (record { boot = lines; calls = calls })
+-- the input of these boot lines, this schedule and these call files
+abbrev pub input_with :
+    List BootLine → List CpuNo → List (List Line) → Result StepInput BadFile
+input_with lines cpus calls = Ok (record { boot = lines; schedule = cpus; calls = calls })
 
 -- a boot file, a schedule and call files. Fewer than two files are never asked for
 abbrev pub input_of : List (List ℕ) → Result StepInput BadFile
@@ -106,7 +102,11 @@ input_of [] = Err (bad.Boot 0)
 input_of (boot ∷ []) = Err (bad.Schedule 0)
 input_of (boot ∷ schedule ∷ calls) =
     and_then (boot_input boot) (λ lines. and_then (schedule_input lines schedule)
-    (λ items. and_then (calls_on (vm_lines lines) 65536 [] calls) (input_with lines)))
+    (λ cpus. and_then (calls_on (vm_lines lines) 65536 [] calls) (input_with lines cpus)))
+
+-- the CPUs of the schedule are those of the boot file
+abbrev pub HasItsCpus : StepInput → Type 0
+HasItsCpus input = All (λ (cpu : CpuNo). is_cpu_of input.boot cpu.0 ≡ true) input.schedule
 
 -- what the files of a step read as: first their sizes are looked at, and then each is read in turn
 abbrev pub step_input : List (List ℕ) → Result StepInput BadFile

@@ -1,4 +1,4 @@
--- What a step makes of its files: the run of the boot file's VMs by whole calls, and its text.
+-- What a step makes of its files: the run of the boot file's VMs by the schedule, and its text.
 use Rattle.std.specs.Prelude.{ℕ, List, [], IfOk, Result, Ok, Err}
 use Rattle.gh_driver.specs.FileRun.{FinishedRun, file_run}
 use Rattle.gh_model.specs.Run.{IsRun, file_frames}
@@ -13,7 +13,7 @@ text_of_run run = history_text run.entries run.marks run.state
 
 -- the run of what was read
 abbrev pub input_run : StepInput → FinishedRun
-input_run input = file_run input.boot input.calls
+input_run input = file_run input.boot input.schedule input.calls
 
 -- the text of the run of what was read
 abbrev pub text_of_input : StepInput → List ℕ

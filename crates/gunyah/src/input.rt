@@ -1,13 +1,13 @@
 //! Reads the files of a step: a boot file, a schedule and call files.
 
 ghost use Rattle.std.specs.Prelude.{◌≡◌, ◌<◌, ◌≤◌, ◌+◌, ◌-◌};
-ghost use Rattle.std.specs.Prelude.{◌^◌, ◌∷◌, [], length, IfSome};
-ghost use Rattle.std.specs.List.{position};
+ghost use Rattle.std.specs.Prelude.{◌^◌, ◌∷◌, [], length, true, IfOk, IfSome};
+ghost use Rattle.std.specs.List.{All, position};
 ghost use Rattle.gh_model.specs.Told.{told_number};
 ghost use Rattle.gh_callfile.specs.CallFile.{calls_of_lines};
-ghost use Rattle.gh_callfile.specs.Schedule.{makes_manager};
+ghost use Rattle.gh_callfile.specs.Schedule.{is_cpu_of, makes_manager};
 ghost use Rattle.gunyah.specs.Input.{ReadsAs, boot_input, without_manager, schedule_input};
-ghost use Rattle.gunyah.specs.Input.{without_items, vm_lines, call_file, calls_on, input_of};
+ghost use Rattle.gunyah.specs.Input.{HasItsCpus, vm_lines, call_file, calls_on, input_of};
 ghost use Rattle.gunyah.specs.Outcome.{ReadsTexts};
 
 use crate::read_err::{BadFile, ReadErr};
@@ -17,11 +17,12 @@ use gh_callfile::{read_calls, read_schedule};
 use gh_model::{Boot, BootLine, FileErr, Line};
 use std::alloc::Global;
 
-/// What the files of a step hold: a boot file, and for each VM of it from the first on the lines of
-/// its call file. A VM behind the last file has none.
+/// What the files of a step hold: a boot file, a schedule of its CPUs, and for each VM of it from the
+/// first on the lines of its call file. A VM behind the last file has none.
 #[derive(Drop)]
 pub struct StepInput {
     pub boot: Boot,
+    pub schedule: Sequence<CpuNo>,
     pub calls: Sequence<Sequence<Line>>,
 }
 
@@ -64,22 +65,13 @@ fn boot(alloc: Global, text: &[u8]) -> Result<Boot, ReadErr>
     }
 }
 
-/// By now a schedule has no items.
-fn refuse_items(items: Sequence<CpuNo>) -> Result<Sequence<CpuNo>, ReadErr>
-    ensures { ReadsAs (without_items items) result }
-{
-    if items.is_empty() {
-        Ok(items)
-    } else {
-        Err(ReadErr::Bad(BadFile::Schedule(1)))
-    }
-}
-
 fn schedule(alloc: Global, text: &[u8], boot: &Boot) -> Result<Sequence<CpuNo>, ReadErr>
-    ensures { ReadsAs (schedule_input boot.now text.now) result }
+    ensures reads { ReadsAs (schedule_input boot.now text.now) result }
+    ensures exist { IfOk result
+        (λ cpus. All (λ cpu. is_cpu_of boot.now cpu.0 ≡ true) cpus) }
 {
     match read_schedule(alloc, text, boot) {
-        Ok(items) => refuse_items(Sequence::from_vec(items)),
+        Ok(items) => Ok(Sequence::from_vec(items)),
         Err(FileErr::Bad(item)) => Err(ReadErr::Bad(BadFile::Schedule(item))),
         Err(FileErr::NoMemory) => Err(ReadErr::NoMemory),
     }
@@ -157,13 +149,19 @@ fn forms(
     call_texts: &[Sequence<u8>],
 ) -> Result<StepInput, ReadErr>
     requires { length call_texts.now ≤ 8 }
-    ensures { ReadsAs (input_of (boot_text.now ∷ schedule_text.now ∷ call_texts.now)) result }
+    ensures reads { ReadsAs (input_of (boot_text.now ∷ schedule_text.now ∷ call_texts.now))
+        result }
+    ensures exist { IfOk result HasItsCpus }
 {
     let boot = boot(alloc, boot_text)?;
-    schedule(alloc, schedule_text, &boot)?;
+    let schedule = schedule(alloc, schedule_text, &boot)?;
     let vms = vms(boot.lines());
     let calls = call_files(alloc, call_texts, vms)?;
-    Ok(StepInput { boot, calls })
+    Ok(StepInput {
+        boot,
+        schedule,
+        calls,
+    })
 }
 
 /// The files of a step, each of which isn't too large: the boot file, the schedule, and up to eight
@@ -173,6 +171,7 @@ pub(crate) fn read_input(alloc: Global, texts: &[Sequence<u8>]) -> Result<StepIn
     requires most { length texts.now ≤ 10 }
     ensures reads { ReadsAs (input_of texts.now) result }
     ensures texts { ReadsTexts result }
+    ensures exist { IfOk result HasItsCpus }
 {
     forms(alloc, texts[0].as_slice(), texts[1].as_slice(), &texts[2..])
 }

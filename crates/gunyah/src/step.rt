@@ -3,7 +3,7 @@
 ghost use Rattle.std.specs.Prelude.{◌≡◌, ◌<◌, ◌≤◌, ◌↔◌};
 ghost use Rattle.std.specs.Prelude.{◌∷◌, ◌+◌, [], length, false};
 ghost use Rattle.std.specs.Prelude.{string_bytes, vec_len, IfOk, IfSome, IsErrOf, ⊤};
-ghost use Rattle.gunyah.specs.Input.{Reads, LoadsAs, sizes_on, input_of};
+ghost use Rattle.gunyah.specs.Input.{HasItsCpus, Reads, LoadsAs, sizes_on, input_of};
 ghost use Rattle.gunyah.specs.Outcome.{Asked, AskedOf, HasCause, FilesFaults};
 ghost use Rattle.gunyah.specs.Outcome.{SinkFaults, ReadFaults, ReadOf};
 ghost use Rattle.gunyah.specs.Outcome.{ReadsTexts, Wrote, Completes, texts_under};
@@ -25,9 +25,15 @@ use std::alloc::Global;
 
 /// The text of the run of what was read.
 fn run_text(alloc: Global, input: &StepInput) -> Result<String, NoMemory>
+    requires { HasItsCpus input.now }
     ensures { IfOk result (λ text. string_bytes text ≡ text_of_input input.now) }
 {
-    let done = run_step(alloc, &input.boot, input.calls.as_slice())?;
+    let done = run_step(
+        alloc,
+        &input.boot,
+        input.schedule.as_slice(),
+        input.calls.as_slice(),
+    )?;
     history_text(alloc, &done)
 }
 

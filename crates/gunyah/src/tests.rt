@@ -224,7 +224,7 @@ fn faulty_files_are_told_by_their_place(rt: HostRuntime) -> Result<(), Fail> {
     let no_pages = "gunyah 1\npages 0\n";
     assert!(rt; is_refused(&rt, alloc, no_pages, "", calls(), Status::BadBoot(2))?);
     assert!(rt; is_refused(&rt, alloc, boot(), "12", calls(), Status::BadSchedule(2))?);
-    assert!(rt; is_refused(&rt, alloc, boot(), "1", calls(), Status::BadSchedule(1))?);
+    assert!(rt; is_refused(&rt, alloc, boot(), "0", calls(), Status::BadSchedule(1))?);
     assert!(rt; is_refused(&rt, alloc, boot(), "", "C6008000\n", Status::BadCalls(3, 1))?);
     assert!(rt; is_refused(&rt, alloc, boot(), "", "c6008000", Status::BadCalls(3, 1))?);
     Ok(())

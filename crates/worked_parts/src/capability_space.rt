@@ -5,45 +5,6 @@ use gh_cspace::Cspace;
 
 const BELL: ObjIndex = ObjIndex(7);
 
-/// Whether the least free slot is this one. It is filled.
-fn fills(space: &mut Cspace, slot: u8) -> bool {
-    match space.free_slot() {
-        None => false,
-        Some(free) => {
-            space.insert(free, CapWord::valid(Kind::Bell, true, BELL, Rights(3), 0));
-            free == slot
-        }
-    }
-}
-
-/// Whether all slots but the first are filled one by one, and none is free then.
-fn fills_all(space: &mut Cspace) -> bool {
-    let mut all = true;
-    for slot in 1..128u8 {
-        all = all && fills(space, slot);
-    }
-    all && space.free_slot().is_none()
-}
-
-/// Whether a slot is deleted, and is the least free slot then.
-fn frees(space: &mut Cspace, slot: u8) -> bool {
-    space.delete(slot as u64, 5).is_ok() && space.free_slot() == Some(slot)
-}
-
-fn slots_are_least() -> bool {
-    let mut space = Cspace::new();
-    fills_all(&mut space)
-        && frees(&mut space, 127)
-        && frees(&mut space, 65)
-        && frees(&mut space, 64)
-        && frees(&mut space, 1)
-}
-
-#[test]
-fn slots_are_given_out_from_the_least(rt: HostRuntime) {
-    assert!(rt; slots_are_least());
-}
-
 /// A space whose slot 1 has the master capability of a doorbell, and slot 2 a copy of it.
 fn space_with_copy() -> Cspace {
     let mut space = Cspace::new();
@@ -110,6 +71,7 @@ fn causes_are_named() -> bool {
         && deletes(&mut space)
         && space.get(2).state() == CapState::Empty
         && space.get(2).set_at() == 12
+        && space.free_slot() == Some(1)
 }
 
 #[test]

@@ -80,3 +80,23 @@ pub(crate) fn siblings(alloc: Global) -> Result<String, NoMemory> {
          cap 2 2 6 7 1\nvm 2 3\n",
     )
 }
+
+/// The second VM has a doorbell's only capability, a master one, in slot 7; the first may delete it
+/// and make objects.
+pub(crate) fn lone_doorbell(alloc: Global) -> Result<String, NoMemory> {
+    joined(
+        alloc,
+        TWO,
+        "cap 2 1 1 1 0\ncap 2 2 2 15 0\ncap 2 6 3 15 0\ncap 3 7 7 3 1\nvm 2 4\nvm 3 5\n",
+    )
+}
+
+/// The same in a partition of its own, which has units for the doorbell and one more.
+pub(crate) fn narrow_partition(alloc: Global) -> Result<String, NoMemory> {
+    joined(
+        alloc,
+        "gunyah 1\npages 8\npartition 40\npartition 2\n",
+        "cspace 1\ncspace 1\naddrspace 1\naddrspace 1\nrootextent 1\ndoorbell 2\n\
+         cap 3 1 2 1 0\ncap 3 2 3 15 0\ncap 3 6 4 15 0\ncap 4 7 8 3 1\nvm 3 5\nvm 4 6\n",
+    )
+}

@@ -17,3 +17,5 @@ mod objects;
 mod queues;
 #[cfg(test)]
 mod run;
+#[cfg(test)]
+mod schedules;

@@ -2,23 +2,34 @@
 
 use gh_base::{CALL_FILE_CALLS, Sequence};
 use gh_bootfile::read_boot;
-use gh_callfile::read_calls;
+use gh_callfile::{read_calls, read_schedule};
 use gh_driver::{history_text, run_step};
 use std::alloc::Global;
 use std::process::Abort;
 use std::test::Fail;
 
-/// The history text of these call files, of which the first is that of VM 1.
-pub(crate) fn history(alloc: Global, boot: &str, files: &[&str]) -> Result<String, Fail> {
+/// The history text of these call files, of which the first is that of VM 1, by a schedule.
+pub(crate) fn scheduled(
+    alloc: Global,
+    boot: &str,
+    schedule: &str,
+    files: &[&str],
+) -> Result<String, Fail> {
     let boot = read_boot(alloc, boot.as_bytes())?;
+    let cpus = read_schedule(alloc, schedule.as_bytes(), &boot)?;
     let mut calls = Vec::new(alloc);
     for file in files {
         let lines = read_calls(alloc, file.as_bytes(), CALL_FILE_CALLS)?;
         calls.push(Sequence::from_vec(lines))?;
     }
-    let done = run_step(alloc, &boot, calls.as_slice())?;
+    let done = run_step(alloc, &boot, cpus.as_slice(), calls.as_slice())?;
     let text = history_text(alloc, &done)?;
     Ok(text)
+}
+
+/// The same by whole calls alone.
+pub(crate) fn history(alloc: Global, boot: &str, files: &[&str]) -> Result<String, Fail> {
+    scheduled(alloc, boot, "", files)
 }
 
 /// The call file of the calls of rows.

@@ -1,5 +1,9 @@
--- The call goes on from the course.
+-- The call goes on from the course, and its first item leads to the others.
+use Rattle.gh_schedules.specs.Schedule.{advanced}
 use Rattle.gh_driver.proofs.call.call.Given as goal
 
-abbrev pub ghost-make_call : goal.ghost-make_call
-ghost-make_call g a = g.course
+abbrev pub ghost-advance_going : goal.ghost-advance_going
+ghost-advance_going g a = g.course
+
+abbrev pub ghost-finish : goal.ghost-finish
+ghost-finish g a = advanced g.P.Program.answer g.P.Program.after g.course a.cpu

@@ -1,6 +1,6 @@
 -- Each item begins where those before it led.
 use Rattle.gh_schedules.specs.Schedule.{with_items}
-use Rattle.gh_driver.specs.Follows.{Tracks}
+use Rattle.gh_driver.specs.Follows.{Follows}
 use Rattle.gh_driver.proofs.call.finish.Given as goal
 
 abbrev pub ghost-item : goal.ghost-item
@@ -8,5 +8,5 @@ ghost-item g a = with_items a.made g.course a.cpu.0
 
 abbrev pub invariant-loop-made : goal.invariant-loop-made
 invariant-loop-made g l = record {
-  tracks : Tracks l.progress (with_items l.made g.course l.cpu.0);
+  follows : Follows g.P.Program.wants_reply l.run (with_items l.made g.course l.cpu.0);
 }
