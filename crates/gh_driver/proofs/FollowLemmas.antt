@@ -40,7 +40,7 @@ use Rattle.gh_schedules.specs.Course.{Course, call_of_cpu, either_call, goes_on,
 use Rattle.gh_schedules.specs.Items.{IsSteady, begins, item, item_between, item_of}
 use Rattle.gh_schedules.specs.Schedule.{advanced, called, ended_call, with_item, with_items}
 use Rattle.gh_schedules.specs.Trace.{after_all}
-use Rattle.gh_driver.proofs.CourseLemmas.{IsAlong, IsOver, IsUnderWay, called_is, finished_is, first_along, first_programs, is_given, item_along, item_programs, items_none, no_call, no_item, none_between, steps_are, under_way}
+use Rattle.gh_driver.proofs.CourseLemmas.{IsAlong, IsOver, IsUnderWay, called_is, finished_is, first_along, first_programs, is_given, item_along, item_programs, items_none, no_call, no_item, none_between, none_given, steps_are, under_way}
 use Rattle.gh_driver.proofs.MarkLemmas.{one_mark, reply_is, same_marks, some_last}
 use Rattle.gh_events.proofs.Finding.{put_here, put_other}
 
@@ -333,12 +333,35 @@ module _ {P : Type 0} (wants : P → Bool) (before later : Course P) (at : ℕ) 
 
 -- an item of a call in progress, at which no program is asked
 
+programs_kept : {P : Type 0} (course : Course P) (at : ℕ) → (with_item course at).programs ≡ course.programs
+programs_kept course at = item_programs course at (is_some (call_of_cpu (course.conf.cpu at)))
+
+module _ {P : Type 0} (wants : P → Bool) (course : Course P) (at : ℕ) (within : at < CPUS) (steady : IsSteady course.conf)
+    (call : Given) (has : call_of_cpu (course.conf.cpu at) ≡ Some call) where
+  along_call : IsAlong course (with_item course at) at call.frame
+  along_call = item_along course course at call.frame within (under_way course at steady call has)
+
+  its_call : GoesOn wants course at → IsInCall wants course at
+  its_call (inl next) =
+      let none : call_of_cpu (course.conf.cpu at) ≡ None = none_between (course.conf.cpu at) next.may.between next.may.none in
+      absurd (let never : ⊥ = cc in never)
+  its_call (inr call_there) = call_there
+
+  same_call : (its : IsInCall wants course at) → its.call ≡ call
+  same_call its = let both : Some its.call ≡ Some call = sym its.has ∙ has in cc
+
+  -- the CPU goes on in its call, or behind it
+  item_goes : goes_on course.conf at ≡ true → GoesOn wants course at → goes_on (with_item course at).conf at ≡ true
+      → GoesOn wants (with_item course at) at
+  item_goes going goes on =
+      let its : IsInCall wants course at = its_call goes in
+      goes_again wants course (with_item course at) at call.frame along_call going
+      (λ still. ap (λ (programs : ℕ → P). wants (programs at)) (programs_kept course at) ∙ its.ready (ap (λ (one : Given). is_exit one.frame) (same_call its) ∙ still))
+      (λ still. its.room (ap (λ (one : Given). is_exit one.frame) (same_call its) ∙ still)) on
+
 module _ {P : Type 0} (wants : P → Bool) (run new : Running P) (course : Course P) (at : ℕ) (within : at < CPUS)
     (follows : Follows wants run course) (same : new.programs ≡ run.programs)
     (tracks : Tracks new.progress (with_item course at)) where
-  programs_kept : (with_item course at).programs ≡ course.programs
-  programs_kept = item_programs course at (is_some (call_of_cpu (course.conf.cpu at)))
-
   own_program : (later : Course P) → later.programs ≡ course.programs → later.conf.boot ≡ course.conf.boot → (cpu : ℕ)
       → program_at later cpu ≡ program_at course cpu
   own_program later kept boot cpu =
@@ -355,32 +378,16 @@ module _ {P : Type 0} (wants : P → Bool) (run new : Running P) (course : Cours
         next = follows.next;
       })
 
-  -- any other one goes on in its call, or behind it
+  -- any other one goes on
   module _ (call : Given) (has : call_of_cpu (course.conf.cpu at) ≡ Some call) where
     along : IsAlong course (with_item course at) at call.frame
-    along = item_along course course at call.frame within (under_way course at tracks_steady call has)
-      where
-        tracks_steady : IsSteady course.conf
-        tracks_steady = follows.tracks.steady
-
-    its_call : GoesOn wants course at → IsInCall wants course at
-    its_call (inl next) =
-        let none : call_of_cpu (course.conf.cpu at) ≡ None = none_between (course.conf.cpu at) next.may.between next.may.none in
-        absurd (let never : ⊥ = cc in never)
-    its_call (inr call_there) = call_there
-
-    same_call : (its : IsInCall wants course at) → its.call ≡ call
-    same_call its = let both : Some its.call ≡ Some call = sym its.has ∙ has in cc
+    along = along_call wants course at within follows.tracks.steady call has
 
     by_going : (going : Bool) → goes_on course.conf at ≡ going → goes_on (with_item course at).conf at ≡ true → GoesOn wants (with_item course at) at
     by_going false ended on =
         let still : goes_on (with_item course at).conf at ≡ false = still_ended wants course (with_item course at) at call.frame along ended in
         absurd (let never : ⊥ = cc in never)
-    by_going true going on =
-        let its : IsInCall wants course at = its_call (follows.next at going) in
-        goes_again wants course (with_item course at) at call.frame along going
-        (λ goes. ap (λ (programs : ℕ → P). wants (programs at)) programs_kept ∙ its.ready (ap (λ (one : Given). is_exit one.frame) (same_call its) ∙ goes))
-        (λ goes. its.room (ap (λ (one : Given). is_exit one.frame) (same_call its) ∙ goes)) on
+    by_going true going on = item_goes wants course at within follows.tracks.steady call has going (follows.next at going) on
 
     some_follows : Follows wants new (with_item course at)
     some_follows = record {
@@ -388,9 +395,9 @@ module _ {P : Type 0} (wants : P → Bool) (run new : Running P) (course : Cours
       nine = ap (λ (programs : List (Option P)). length programs) same ∙ follows.nine;
       programs = λ n one there.
           follows.programs n one (sym (ap (λ (programs : List (Option P)). slice_get programs n) same) ∙ there)
-          ∙ sym (own_program (with_item course at) programs_kept along.boot n);
+          ∙ sym (own_program (with_item course at) (programs_kept course at) along.boot n);
       next = all_go wants course (with_item course at) at call.frame along
-          (λ cpu differs. ap (λ (programs : ℕ → P). programs cpu) programs_kept) follows.next
+          (λ cpu differs. ap (λ (programs : ℕ → P). programs cpu) (programs_kept course at)) follows.next
           (by_going (goes_on course.conf at) refl);
     }
 
@@ -491,6 +498,11 @@ module _ {P : Type 0} (answer : P → Option Reply → Step) (after : P → Opti
   advanced_idle course cpu ended = ap (λ (on : Bool). if on then with_item (with_next_call answer after course cpu.0) cpu.0 else course) ended
 
   -- so the run still follows
+  pub still_follows : (wants : P → Bool) (run : Running P) (course : Course P) (cpu : CpuNo) → Follows wants run course
+      → goes_on course.conf cpu.0 ≡ false → Follows wants run (advanced answer after course cpu)
+  still_follows wants run course cpu follows ended =
+      subst (λ (one : Course P). Follows wants run one) (sym (advanced_idle course cpu ended)) follows
+
   pub idle_follows : (wants : P → Bool) (run : Running P) (course : Course P) (at : ℕ) → Follows wants run course
       → goes_on course.conf at ≡ false → Follows wants run (called answer after course at)
   idle_follows wants run course at follows ended =
@@ -530,6 +542,11 @@ module _ (progress : Progress) (conf : Config) (seats : List Seat) (at : ℕ) (o
   pub ended_is : (get_or seats at other).ended ≡ list_any exits (made_by conf at)
   ended_is = (seat_of progress conf seats at other stands within are).ended
 
+  -- one that has made it doesn't go on
+  pub ended_goes : (get_or seats at other).ended ≡ true → goes_on conf at ≡ false
+  ended_goes ended =
+      and_right (is_some (cpu_row conf.boot at)) (not (list_any exits (made_by conf at))) (ap not (sym ended_is ∙ ended))
+
 module _ {P : Type 0} (wants : P → Bool) (run : Running P) (course : Course P) (follows : Follows wants run course) (at : ℕ)
     (within : at < CPUS) where
   -- a program in a list of them is that of its CPU
@@ -561,6 +578,16 @@ module _ {P : Type 0} (wants : P → Bool) (run : Running P) (course : Course P)
       → get_or programs at other ≡ Some program → program ≡ course.programs at
   program_is programs other program are is =
       (program_by (is_some (cpu_row course.conf.boot at)) program (sym is ∙ its_program programs other are)).1
+
+  -- its CPU goes on where it has made no exit call
+  pub goes_so : (programs : List (Option P)) (other : Option P) (program : P) (seats : List Seat) (seat : Seat)
+      → programs ≡ run.programs → get_or programs at other ≡ Some program
+      → seats ≡ run.progress.seats → (get_or seats at seat).ended ≡ false
+      → goes_on course.conf at ≡ true
+  goes_so programs other program seats seat are is seats_are going =
+      ap (λ (row : Bool). row && not (list_any exits (made_by course.conf at)))
+      (program_by (is_some (cpu_row course.conf.boot at)) program (sym is ∙ its_program programs other are)).0
+      ∙ ap not (sym (ended_is run.progress course.conf seats at seat follows.tracks.stands within seats_are) ∙ going)
 
   some_program : (row : Bool) → is_some (if row then Some (course.programs at) else None) ≡ row
   some_program true = refl
@@ -605,24 +632,41 @@ module _ (progress : Progress) (conf : Config) (at : ℕ) (stands : Stands progr
   pub some_call_there : has_call progress at ≡ true → is_some (call_of_cpu (conf.cpu at)) ≡ true
   some_call_there some = some_of its_seat.call (sym call_there ∙ some) its_seat.stands.current
 
-module _ {P : Type 0} (answer : P → Option Reply → Step) (after : P → Option Reply → P) (wants : P → Bool) (run : Running P)
-    (course : Course P) (follows : Follows wants run course) (cpu : CpuNo) (within : cpu.0 < CPUS)
-    (going : goes_on course.conf cpu.0 ≡ true) where
+module _ {P : Type 0} (answer : P → Option Reply → Step) (after : P → Option Reply → P) (wants : P → Bool) (progress : Progress)
+    (course : Course P) (tracks : Tracks progress course) (cpu : CpuNo) (within : cpu.0 < CPUS)
+    (going : goes_on course.conf cpu.0 ≡ true) (goes : GoesOn wants course cpu.0) where
   -- an item of a call in progress advances its CPU
-  pub busy_advanced : has_call run.progress cpu.0 ≡ true → with_item course cpu.0 ≡ advanced answer after course cpu
+  pub busy_advanced : has_call progress cpu.0 ≡ true → with_item course cpu.0 ≡ advanced answer after course cpu
   busy_advanced busy =
       sym (ap (λ (on : Bool). if on then with_item (with_next_call answer after course cpu.0) cpu.0 else course) going
       ∙ ap (λ (there : Bool). with_item (if there then course else with_call answer after course cpu.0 (next_standing answer after course cpu.0)) cpu.0)
-      (some_call_there run.progress course.conf cpu.0 follows.tracks.stands within busy))
+      (some_call_there progress course.conf cpu.0 tracks.stands within busy))
+
+  busy_by : (call : Option Given) → call_of_cpu (course.conf.cpu cpu.0) ≡ call → is_some call ≡ true
+      → goes_on (with_item course cpu.0).conf cpu.0 ≡ true → GoesOn wants (with_item course cpu.0) cpu.0
+  busy_by None is some on = absurd (let never : ⊥ = cc in never)
+  busy_by (Some call) is some on = item_goes wants course cpu.0 within tracks.steady call is going goes on
+
+  -- and leaves its program
+  pub busy_program : has_call progress cpu.0 ≡ true → (advanced answer after course cpu).programs cpu.0 ≡ course.programs cpu.0
+  busy_program busy =
+      ap (λ (one : Course P). one.programs cpu.0) (sym (busy_advanced busy))
+      ∙ ap (λ (programs : ℕ → P). programs cpu.0) (programs_kept course cpu.0)
+
+  pub busy_goes : has_call progress cpu.0 ≡ true → goes_on (advanced answer after course cpu).conf cpu.0 ≡ true
+      → GoesOn wants (advanced answer after course cpu) cpu.0
+  busy_goes busy =
+      subst (λ (one : Course P). goes_on one.conf cpu.0 ≡ true → GoesOn wants one cpu.0) (busy_advanced busy)
+      (busy_by (call_of_cpu (course.conf.cpu cpu.0)) refl (some_call_there progress course.conf cpu.0 tracks.stands within busy))
 
   -- without one it may be given its next call
-  pub next_free : has_call run.progress cpu.0 ≡ false → CallsNext wants course cpu.0
-  next_free free = by_goes (follows.next cpu.0 going)
+  pub next_free : has_call progress cpu.0 ≡ false → CallsNext wants course cpu.0
+  next_free free = by_goes goes
     where
       by_goes : GoesOn wants course cpu.0 → CallsNext wants course cpu.0
       by_goes (inl next) = next
       by_goes (inr call) =
-          let none : call_of_cpu (course.conf.cpu cpu.0) ≡ None = no_call_there run.progress course.conf cpu.0 follows.tracks.stands within free in
+          let none : call_of_cpu (course.conf.cpu cpu.0) ≡ None = no_call_there progress course.conf cpu.0 tracks.stands within free in
           let some : call_of_cpu (course.conf.cpu cpu.0) ≡ Some call.call = call.has in
           absurd (let never : ⊥ = cc in never)
 
@@ -630,12 +674,39 @@ module _ {P : Type 0} (answer : P → Option Reply → Step) (after : P → Opti
   pub six_more : with_items 6 (advanced answer after course cpu) cpu.0 ≡ called answer after course cpu.0
   six_more =
       ap (λ (on : Bool). with_items 6 (if on then with_item (with_next_call answer after course cpu.0) cpu.0 else course) cpu.0) going
-      ∙ by_goes (follows.next cpu.0 going)
+      ∙ by_goes goes
     where
       by_goes : GoesOn wants course cpu.0
           → with_items 6 (with_item (with_next_call answer after course cpu.0) cpu.0) cpu.0 ≡ called answer after course cpu.0
-      by_goes (inl next) = called_is answer after course cpu.0 within follows.tracks.steady next.may going
-      by_goes (inr call) = finished_is answer after course cpu.0 within follows.tracks.steady call.call call.has going
+      by_goes (inl next) = called_is answer after course cpu.0 within tracks.steady next.may going
+      by_goes (inr call) = finished_is answer after course cpu.0 within tracks.steady call.call call.has going
+
+-- the run behind an item of a CPU that goes on, between calls or in one
+
+module _ {P : Type 0} (answer : P → Option Reply → Step) (after : P → Option Reply → P) (wants : P → Bool) (run : Running P)
+    (course : Course P) (follows : Follows wants run course) (cpu : CpuNo) (within : cpu.0 < CPUS)
+    (going : goes_on course.conf cpu.0 ≡ true) where
+  abbrev Behind : Course P → Type 0
+  Behind later = (new : Running P) (program : P) → Tracks new.progress later → program ≡ later.programs cpu.0
+      → (goes_on later.conf cpu.0 ≡ true → GoesOn wants later cpu.0)
+      → new.programs ≡ slice_set run.programs cpu.0 (Some program) → Follows wants new later
+
+  by_goes : GoesOn wants course cpu.0 → Behind (advanced answer after course cpu)
+  by_goes (inl next) =
+      subst Behind (sym (advanced_going answer after wants course cpu within follows.tracks.steady next going))
+      (λ new program tracks. begun_follows answer after wants course cpu within follows.tracks.steady next going run new program follows tracks)
+  by_goes (inr call) =
+      subst Behind
+      (sym (ap (λ (on : Bool). if on then with_item (with_next_call answer after course cpu.0) cpu.0 else course) going
+      ∙ ap (λ (one : Course P). with_item one cpu.0) (none_given answer after course cpu.0 within follows.tracks.steady call.call call.has)))
+      (λ new program.
+      call_follows wants course (with_item course cpu.0) cpu.0 call.call.frame
+      (along_call wants course cpu.0 within follows.tracks.steady call.call call.has)
+      (λ other differs. ap (λ (programs : ℕ → P). programs other) (programs_kept course cpu.0))
+      within going run new program follows)
+
+  pub advanced_follows : Behind (advanced answer after course cpu)
+  advanced_follows = by_goes (follows.next cpu.0 going)
 
 -- the reply to the CPU's last call
 pub told_last : {P : Type 0} (progress : Progress) (course : Course P) (marks : List Mark) (at : ℕ) (reply : Option Reply) → at < CPUS

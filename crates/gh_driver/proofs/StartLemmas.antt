@@ -1,5 +1,5 @@
 -- The run before its first call is the course before its first step.
-use Rattle.std.proofs.Common.{◌≡◌, ◌∙◌, ◌+◌, ◌<◌, ℕ, zero, suc, true, List, [], length, refl, subst, sym, ap, arith, Option, Some, map, is_some, slice_get, if◌then◌else◌}
+use Rattle.std.proofs.Common.{◌≡◌, inl, ◌∙◌, ◌+◌, ◌<◌, ℕ, zero, suc, true, List, [], length, refl, subst, sym, ap, arith, Option, Some, map, is_some, slice_get, if◌then◌else◌}
 use Rattle.std.specs.Option.{option_map}
 use Rattle.std.specs.List.{range_with_len}
 use Rattle.gh_base.specs.declared.limits.TheConstants.{CPUS}
@@ -54,7 +54,7 @@ module _ (lines : List BootLine) (files : List (List Line)) where
             numbered (first_program files (boot_state lines).cpus) 0 CPUS at program
             (sym (ap (λ (list : List (Option VmProgress)). slice_get list at) all) ∙ is)
             ∙ ap (first_program files (boot_state lines).cpus) (let sum : 0 + at ≡ at = omega arith in sum);
-        next = λ at on. record {
+        next = λ at on. inl (record {
           may = record {
             is_cpu = (and_parts (is_some (cpu_row (boot_state lines) at)) true on).0;
             between = record { none = refl; dropped = refl };
@@ -64,5 +64,5 @@ module _ (lines : List BootLine) (files : List (List Line)) where
             bounded = omega arith;
           };
           waits = refl;
-        };
+        });
       }

@@ -97,25 +97,30 @@ fn begin<P: Program>(
 
 /// A CPU that goes on is advanced by one item: of the call in progress, or else of its program's next
 /// one.
-fn advance_going<P: Program>(
-    run: &mut Running<P>,
+fn advance_program<P: Program>(
+    progress: &mut Progress,
     alloc: Global,
     cpu: CpuNo,
+    program: &mut P,
 ) -> Result<(), NoMemory>
     ghost course: { Course P }
     requires within { cpu.0 < CPUS }
-    requires follows { Follows P.wants_reply run.old course }
+    requires tracks { Tracks progress.old course }
     requires going { goes_on course.conf cpu.0 ≡ true }
-    ensures { OnOk result (Follows P.wants_reply run.new
+    requires goes { GoesOn P.wants_reply course cpu.0 }
+    requires program { program.old ≡ course.programs cpu.0 }
+    ensures tracks { OnOk result (Tracks progress.new
         (advanced P.answer P.after course cpu)) }
+    ensures program { OnOk result
+        (program.new ≡ (advanced P.answer P.after course cpu).programs cpu.0) }
+    ensures next { OnOk result
+        (goes_on (advanced P.answer P.after course cpu).conf cpu.0 ≡ true
+        → GoesOn P.wants_reply (advanced P.answer P.after course cpu) cpu.0) }
 {
-    let at = cpu.0 as usize;
-    if has_call(&run.progress, at) {
-        return item(run, alloc, cpu, 0);
-    }
-    match &mut run.programs.as_mut_slice()[at] {
-        None => Ok(()),
-        Some(program) => begin(&mut run.progress, alloc, cpu, program),
+    if has_call(progress, cpu.0 as usize) {
+        next_item(progress, alloc, cpu)
+    } else {
+        begin(progress, alloc, cpu, program)
     }
 }
 
@@ -131,10 +136,13 @@ pub(crate) fn advance<P: Program>(
     ensures { OnOk result (Follows P.wants_reply run.new
         (advanced P.answer P.after course cpu)) }
 {
-    if is_going(run, cpu.0 as usize) {
-        advance_going(run, alloc, cpu)
-    } else {
-        Ok(())
+    let at = cpu.0 as usize;
+    if run.progress.seats.as_slice()[at].ended {
+        return Ok(());
+    }
+    match &mut run.programs.as_mut_slice()[at] {
+        None => Ok(()),
+        Some(program) => advance_program(&mut run.progress, alloc, cpu, program),
     }
 }
 
@@ -154,6 +162,6 @@ pub(crate) fn call<P: Program>(
     if !is_going(run, cpu.0 as usize) {
         return Ok(());
     }
-    advance_going(run, alloc, cpu)?;
+    advance(run, alloc, cpu)?;
     finish(run, alloc, cpu)
 }

@@ -152,13 +152,11 @@ fn run_scheduled(
     files: &[Sequence<Line>],
 ) -> Result<Running<VmProgram>, NoMemory>
     ghost course: { Course Progress }
-    requires cpus { All (λ cpu. is_cpu_of boot.now cpu.0 ≡ true) schedule.now }
+    requires cpus { All IsCpuNumber schedule.now }
     requires course { course ≡ begin (boot_start boot.now) (file_program files.now) }
     ensures { IfOk result (λ run. Follows has_made_one run
         (fold (advanced vm_answer vm_after) course schedule.now)) }
 {
-    cpus_have_rows(boot);
-    let _lines = boot.lines();
     let mut run = start(alloc, boot, files)?;
     run_items(&mut run, alloc, schedule)?;
     Ok(run)
@@ -172,7 +170,7 @@ fn run_programs(
     files: &[Sequence<Line>],
 ) -> Result<Running<VmProgram>, NoMemory>
     ghost course: { Course Progress }
-    requires cpus { All (λ cpu. is_cpu_of boot.now cpu.0 ≡ true) schedule.now }
+    requires cpus { All IsCpuNumber schedule.now }
     requires course { course ≡ scheduled vm_answer vm_after boot.now (file_program files.now)
         schedule.now }
     ensures { IfOk result (λ run. Follows has_made_one run
@@ -200,6 +198,8 @@ pub fn run_step(
     ensures state { IfOk result
         (λ done. done.state ≡ (file_run boot.now schedule.now files.now).state) }
 {
+    cpus_have_rows(boot);
+    let _lines = boot.lines();
     let run = run_programs(alloc, boot, schedule, files)?;
     Ok(Finished {
         history: run.progress.entries,

@@ -1,5 +1,5 @@
--- The CPU is advanced from the course.
+-- The item goes on from the course.
 use Rattle.gh_driver.proofs.call.advance.Given as goal
 
-abbrev pub ghost-advance_going : goal.ghost-advance_going
-ghost-advance_going g a = g.course
+abbrev pub ghost-advance_program : goal.ghost-advance_program
+ghost-advance_program g a = g.course

@@ -2,8 +2,8 @@
 use Rattle.gh_schedules.specs.Schedule.{advanced}
 use Rattle.gh_driver.proofs.call.call.Given as goal
 
-abbrev pub ghost-advance_going : goal.ghost-advance_going
-ghost-advance_going g a = g.course
+abbrev pub ghost-advance : goal.ghost-advance
+ghost-advance g a = g.course
 
 abbrev pub ghost-finish : goal.ghost-finish
 ghost-finish g a = advanced g.P.Program.answer g.P.Program.after g.course a.cpu

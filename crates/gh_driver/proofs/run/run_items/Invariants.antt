@@ -10,5 +10,5 @@ ghost-scheduled_item g a = fold (advanced g.P.Program.answer g.P.Program.after) 
 
 abbrev pub invariant-loop-at : goal.invariant-loop-at
 invariant-loop-at g l = record {
-  follows : Follows g.P.Program.wants_reply l.run (fold (advanced g.P.Program.answer g.P.Program.after) g.course (take l.at l.schedule.now));
+  follows : Follows g.P.Program.wants_reply l.run (fold (advanced g.P.Program.answer g.P.Program.after) g.course (take l.at l.schedule));
 }
