@@ -1,2 +1,5 @@
-pub mod Moved
 pub mod Holding
+pub mod Kept
+pub mod Moved
+pub mod Shows
+pub mod Tables

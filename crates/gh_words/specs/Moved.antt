@@ -1,6 +1,6 @@
 -- What a step of the turn's holder says: its event was possible and was made, behind events of other
 -- CPUs that came first.
-use Rattle.std.specs.Prelude.{◌≡◌, ◌==◌, ⊤, not, ℕ, Bool, true, List, [], ◌∷◌, ◌++◌}
+use Rattle.std.specs.Prelude.{◌≡◌, ◌==◌, ⊤, not, Bool, true, List, [], ◌∷◌, ◌++◌}
 use Rattle.std.specs.List.{list_all}
 use Rattle.gh_base.specs.declared.ids.CpuNo.{CpuNo}
 use Rattle.gh_events.specs.Config.{Config}

@@ -1,0 +1,5 @@
+pub mod Alone
+pub mod Puts
+pub mod WordsShown
+pub mod CommitShown
+pub mod HolderShown
