@@ -96,6 +96,7 @@ module _ (words : PlainWords) (conf : Config) (shown : Shows words conf) (at : â
           within = is.is_home.within;
         };
         counter = is.counter;
+        low = is.low;
         place = is.place;
       }
 

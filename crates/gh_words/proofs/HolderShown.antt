@@ -290,7 +290,7 @@ rung_shown words rings conf shown = record {
   caps = shown.caps;
   references = shown.references;
   fits = shown.fits;
-  cpus = λ cpu within. let is = shown.cpus cpu within in record { home = is.home; has_home = is.has_home; is_home = is.is_home; counter = is.counter; place = is.place };
+  cpus = λ cpu within. let is = shown.cpus cpu within in record { home = is.home; has_home = is.has_home; is_home = is.is_home; counter = is.counter; low = is.low; place = is.place };
   entries = shown.entries;
   turn = shown.turn;
 }

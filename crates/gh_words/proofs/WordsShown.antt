@@ -46,6 +46,7 @@ module _ (words : PlainWords) (conf : Config) (shown : Shows words conf) (change
     has_home = is.has_home;
     is_home = record { is = is.is_home.is; made = is.is_home.made; within = is.is_home.within };
     counter = is.counter;
+    low = is.low;
     place = is.place;
   }
 

@@ -42,12 +42,13 @@ pub record IsHome (conf : Config) (cpu home : ℕ) : Type 0 where
   pub made : cspace_of conf.boot cpu < (present conf).next_serial
   pub within : home < OBJECT_INDICES
 
--- the CPU has this index, this counter and this last place
+-- the CPU has this index, this counter and this last place. A counter has room to go on
 pub record ShowsCpu (words : PlainWords) (conf : Config) (cpu : ℕ) : Type 0 where
   pub home : ℕ
   pub has_home : slice_get words.homes cpu ≡ Some (record { 0 = home })
   pub is_home : IsHome conf cpu home
   pub counter : slice_get words.counters cpu ≡ Some (conf.counter cpu)
+  pub low : conf.counter cpu ≤ 2 ^ 62
   pub place : slice_get words.places cpu ≡ Some (place_now (conf.cpu cpu))
 
 -- the turn

@@ -23,3 +23,12 @@ one_more word = record word { count = word.count + 1 }
 
 abbrev pub one_less : ReferenceWord → ReferenceWord
 one_less word = record word { count = word.count - 1 }
+
+-- another counter of a CPU
+abbrev pub with_counter : PlainWords → ℕ → ℕ → PlainWords
+with_counter words cpu counter =
+    record words { counters = slice_set words.counters cpu counter }
+
+-- another last place
+abbrev pub with_place : PlainWords → ℕ → ℕ → PlainWords
+with_place words cpu place = record words { places = slice_set words.places cpu place }
