@@ -1,4 +1,6 @@
 pub mod Alone
+pub mod BootLemmas
+pub mod BootShown
 pub mod CallShown
 pub mod CallsMade
 pub mod PinsMade

@@ -120,14 +120,14 @@ module _ (words : PlainWords) (conf : Config) (cpu slot : ℕ) (shown : Shows wo
       let read : word ≡ conf.cap home place = cc in
       read ∙ ap (λ (n : ℕ). conf.cap n place) (sym at_home) ∙ ap (conf.cap (conf.index (cspace_of conf.boot cpu))) is
 
-  home_read : (none : ObjIndex) → get_or words.homes cpu none ≡ record { 0 = is_here.home }
-  home_read none = get_or_from_slice_get words.homes cpu (record { 0 = is_here.home }) none is_here.has_home
+  pub home_made : (home : ObjIndex) → slice_get words.homes cpu ≡ Some home → conf.index (cspace_of conf.boot cpu) ≡ home.0
+  home_made home has_home =
+      let there : slice_get words.homes cpu ≡ Some (record { 0 = is_here.home }) = is_here.has_home in
+      let same : home ≡ record { 0 = is_here.home } = cc in
+      is_here.is_home.is ∙ sym (ap (λ (h : ObjIndex). h.0) same)
 
-  pub home_made : (none : ObjIndex) → conf.index (cspace_of conf.boot cpu) ≡ (get_or words.homes cpu none).0
-  home_made none = is_here.is_home.is ∙ sym (ap (λ (h : ObjIndex). h.0) (home_read none))
-
-  pub home_within : (none : ObjIndex) → (get_or words.homes cpu none).0 < OBJECT_INDICES
-  home_within none = omega (arith, ap (λ (h : ObjIndex). h.0) (home_read none), is_here.is_home.within)
+  pub home_within : (home : ObjIndex) → slice_get words.homes cpu ≡ Some home → home.0 < OBJECT_INDICES
+  home_within home has_home = omega (arith, sym (home_made home has_home) ∙ is_here.is_home.is, is_here.is_home.within)
 
   pub place_read : get_or words.places cpu 0 ≡ place_now (conf.cpu cpu)
   place_read = get_or_from_slice_get words.places cpu (place_now (conf.cpu cpu)) 0 is_here.place

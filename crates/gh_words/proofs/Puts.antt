@@ -1,5 +1,5 @@
 -- A table of which one item was set.
-use Rattle.std.proofs.Common.{◌≡◌, ◌≢◌, ◌==◌, ◌<◌, ◌∙◌, inl, inr, ℕ, zero, suc, false, List, [], ◌∷◌, length, refl, sym, ap, subst, arith, Some, slice_get, slice_set}
+use Rattle.std.proofs.Common.{◌≡◌, ◌≢◌, ◌==◌, ◌+◌, ◌<◌, ◌∙◌, inl, inr, ℕ, zero, suc, false, List, [], ◌∷◌, length, refl, sym, ap, subst, arith, Some, slice_get, slice_set}
 use Rattle.std.proofs.lemmas.Bool.Decides.{eqb_tells}
 use Rattle.std.proofs.lemmas.List.{get_or-set_same, length-set}
 use Rattle.std.proofs.lemmas.Option.{slice_get-get_or, slice_get_within}
@@ -32,3 +32,15 @@ set_shows xs at n x old here now there is same other = elim (eqb_tells n at) as 
   | inl equal ↦ ap (slice_get (slice_set xs at x)) equal.1 ∙ set_here xs at x (slice_get_within xs at old there) ∙ ap (λ (y : _). Some y) (sym (same equal.1))
   | inr differs ↦ set_other xs at n x differs.1 ∙ is ∙ ap (λ (y : _). Some y) (sym (other differs.0))
 ]
+
+-- a table whose first items are those of a function, behind the next one
+pub filled_more : {X : Type 0} (f : ℕ → X) (xs ys : List X) (at : ℕ) (x : X) → ys ≡ slice_set xs at x → slice_get ys at ≡ Some x → x ≡ f at
+    → ((n : ℕ) → n < at → slice_get xs n ≡ Some (f n)) → (n : ℕ) → n < at + 1 → slice_get ys n ≡ Some (f n)
+filled_more f xs ys at x set there is so_far n less = elim (eqb_tells n at) as (λ _. slice_get ys n ≡ Some (f n)) [
+  | inl equal ↦ ap (slice_get ys) equal.1 ∙ there ∙ ap (λ (y : _). Some y) (is ∙ ap f (sym equal.1))
+  | inr differs ↦ ap (λ (list : List _). slice_get list n) set ∙ set_other xs at n x differs.1 ∙ so_far n (omega (arith, less, differs.1))
+]
+
+-- an item that was read twice
+pub one_item : {X : Type 0} (xs : List X) (n : ℕ) (x y : X) → slice_get xs n ≡ Some x → slice_get xs n ≡ Some y → x ≡ y
+one_item xs n x y is also = cc

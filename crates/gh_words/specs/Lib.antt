@@ -1,3 +1,4 @@
+pub mod Booting
 pub mod Calls
 pub mod Holding
 pub mod Kept

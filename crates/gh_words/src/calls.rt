@@ -76,7 +76,7 @@ impl PlainWords {
         ensures home { IsAtHome self.now cpu.0 result.0 }
         ensures within { result.0 < OBJECT_INDICES }
     {
-        self.homes[cpu.0 as usize]
+        self.homes.get(cpu.0 as usize)
     }
 
     fn cap(&self, space: ObjIndex, place: usize) -> CapWord

@@ -1,6 +1,9 @@
 //! What the holder of a turn may do with words, and plain words.
 #![tactic(auto)]
 
+mod boot;
+mod boot_counts;
+mod boot_index;
 mod calls;
 mod holder;
 mod law;
@@ -12,7 +15,7 @@ mod turn;
 mod words;
 
 pub use calls::Dead;
-pub use law::{given_calls_stay_shown, lone_steps_are_events};
+pub use law::{given_calls_stay_shown, lone_steps_are_events, scans_are_latest};
 pub use log::Log;
 pub use plain_words::{CAP_WORDS, PlainWords, ReferenceWord, SLOT_WORDS, Turn};
 pub use table::Table;

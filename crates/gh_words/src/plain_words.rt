@@ -43,7 +43,7 @@ pub struct PlainWords {
     /// By CPU.
     pub(crate) counters: Counters,
     /// The index of each CPU's capability space.
-    pub(crate) homes: [ObjIndex; CPUS],
+    pub(crate) homes: Table<ObjIndex, CPUS>,
     /// The last place of each CPU.
     pub(crate) places: [u32; CPUS],
     pub(crate) log: Log,

@@ -47,7 +47,8 @@ impl<T: Copy + Drop, const LENGTH: usize> Table<T, LENGTH> {
     /// Puts an item in the place of another.
     pub fn set(&mut self, at: usize, item: T)
         requires { at < LENGTH }
-        ensures { self.new ≡ slice_set self.old at item }
+        ensures set { self.new ≡ slice_set self.old at item }
+        ensures put { slice_get self.new at ≡ Some item }
     {
         self.vec[at] = item;
     }
