@@ -1,0 +1,12 @@
+pub mod Alone
+pub mod BootLemmas
+pub mod BootShown
+pub mod CallShown
+pub mod CallsMade
+pub mod PinsMade
+pub mod Puts
+pub mod TurnsMade
+pub mod WordsShown
+pub mod CommitShown
+pub mod GivenShown
+pub mod HolderShown

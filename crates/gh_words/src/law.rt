@@ -1,0 +1,44 @@
+//! Laws of words. The functions do nothing; their clauses are the laws.
+
+ghost use Rattle.std.specs.Prelude.{◌≡◌, ◌<◌, ℕ, List, [], Some, slice_get, ⊤};
+ghost use Rattle.gh_base.specs.declared.limits.TheConstants.{CPUS};
+ghost use Rattle.gh_base.specs.declared.frame.Frame.{Frame};
+ghost use Rattle.gh_events.specs.Config.{Config};
+ghost use Rattle.gh_events.specs.Events.{Possible, after};
+ghost use Rattle.gh_events.specs.Grace.{AreAtMost};
+ghost use Rattle.gh_events.specs.Sound.{IsSound};
+ghost use Rattle.gh_events.specs.Start.{MayGive, given};
+ghost use Rattle.gh_events.specs.declared.event.Event.{Event};
+ghost use Rattle.gh_words.specs.Holding.{HasScans};
+ghost use Rattle.gh_words.specs.Moved.{Moved};
+ghost use Rattle.gh_words.specs.Shows.{Shows};
+ghost use Rattle.gh_words.specs.declared.plain_words.PlainWords.{PlainWords};
+
+use crate::words::Words;
+
+/// A step before which no other CPU makes one is the event: it was possible, and the words show the
+/// configuration behind it. And such an event is such a step.
+pub fn lone_steps_are_events<W: Words>()
+    ensures possible { (words : W) (conf : Config) (event : Event)
+        (moved : Moved (λ _. ⊤) (W.shows words) conf event) → moved.others ≡ []
+        → Possible conf event }
+    ensures shown { (words : W) (conf : Config) (event : Event)
+        (moved : Moved (λ _. ⊤) (W.shows words) conf event) → moved.others ≡ []
+        → W.shows words (after conf event) }
+    ensures made { (words : W) (conf : Config) (event : Event) → Possible conf event
+        → W.shows words (after conf event) → Moved (λ _. ⊤) (W.shows words) conf event }
+{}
+
+/// A call that a CPU is given leaves the configuration shown.
+pub fn given_calls_stay_shown()
+    ensures { (words : PlainWords) (conf : Config) (at number : ℕ) (frame : Frame)
+        → Shows words conf → MayGive conf at number
+        → Shows words (given conf at number frame) }
+{}
+
+/// No counter of a scan is less than that CPU's counter on a retirement or a reclaim in the history.
+pub fn scans_are_latest()
+    ensures { (conf : Config) (seen : List ℕ) (cpu counter : ℕ) → IsSound conf
+        → HasScans conf seen → cpu < CPUS → slice_get seen cpu ≡ Some counter
+        → AreAtMost conf.history cpu counter }
+{}

@@ -1,0 +1,22 @@
+//! What the holder of a turn may do with words, and plain words.
+#![tactic(auto)]
+
+mod boot;
+mod boot_counts;
+mod boot_index;
+mod calls;
+mod holder;
+mod law;
+mod log;
+mod plain_words;
+mod references;
+mod table;
+mod turn;
+mod words;
+
+pub use calls::Dead;
+pub use law::{given_calls_stay_shown, lone_steps_are_events, scans_are_latest};
+pub use log::Log;
+pub use plain_words::{CAP_WORDS, PlainWords, ReferenceWord, SLOT_WORDS, Turn};
+pub use table::Table;
+pub use words::Words;
