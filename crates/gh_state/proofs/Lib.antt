@@ -26,6 +26,7 @@ mod KindCounts
 mod Leaving
 mod LeavingHome
 mod Living
+mod MakingLemmas
 mod MappingLemmas
 mod MoveLemmas
 mod Options

@@ -6,6 +6,7 @@ pub mod BodyChanges
 pub mod Follows
 pub mod Index
 pub mod Making
+pub mod MakingAll
 pub mod MappingChanges
 pub mod MemoryChanges
 pub mod NumberChanges

@@ -11,6 +11,7 @@ mod creation;
 mod follow;
 mod journal;
 mod links;
+mod make;
 mod mappings;
 mod memory;
 mod memory_reads;
