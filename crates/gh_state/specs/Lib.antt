@@ -15,6 +15,7 @@ pub mod ObjectReads
 pub mod Owing
 pub mod PageMoves
 pub mod QueueReads
+pub mod Reading
 pub mod Reclaims
 pub mod Shares
 pub mod SlotChanges
