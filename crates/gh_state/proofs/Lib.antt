@@ -11,6 +11,7 @@ mod BlockRoom
 mod BodyChangeLemmas
 mod BodyLemmas
 mod BootIndex
+mod BootParts
 mod BootUnits
 mod CountedRows
 mod DoomedLemmas

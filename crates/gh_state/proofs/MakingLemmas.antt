@@ -1,5 +1,5 @@
 -- Of changes in order each can be made in the state that those before it made.
-use Rattle.std.proofs.Common.{◌≡◌, ◌+◌, ◌<◌, ◌∙◌, ℕ, zero, suc, true, List, [], ◌∷◌, length, take, Option, Some, None, Result, Ok, Err, refl, sym, ap, subst, arith, inl, inr}
+use Rattle.std.proofs.Common.{◌≡◌, ◌+◌, ◌<◌, ◌∙◌, ℕ, zero, suc, true, List, [], ◌∷◌, length, take, Option, Some, None, Result, Ok, Err, refl, sym, ap, subst, arith, fold, inl, inr}
 use Rattle.std.specs.Prelude.{All, IfSome, OnErr, is_some, slice_get}
 use Rattle.std.proofs.lemmas.Bool.{both_ways}
 use Rattle.std.proofs.lemmas.List.Sums.{fold_more, sum_by-cons}
@@ -18,7 +18,7 @@ use Rattle.gh_model.specs.Rows.{is_object}
 use Rattle.gh_model.specs.declared.change.Change.{Change}
 use Rattle.gh_model.specs.declared.state.State.{State}
 use Rattle.gh_state.specs.Making.{HasRoom}
-use Rattle.gh_state.specs.MakingAll.{CanMakeAll, FitsParts, HasRoomFor, IsMakeable, changed_by}
+use Rattle.gh_state.specs.MakingAll.{CanMakeAll, FitsParts, HasRoomFor, IsMakeable, stepped}
 use Rattle.gh_state.specs.Stands.{Stands}
 use Rattle.gh_state.specs.declared.parts.Parts.{Parts}
 
@@ -29,7 +29,7 @@ positive s valid zero alive =
 positive s valid (suc n) alive = omega arith
 
 -- room for several changes is room for the first
-room_first : (s : State) (change : Change) (changes : List Change) → IsValidWithin s
+pub room_first : (s : State) (change : Change) (changes : List Change) → IsValidWithin s
     → HasRoomFor s (change ∷ changes) → HasRoom s
 room_first s change changes valid room = record {
   entries = room.entries;
@@ -39,7 +39,7 @@ room_first s change changes valid room = record {
 }
 
 -- and behind it room for the others
-room_behind : (s : State) (change : Change) (changes : List Change) → IsValidWithin s → MayChange s change
+pub room_behind : (s : State) (change : Change) (changes : List Change) → IsValidWithin s → MayChange s change
     → HasRoomFor s (change ∷ changes) → HasRoomFor (changed s change) changes
 room_behind s change changes valid may room =
     let counts : Counts s (changed s change) change = change_counts s change in
@@ -56,7 +56,7 @@ room_behind s change changes valid may room =
     }
 
 -- a valid state stays so
-valid_behind : (s : State) (change : Change) → IsValidWithin s → MayChange s change
+pub valid_behind : (s : State) (change : Change) → IsValidWithin s → MayChange s change
     → IsValidWithin (changed s change)
 valid_behind s change valid may =
     subst (λ (n : ℕ). IsValidTo (n + 1) (changed s change)) (sym (change_counts s change).entries)
@@ -100,25 +100,22 @@ makeable_at before parts s changes at can stands =
     with_parts parts (changed_all s (take at changes)) (slice_get changes at) stands
     (ready_at changes s at can.valid can.may can.room can.fit)
 
--- and then one more is made
-made_by : (s : State) (changes : List Change) (at : ℕ) (found : Option Change)
-    → slice_get changes at ≡ found → at < length changes
-    → changed_by (changed_all s (take at changes)) found ≡ changed_all s (take (at + 1) changes)
-made_by s changes at None is within =
-    elim (slice_get_cases changes at).1 as (λ _. changed_all s (take at changes) ≡ changed_all s (take (at + 1) changes)) [
-      | inl there ↦ let never : ⊥ = some_none there.0 (sym there.2 ∙ is) in absurd never
+-- one step more of a list is made
+stepped_by : {X : Type 0} (step : State → X → State) (s : State) (xs : List X) (at : ℕ) (found : Option X)
+    → slice_get xs at ≡ found → at < length xs
+    → stepped step (fold step s (take at xs)) found ≡ fold step s (take (at + 1) xs)
+stepped_by step s xs at None is within =
+    elim (slice_get_cases xs at).1 as (λ _. fold step s (take at xs) ≡ fold step s (take (at + 1) xs)) [
+      | inl there ↦ let never : ⊥ = cc in absurd never
       | inr past ↦ absurd (omega (arith, past.0, within))
     ]
-  where
-    some_none : (change : Change) → Some change ≡ None → ⊥
-    some_none change same = cc
-made_by s changes at (Some change) is within =
-    ap (changed (changed_all s (take at changes))) (sym (get_or_from_slice_get changes at change change is))
-    ∙ sym (fold_more changed s changes at change within)
+stepped_by step s xs at (Some x) is within =
+    ap (step (fold step s (take at xs))) (sym (get_or_from_slice_get xs at x x is))
+    ∙ sym (fold_more step s xs at x within)
 
-pub made_next : (s : State) (changes : List Change) (at : ℕ) → at < length changes
-    → changed_by (changed_all s (take at changes)) (slice_get changes at) ≡ changed_all s (take (at + 1) changes)
-made_next s changes at within = made_by s changes at (slice_get changes at) refl within
+pub step_next : {X : Type 0} (step : State → X → State) (s : State) (xs : List X) (at : ℕ) → at < length xs
+    → stepped step (fold step s (take at xs)) (slice_get xs at) ≡ fold step s (take (at + 1) xs)
+step_next step s xs at within = stepped_by step s xs at (slice_get xs at) refl within
 
 -- what holds at any rate holds at an error
 pub at_err : {T E : Type 0} (result : Result T E) (Q : Type 0) → Q → OnErr result Q

@@ -3,6 +3,7 @@ pub mod Beginning
 pub mod Blocks
 pub mod Bodies
 pub mod BodyChanges
+pub mod BootLines
 pub mod Follows
 pub mod Index
 pub mod Making

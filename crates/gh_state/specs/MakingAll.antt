@@ -5,7 +5,7 @@ use Rattle.std.specs.Prelude.{take, slice_get, Option, Some, None, All, IsSomeAn
 use Rattle.gh_invariant.specs.Effects.{gained, times}
 use Rattle.gh_invariant.specs.Premises.{MayChangeAll}
 use Rattle.gh_invariant.specs.Valid.{IsValidWithin}
-use Rattle.gh_model.specs.Changes.{changed, changed_all}
+use Rattle.gh_model.specs.Changes.{changed_all}
 use Rattle.gh_model.specs.References.{references}
 use Rattle.gh_model.specs.Room.{new_rings, new_serials}
 use Rattle.gh_model.specs.declared.change.Change.{Change}
@@ -60,10 +60,10 @@ pub record CanMakeAll (parts : Parts) (s : State) (changes : List Change) : Type
   pub room : HasRoomFor s changes
   pub fit : All FitsParts changes
 
--- the state with a change made, if there is one
-abbrev pub changed_by : State → Option Change → State
-changed_by s None = s
-changed_by s (Some change) = changed s change
+-- the state behind one step more, if there is one
+abbrev pub stepped : {X : Type 0} → (State → X → State) → State → Option X → State
+stepped step s None = s
+stepped step s (Some one) = step s one
 
 -- the changes before one that wants memory are made, and no other
 pub record MadeBefore (parts : Parts) (s : State) (changes : List Change) : Type 0 where

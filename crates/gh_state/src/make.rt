@@ -3,7 +3,7 @@
 ghost use Rattle.std.specs.Prelude.{◌≡◌, false, true, IfSome, IsSomeAnd, OnErr, OnOk, slice_get};
 ghost use Rattle.gh_model.specs.Changes.{changed, changed_all};
 ghost use Rattle.gh_model.specs.declared.state.State.{State};
-ghost use Rattle.gh_state.specs.MakingAll.{CanMakeAll, IsMakeable, MadeBefore, changed_by};
+ghost use Rattle.gh_state.specs.MakingAll.{CanMakeAll, IsMakeable, MadeBefore, stepped};
 ghost use Rattle.gh_state.specs.MakingAll.{wants_memory};
 ghost use Rattle.gh_state.specs.Stands.{Stands};
 
@@ -81,7 +81,7 @@ impl Parts {
         ghost s: { State }
         requires stands { Stands self.old s }
         requires makeable { IfSome (slice_get changes.now at) (IsMakeable self.old s) }
-        ensures ok { OnOk result (Stands self.new (changed_by s (slice_get changes.now at))) }
+        ensures ok { OnOk result (Stands self.new (stepped changed s (slice_get changes.now at))) }
         ensures err { OnErr result (self.new ≡ self.old) }
         ensures memory { OnErr result
             (IsSomeAnd (slice_get changes.now at) (λ change. wants_memory change ≡ true)) }

@@ -1,11 +1,11 @@
 -- The next change is made in the state that those before it made.
 use Rattle.std.proofs.Common.{◌≡◌, subst, sym, take}
-use Rattle.gh_model.specs.Changes.{changed_all}
+use Rattle.gh_model.specs.Changes.{changed, changed_all}
 use Rattle.gh_model.specs.declared.state.State.{State}
 use Rattle.gh_state.specs.MakingAll.{MadeBefore}
 use Rattle.gh_state.specs.Stands.{Stands}
 use Rattle.gh_state.specs.declared.parts.Parts.{Parts}
-use Rattle.gh_state.proofs.MakingLemmas.{at_err, made_next, makeable_at}
+use Rattle.gh_state.proofs.MakingLemmas.{at_err, makeable_at, step_next}
 use Rattle.gh_state.proofs.parts.Parts.make_each.Goals as goal
 
 pub loop-at-init : goal.loop-at-init
@@ -19,7 +19,7 @@ make_at-requires g c = (
 
 pub loop-at-preserved : goal.loop-at-preserved
 loop-at-preserved g c =
-    subst (Stands c.make_at.new.self) (made_next g.s c.args.changes.now c.loop-at.at c.loop-at-test.true)
+    subst (Stands c.make_at.new.self) (step_next changed g.s c.args.changes.now c.loop-at.at c.loop-at-test.true)
     c.in_ok-make_at.ensures.ok
 
 pub returns-in_err-make_at-clause-err : goal.returns-in_err-make_at-clause-err
