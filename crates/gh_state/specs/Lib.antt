@@ -15,6 +15,7 @@ pub mod ObjectChanges
 pub mod ObjectReads
 pub mod Owing
 pub mod PageMoves
+pub mod Past
 pub mod QueueReads
 pub mod Reading
 pub mod Reclaims
