@@ -79,5 +79,6 @@ mod StandsRetired
 mod StandsRun
 mod StandsSlots
 mod StandsSpan
+mod UnitsTold
 mod WordLemmas
 mod ZeroReferences

@@ -1,5 +1,5 @@
--- When a line of a boot file can be made of the parts: it comes next behind the lines that they stand
--- for.
+-- When a line of a boot file can be made of the parts: it comes next behind the lines that they
+-- stand for.
 use Rattle.std.specs.Prelude.{◌+◌, ◌≤◌, ⊤, List, [], ◌∷◌, length, IsTrue}
 use Rattle.gh_base.specs.declared.limits.TheConstants.{MACHINE_PAGES}
 use Rattle.gh_invariant.specs.BootChanges.{changes_of_lines}
@@ -37,8 +37,8 @@ pub record CanAddAll (parts : Parts) (s : State) (lines : List BootLine) : Type 
   pub next : ComeNext s lines
   pub can : CanMakeAll parts s (changes_of_lines s lines)
 
--- the extent of a line lies in the machine, which has few pages, and the pages that its parent hands
--- over lie in its span
+-- the extent of a line lies in the machine, which has few pages, and the pages that its parent
+-- hands over lie in its span
 pub record IsChild (s : State) (new : Child) : Type 0 where
   pub pages : length s.holders ≤ MACHINE_PAGES
   pub span : first_page s new.parent.0 + new.offset + new.count ≤ length s.holders

@@ -10,8 +10,8 @@ use Rattle.gh_model.specs.declared.state.State.{State}
 use Rattle.gh_state.specs.Stands.{Stands}
 use Rattle.gh_state.specs.declared.parts.Parts.{Parts}
 
--- entries, serials and rings are numbers of 32 bits, with one more, and the references of what lives
--- are numbers of 63
+-- entries, serials and rings are numbers of 32 bits, with one more, and the references of what
+-- lives are numbers of 63
 pub record HasRoom (s : State) : Type 0 where
   pub entries : s.entries < 2 ^ 32 - 1
   pub serials : s.next_serial < 2 ^ 32 - 1

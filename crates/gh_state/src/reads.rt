@@ -6,6 +6,7 @@ ghost use Rattle.gh_invariant.specs.Valid.{IsValidWithin};
 ghost use Rattle.gh_model.specs.Boot.{kind_count};
 ghost use Rattle.gh_model.specs.ManagerCalls.{is_link_for, is_linked};
 ghost use Rattle.gh_model.specs.QueueCalls.{is_request_queue, is_requests};
+ghost use Rattle.gh_model.specs.Reads.{partition_units};
 ghost use Rattle.gh_model.specs.References.{is_doomed};
 ghost use Rattle.gh_model.specs.Rows.{cpu_row as cpu_row_of, is_bell, is_partition};
 ghost use Rattle.gh_model.specs.Rows.{object_row as object_row_of};
@@ -21,7 +22,7 @@ use crate::body::Body;
 use crate::cpus::cpu_row;
 use crate::journal::Memory;
 use crate::parts::Parts;
-use crate::units::{free_in, partition_row};
+use crate::units::{free_in, partition_row, units_in};
 use gh_base::{CpuNo, Kind, OBJECT_INDICES, ObjIndex, Serial};
 use gh_model::{BellRow, CpuRow, LinkRow, ObjectRow, PartitionRow};
 use gh_objects::Count;
@@ -134,6 +135,14 @@ impl Parts {
         ensures { (s : State) → Stands self.now s → result ≡ free_units_of s partition.0 }
     {
         free_in(self.journal.accounts.as_slice(), partition)
+    }
+
+    /// The used, free and given units of a live partition.
+    pub fn units(&self, partition: Serial) -> Option<(u16, u16, u16)>
+        ensures { (s : State) → Stands self.now s → IsValidWithin s
+            → result ≡ partition_units s partition.0 }
+    {
+        units_in(self.journal.accounts.as_slice(), partition)
     }
 
     /// The row of a partition.

@@ -1,8 +1,7 @@
 //! What the state tells of its rows. No read but that of a message takes memory.
 
-ghost use Rattle.std.specs.Prelude.{◌≡◌, Some};
+ghost use Rattle.std.specs.Prelude.{◌≡◌};
 ghost use Rattle.gh_base.specs.declared.kind.Kind.TheVariants as kinds;
-ghost use Rattle.gh_model.specs.Access.{access_at};
 ghost use Rattle.gh_model.specs.Boot.{is_kind, is_of_kind};
 ghost use Rattle.gh_model.specs.Reads.{last_serial, partition_units};
 ghost use Rattle.gh_state.specs.Past.{rows_of};
@@ -124,5 +123,38 @@ impl StateReads for State {
 
     fn rings(&self) -> u32 {
         self.parts().rings()
+    }
+}
+
+/// Whether a row is that of an object of a kind.
+fn is_of_kind(row: Option<ObjectRow>, kind: Kind) -> bool
+    ensures { result ≡ is_of_kind kind row }
+{
+    match row {
+        None => false,
+        Some(row) => row.kind == kind,
+    }
+}
+
+impl State {
+    /// The greatest serial given so far.
+    pub fn last_serial(&self) -> Serial
+        ensures { result.0 ≡ last_serial (rows_of self.now) }
+    {
+        Serial(self.parts().next_serial().0.saturating_sub(1))
+    }
+
+    /// The used, free and given units of a live partition; none for any other serial.
+    pub fn units(&self, serial: Serial) -> Option<(u16, u16, u16)>
+        ensures { result ≡ partition_units (rows_of self.now) serial.0 }
+    {
+        self.parts().units(serial)
+    }
+
+    /// Whether this is a live address space, by a binary search.
+    pub fn is_space(&self, serial: Serial) -> bool
+        ensures { result ≡ is_kind (rows_of self.now) serial.0 kinds.Space }
+    {
+        is_of_kind(self.object(serial), Kind::Space)
     }
 }
