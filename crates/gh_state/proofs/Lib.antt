@@ -54,6 +54,7 @@ mod SlotLemmas
 mod SlotNumbers
 mod SlotReadLemmas
 mod SpaceReadLemmas
+mod StageLemmas
 mod StandsAdded
 mod StandsAttached
 mod StandsBeginning

@@ -1,17 +1,22 @@
 -- When changes can be made of the parts in their order, which of them want memory, and what is made
 -- where memory is wanting.
-use Rattle.std.specs.Prelude.{◌≡◌, ◌+◌, ◌<◌, ◌-◌, ◌^◌, ⊤, ℕ, Bool, true, false, List, sum_by}
-use Rattle.std.specs.Prelude.{take, slice_get, Option, Some, None, All, IsSomeAnd}
+use Rattle.std.specs.Prelude.{◌≡◌, ◌+◌, ◌<◌, ◌-◌, ◌^◌, ◌∷◌, not, ⊤, ℕ, Bool, true, false, List, []}
+use Rattle.std.specs.Prelude.{sum_by, take, slice_get, Option, Some, None, All, IsSomeAnd}
+use Rattle.std.specs.List.{list_any}
+use Rattle.std.specs.Option.{option_map}
+use Rattle.gh_base.specs.declared.kind.Stage.{Stage}
 use Rattle.gh_invariant.specs.Effects.{gained, times}
 use Rattle.gh_invariant.specs.Premises.{MayChangeAll}
 use Rattle.gh_invariant.specs.Valid.{IsValidWithin}
-use Rattle.gh_model.specs.Changes.{changed_all}
+use Rattle.gh_model.specs.Changes.{changed_all, set_stage}
 use Rattle.gh_model.specs.References.{references}
+use Rattle.gh_model.specs.Rows.{object_row}
 use Rattle.gh_model.specs.Room.{new_rings, new_serials}
 use Rattle.gh_model.specs.declared.change.Change.{Change}
 use Rattle.gh_model.specs.declared.change.Change.TheVariants.{AddCpu, AddExtent, AddLink, AddObject}
 use Rattle.gh_model.specs.declared.change.Change.TheVariants.{AddPartition, AddRoot, ConfigureQueue}
-use Rattle.gh_model.specs.declared.change.Change.TheVariants.{PutMapping, SetRoom}
+use Rattle.gh_model.specs.declared.change.Change.TheVariants.{PutMapping, SetRoom, SetStage}
+use Rattle.gh_model.specs.declared.rows.ObjectRow.{ObjectRow}
 use Rattle.gh_model.specs.declared.state.State.{State}
 use Rattle.gh_msgqueue.specs.Queue.{IsConfigurable}
 use Rattle.gh_state.specs.Making.{CanMake}
@@ -70,3 +75,28 @@ pub record MadeBefore (parts : Parts) (s : State) (changes : List Change) : Type
   pub made : ℕ
   pub next : IsSomeAnd (slice_get changes made) (λ change. wants_memory change ≡ true)
   pub stands : Stands parts (changed_all s (take made changes))
+
+-- the rows behind a change of stage that comes first, if one does
+abbrev pub staged : State → List Change → State
+staged s (SetStage object stage ∷ changes) = set_stage object stage s
+staged s changes = s
+
+-- the stage that its object has before it
+abbrev pub stage_before : State → List Change → Option Stage
+stage_before s (SetStage object stage ∷ changes) =
+    option_map (λ (row : ObjectRow). row.stage) (object_row s object.0)
+stage_before s changes = None
+
+-- its object comes back to a stage
+abbrev pub restored : State → List Change → Option Stage → State
+restored s (SetStage object stage ∷ changes) (Some before) = set_stage object before s
+restored s changes before = s
+
+-- no change but the first wants memory, or but the one behind a change of stage that comes first
+abbrev pub wants_first : List Change → Bool
+wants_first [] = true
+wants_first (change ∷ changes) = not (list_any wants_memory changes)
+
+abbrev pub wants_once : List Change → Bool
+wants_once (SetStage object stage ∷ changes) = wants_first changes
+wants_once changes = wants_first changes

@@ -1,14 +1,16 @@
 //! Changes of the state, made on the parts in order.
 
 ghost use Rattle.std.specs.Prelude.{◌≡◌, false, true, IfSome, IsSomeAnd, OnErr, OnOk, slice_get};
+ghost use Rattle.gh_invariant.specs.Valid.{IsValidWithin};
 ghost use Rattle.gh_model.specs.Changes.{changed, changed_all};
 ghost use Rattle.gh_model.specs.declared.state.State.{State};
 ghost use Rattle.gh_state.specs.MakingAll.{CanMakeAll, IsMakeable, MadeBefore, stepped};
-ghost use Rattle.gh_state.specs.MakingAll.{wants_memory};
+ghost use Rattle.gh_state.specs.MakingAll.{restored, stage_before, wants_memory, wants_once};
+ghost use Rattle.gh_state.specs.Reading.{IsReadable};
 ghost use Rattle.gh_state.specs.Stands.{Stands};
 
 use crate::parts::Parts;
-use gh_base::NoMemory;
+use gh_base::{NoMemory, Stage};
 use gh_model::Change;
 use std::alloc::Global;
 
@@ -103,5 +105,48 @@ impl Parts {
             self.make_at(alloc, changes, at)?;
         }
         Ok(())
+    }
+
+    /// The stage that the object of a change of stage has now, if one comes first.
+    fn stage_before(&self, changes: &[Change]) -> Option<Stage>
+        requires { IsReadable self.now }
+        ensures { (s : State) → Stands self.now s → IsValidWithin s
+            → result ≡ stage_before s changes.now }
+    {
+        match changes.first() {
+            Some(Change::SetStage { object, .. }) => {
+                let row = self.object(*object)?;
+                Some(row.stage)
+            }
+            _ => None,
+        }
+    }
+
+    /// The object of a change of stage comes back to a stage, if one comes first.
+    fn restore(&mut self, changes: &[Change], stage: Option<Stage>)
+        ghost s: { State }
+        requires { Stands self.old s }
+        ensures { Stands self.new (restored s changes.now stage) }
+    {
+        if let (Some(Change::SetStage { object, .. }), Some(stage)) = (changes.first(), stage) {
+            self.set_stage(*object, stage);
+        }
+    }
+
+    /// Changes in order, of which only one wants memory: the first, or the one behind a change of
+    /// stage. Without it the parts stand for the rows as before.
+    pub fn make_all(&mut self, alloc: Global, changes: &[Change]) -> Result<(), NoMemory>
+        ghost s: { State }
+        requires can { CanMakeAll self.old s changes.now }
+        requires once { wants_once changes.now ≡ true }
+        ensures ok { OnOk result (Stands self.new (changed_all s changes.now)) }
+        ensures err { OnErr result (Stands self.new s) }
+    {
+        let before = self.stage_before(changes);
+        let made = self.make_each(alloc, changes);
+        if made.is_err() {
+            self.restore(changes, before);
+        }
+        made
     }
 }
