@@ -10,7 +10,6 @@ mod cpu_lines;
 mod cpus;
 mod creation;
 mod extent_lines;
-mod follow;
 mod journal;
 mod lines;
 mod links;
