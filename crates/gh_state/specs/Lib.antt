@@ -4,6 +4,7 @@ pub mod Blocks
 pub mod Bodies
 pub mod BodyChanges
 pub mod BootLines
+pub mod Entries
 pub mod Follows
 pub mod Index
 pub mod Making

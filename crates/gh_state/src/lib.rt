@@ -22,6 +22,7 @@ mod moves;
 mod object_lines;
 mod objects;
 mod parts;
+mod present;
 mod queue_reads;
 mod queues;
 mod reads;
@@ -36,7 +37,7 @@ mod units;
 
 pub use body::Body;
 pub use journal::{Account, Journal, Memory};
-pub use log::Logged;
+pub use log::{Log, Logged};
 pub use parts::Parts;
 pub use shares::{Place, Share, Shares};
 pub use slots::Slots;

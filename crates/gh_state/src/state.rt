@@ -1,15 +1,16 @@
 //! The locked state: a boot file and a log, and the parts that they make.
 
-ghost use Rattle.std.specs.Prelude.{◌≡◌, IfOk};
+ghost use Rattle.std.specs.Prelude.{◌≡◌, ◌≤◌, IfOk, OnErr, OnOk};
 ghost use Rattle.gh_invariant.specs.Valid.{IsValid, IsValidWithin};
 ghost use Rattle.gh_model.specs.Small.{IsKept};
 ghost use Rattle.gh_state.specs.Past.{begun, rows_of};
 ghost use Rattle.gh_state.specs.Reading.{IsReadable};
 ghost use Rattle.gh_state.specs.Stands.{Stands};
 
-use crate::log::Logged;
+use crate::log::Log;
 use crate::parts::Parts;
-use gh_base::{NoMemory, Sequence};
+use crate::present::Present;
+use gh_base::{ACT_ENTRIES, NoMemory};
 use gh_model::Boot;
 use std::alloc::Global;
 use std::marker::Model;
@@ -17,9 +18,7 @@ use std::marker::Model;
 /// The parts with the boot file and the log, which replays to what the parts stand for.
 #[derive(Drop)]
 pub struct State {
-    boot: Boot,
-    log: Sequence<Logged>,
-    parts: Parts,
+    present: Present,
 }
 
 impl Model for State {
@@ -27,9 +26,9 @@ impl Model for State {
 
     ghost Value = { Past };
 
-    ghost view = { λ s. past_of s.boot s.log };
+    ghost view = { λ s. past_of s.present.boot s.present.log };
 
-    ghost invariant = { λ s. IsPresent (past_of s.boot s.log) s.parts };
+    ghost invariant = { λ s. IsPresent (past_of s.present.boot s.present.log) s.present.parts };
 }
 
 /// A copy of a boot file.
@@ -48,11 +47,19 @@ impl State {
         let _lines = boot.lines();
         let parts = Parts::from_boot(alloc, boot)?;
         let boot = copy_of_boot(alloc, boot)?;
+        let log = Log::new(alloc);
         Ok(State {
-            boot,
-            log: Sequence::new(alloc),
-            parts,
+            present: Present { boot, log, parts },
         })
+    }
+
+    /// Makes the log's room for the longest act.
+    pub fn reserve(&mut self) -> Result<(), NoMemory>
+        ensures past { self.new ≡ record self.old { room = self.new.room } }
+        ensures room { OnOk result (ACT_ENTRIES ≤ self.new.room) }
+        ensures err { OnErr result (self.new ≡ self.old) }
+    {
+        self.present.log.reserve(ACT_ENTRIES)
     }
 
     /// The parts.
@@ -63,6 +70,6 @@ impl State {
         ensures within { IsValidWithin (rows_of self.now) }
         ensures kept { IsKept (rows_of self.now) }
     {
-        &self.parts
+        &self.present.parts
     }
 }

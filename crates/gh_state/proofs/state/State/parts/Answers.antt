@@ -8,4 +8,4 @@ use Rattle.gh_state.proofs.state.State.parts.Goals as goal
 pub returns-clause-within : goal.returns-clause-within
 returns-clause-within c =
     subst (λ (past : Past). IsValidWithin (rows_of past)) c.self.view_is
-    (begins (rows_of (past_of c.self.inside.boot c.self.inside.log)) c.self.invariant.valid)
+    (begins (rows_of (past_of c.self.inside.present.boot c.self.inside.present.log)) c.self.invariant.valid)
