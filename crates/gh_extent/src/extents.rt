@@ -236,6 +236,13 @@ impl Extents {
         Some((first, count))
     }
 
+    /// The pages of the machine.
+    pub fn pages(&self) -> u16
+        ensures { result ≡ length self.now.holders }
+    {
+        self.holders.pages()
+    }
+
     /// The holder of a page of the machine. It finds the page's run by a binary search.
     pub fn holder(&self, page: PageNo) -> Serial
         requires { page.0 < length self.now.holders }

@@ -7,7 +7,6 @@ use Rattle.std.proofs.lemmas.List.Elements.{All-cons, All-nil}
 use Rattle.gh_addrspace.specs.Space.{Shows, Space as Mapped}
 use Rattle.gh_addrspace.specs.declared.mapping.Mapping.{Mapping}
 use Rattle.gh_base.specs.declared.ids.Serial.{Serial}
-use Rattle.gh_base.specs.declared.limits.TheConstants.{OBJECT_INDICES}
 use Rattle.gh_invariant.proofs.Counting.{none_fail}
 use Rattle.gh_model.specs.Boot.{is_row_of, move_pages}
 use Rattle.gh_model.specs.Memory.{HoldsRun}
@@ -17,15 +16,15 @@ use Rattle.gh_model.specs.declared.rows.MappingRow.{MappingRow}
 use Rattle.gh_state.specs.Bodies.{mapping_row, mappings_in, space_in}
 use Rattle.gh_state.specs.Follows.{SharesFollow, ShowsOn}
 use Rattle.gh_state.specs.MappingChanges.{Remaps}
-use Rattle.gh_state.specs.Shares.{AreShares, body_at, place_at, with_body}
+use Rattle.gh_state.specs.PageMoves.{Follows, SharesChange}
+use Rattle.gh_state.specs.Shares.{AreShares, body_at}
 use Rattle.gh_state.specs.declared.body.Body.{Body}
 use Rattle.gh_state.specs.declared.body.Body.TheVariants.{Bell, Extent, NewQueue, Nothing, Queue, Space}
 use Rattle.gh_state.specs.declared.shares.Place.{Place}
-use Rattle.gh_state.proofs.BodyLemmas.{body_none}
 use Rattle.gh_state.proofs.FoundRows.{not_true}
 use Rattle.gh_state.proofs.MappingLemmas.{filter_here, filter_later}
 use Rattle.gh_state.proofs.Options.{some_same}
-use Rattle.gh_state.proofs.SharesLemmas.{body_here, body_other, body_twice, cost_same, shares_whole}
+use Rattle.gh_state.proofs.SharesChanged.{place_changed, shares_changed}
 
 -- the address space that a body had before
 pub record SpaceBefore (change : Mapped → Mapped → Type 0) (old : Body) (new : Mapped) : Type 0 where
@@ -109,89 +108,35 @@ mappings_apart object x rows space none are =
     (subst (λ (list : List MappingRow). IsTrue (list_all (λ (row : MappingRow). not (is_mapping_of object row)) list)) are
     (all_chosen (λ (row : MappingRow). not (is_mapping_of object row)) (is_row_of x) rows (none_fail (is_mapping_of object) rows none)))
 
--- the shares whose first places have followed
+-- all address spaces follow a run that moves, whatever else the holders are
 
-pub record FirstFollow (n : ℕ) (before after : List Serial) (old new : List (List Place)) : Type 0 where
-  pub done : (index : ℕ) → index < n → Remaps (ShowsOn before after) (body_at old index) (body_at new index)
-  pub left : (index : ℕ) → n ≤ index → body_at new index ≡ body_at old index
-  pub costs : (index : ℕ) → (place_at new index).cost ≡ (place_at old index).cost
+module _ (change other : Mapped → Mapped → Type 0) (weaker : (a b : Mapped) → change a b → other a b) where
+  remapped : (old new : Body) → Remaps change old new → Remaps other old new
+  remapped (Space a) (Space b) so = weaker a b so
+  remapped (Space a) Nothing so = absurd so
+  remapped (Space a) (Bell words) so = absurd so
+  remapped (Space a) NewQueue so = absurd so
+  remapped (Space a) (Queue queue) so = absurd so
+  remapped (Space a) (Extent span) so = absurd so
+  remapped Nothing new so = so
+  remapped (Bell words) new so = so
+  remapped NewQueue new so = so
+  remapped (Queue queue) new so = so
+  remapped (Extent span) new so = so
 
-pub none_follow : (before after : List Serial) (shares : List (List Place))
-    → FirstFollow 0 before after shares shares
-none_follow before after shares = record {
-  done = λ index below. absurd (omega arith);
-  left = λ index past. refl;
-  costs = λ index. refl;
-}
-
-module _ (n : ℕ) (before after : List Serial) (old new : List (List Place)) (whole : AreShares new)
-    (below : n < OBJECT_INDICES) (first : FirstFollow n before after old new) (body : Body)
-    (so : Remaps (ShowsOn before after) (body_at new n) body) where
-  abbrev next : List (List Place)
-  next = with_body new n body
-
-  done_here : Remaps (ShowsOn before after) (body_at old n) (body_at next n)
-  done_here =
-      subst (λ (one : Body). Remaps (ShowsOn before after) (body_at old n) one) (sym (body_here new n body whole below))
-      (subst (λ (one : Body). Remaps (ShowsOn before after) one body) (first.left n (omega arith)) so)
-
-  done_before : (index : ℕ) → index ≢ n → index < n + 1
-      → Remaps (ShowsOn before after) (body_at old index) (body_at next index)
-  done_before index apart within =
-      subst (λ (one : Body). Remaps (ShowsOn before after) (body_at old index) one) (sym (body_other new n body index apart))
-      (first.done index (omega arith))
-
-  pub next_follows : FirstFollow (n + 1) before after old next
-  next_follows = record {
-    done = λ index within.
-        elim (cases_eq index n) [
-          | inl same ↦
-              subst (λ (i : ℕ). Remaps (ShowsOn before after) (body_at old i) (body_at next i)) (sym same) done_here
-          | inr apart ↦ done_before index apart within
-        ];
-    left = λ index past.
-        body_other new n body index (λ same. omega arith) ∙ first.left index (omega arith);
-    costs = λ index. cost_same new n body index ∙ first.costs index;
-  }
-
--- once all places have followed, the shares have
-pub all_follow : (before after : List Serial) (old new : List (List Place)) → AreShares old → AreShares new
-    → FirstFollow OBJECT_INDICES before after old new → SharesFollow before after old new
-all_follow before after old new whole also first = record {
-  whole = also;
+pub run_followed : (from : ℕ) (to : Serial) (first count : ℕ) (old new : List (List Place)) → AreShares old
+    → SharesChange (Follows from to first count) old new → (holders : List Serial) → HoldsRun holders from first count
+    → SharesFollow holders (move_pages first count to holders) old new
+run_followed from to first count old new whole changed holders holds = record {
+  whole = shares_changed (Follows from to first count) old new changed whole;
   bodies = λ index.
-      elim (cases_lt index OBJECT_INDICES) [
-        | inl below ↦ first.done index below
-        | inr past ↦
-            subst (λ (one : Body). Remaps (ShowsOn before after) one (body_at new index)) (sym (body_none old index whole past))
-            (body_none new index also past)
-      ];
-  costs = first.costs;
+      remapped (Follows from to first count) (ShowsOn holders (move_pages first count to holders)) follows
+      (body_at old index) (body_at new index) (place_changed (Follows from to first count) old new changed index).body;
+  costs = λ index. (place_changed (Follows from to first count) old new changed index).cost;
 }
-
--- the same of a run that moves, whatever else the holders are
-pub record RunFollows (n from first count : ℕ) (to : Serial) (old new : List (List Place)) : Type 0 where
-  pub whole : AreShares new
-  pub follows : (holders : List Serial) → HoldsRun holders from first count
-      → FirstFollow n holders (move_pages first count to holders) old new
-
-pub run_next : (n from first count : ℕ) (to : Serial) (old now taken next : List (List Place)) (was body : Body)
-    → n < OBJECT_INDICES → RunFollows n from first count to old now → was ≡ body_at now n
-    → taken ≡ with_body now n Nothing → next ≡ with_body taken n body
-    → ((holders : List Serial) → HoldsRun holders from first count
-    → Remaps (ShowsOn holders (move_pages first count to holders)) was body)
-    → RunFollows (n + 1) from first count to old next
-run_next n from first count to old now taken next was body below run before without put so =
-    let is : with_body now n body ≡ next =
-    sym (put ∙ ap (λ (shares : List (List Place)). with_body shares n body) without ∙ body_twice now n Nothing body) in
-    subst (RunFollows (n + 1) from first count to old) is
-    (record {
-      whole = shares_whole now n body run.whole;
-      follows = λ holders holds.
-          next_follows n holders (move_pages first count to holders) old now run.whole below
-          (run.follows holders holds) body
-          (subst (λ (one : Body). Remaps (ShowsOn holders (move_pages first count to holders)) one body) before (so holders holds));
-    })
+  where
+    follows : (a b : Mapped) → Follows from to first count a b → ShowsOn holders (move_pages first count to holders) a b
+    follows a b so = record { rows = so.rows; shows = λ spans shown. so.shows spans holders shown holds }
 
 -- one after another
 

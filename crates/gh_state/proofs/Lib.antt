@@ -11,6 +11,7 @@ mod BlockRoom
 mod BodyChangeLemmas
 mod BodyLemmas
 mod BootIndex
+mod BootParts
 mod BootUnits
 mod CountedRows
 mod DoomedLemmas
@@ -26,6 +27,7 @@ mod KindCounts
 mod Leaving
 mod LeavingHome
 mod Living
+mod MakingLemmas
 mod MappingLemmas
 mod MoveLemmas
 mod Options
@@ -52,6 +54,7 @@ mod SlotLemmas
 mod SlotNumbers
 mod SlotReadLemmas
 mod SpaceReadLemmas
+mod StageLemmas
 mod StandsAdded
 mod StandsAttached
 mod StandsBeginning
@@ -77,5 +80,6 @@ mod StandsRetired
 mod StandsRun
 mod StandsSlots
 mod StandsSpan
+mod UnitsTold
 mod WordLemmas
 mod ZeroReferences

@@ -1,5 +1,5 @@
 -- The counts stand for the references once a reference more or less is counted.
-use Rattle.std.proofs.Common.{◌≡◌, ◌≢◌, ◌≤◌, ◌+◌, ◌∙◌, ◌∷◌, ◌==◌, ℕ, List, Option, Some, None, refl, sym, ap, subst, arith, inl}
+use Rattle.std.proofs.Common.{◌≡◌, ◌≢◌, ◌≤◌, ◌+◌, ◌∙◌, ◌∷◌, ◌==◌, ℕ, true, List, Option, Some, None, refl, sym, ap, subst, arith, inl}
 use Rattle.std.proofs.Common.{inr, find, is_some, length, slice_set}
 use Rattle.std.specs.Prelude.{IfSome}
 use Rattle.std.specs.Option.{option_map}
@@ -8,6 +8,7 @@ use Rattle.std.proofs.lemmas.List.{get_or-set_other, get_or_past, set-get_or}
 use Rattle.gh_base.specs.declared.ids.Serial.{Serial}
 use Rattle.gh_invariant.proofs.Counting.{count_cons, found_passes, one_false, one_true}
 use Rattle.gh_invariant.specs.Effects.{is_that, times}
+use Rattle.gh_invariant.specs.Lives.{lives}
 use Rattle.gh_model.specs.QueueCalls.{one_if}
 use Rattle.gh_model.specs.References.{references}
 use Rattle.gh_model.specs.Rows.{is_object}
@@ -148,18 +149,19 @@ settle_recounts s object owed = record {
 
 countable_by : (s : State) (owed : List Serial) (object : ℕ) (found : Option ObjectRow)
     → find (is_object object) s.objects ≡ found → (P : ℕ → Type 0)
-    → P (references s object + times object owed)
+    → (lives s.objects object ≡ true → P (references s object + times object owed))
     → IfSome (option_map (count_of s owed) found) (λ (count : Count). P count.references)
 countable_by s owed object None is P holds = tt
 countable_by s owed object (Some row) is P holds =
     subst (λ (n : ℕ). P (references s n + times n owed))
-    (sym (eqb-true row.serial.0 object (found_passes (is_object object) s.objects row is))) holds
+    (sym (eqb-true row.serial.0 object (found_passes (is_object object) s.objects row is)))
+    (holds (ap is_some is))
 
--- what holds of an object's references and of those that are owed holds of its count
+-- what holds of the references of an object that lives and of those that are owed holds of its count
 pub countable : (headers : List (Option Header)) (counts : List (Option Count)) (owed : List Serial)
     (s : State) (object index : ℕ) → index_of headers object ≡ index
     → ReferencesStand headers counts owed s → (P : ℕ → Type 0)
-    → P (references s object + times object owed)
+    → (lives s.objects object ≡ true → P (references s object + times object owed))
     → IfSome (count_at counts index) (λ (count : Count). P count.references)
 countable headers counts owed s object index at stand P holds =
     subst (λ (count : Option Count). IfSome count (λ (one : Count). P one.references))

@@ -6,6 +6,7 @@ use Rattle.std.proofs.lemmas.List.{get_or_past}
 use Rattle.gh_base.specs.declared.ids.ObjIndex.{ObjIndex}
 use Rattle.gh_base.specs.declared.ids.Serial.{Serial}
 use Rattle.gh_invariant.specs.Effects.{is_that, times}
+use Rattle.gh_invariant.specs.Lives.{lives}
 use Rattle.gh_invariant.proofs.Counting.{count_cons}
 use Rattle.gh_model.specs.QueueCalls.{one_if}
 use Rattle.gh_model.specs.References.{references}
@@ -82,9 +83,11 @@ module _ (parts : Parts) (s : State) (object : Serial) (before after : List Seri
     };
   }
 
--- what holds of the object's references and of those that are owed holds of its count
+-- what holds of the references of an object that lives and of those that are owed holds of its count
 pub has_count : (parts : Parts) (s : State) (owed : List Serial) (object : ℕ) (P : ℕ → Type 0)
-    → StandsOwing owed parts s → P (references s object + times object owed) → HasCount parts object P
+    → StandsOwing owed parts s
+    → (lives s.objects object ≡ true → P (references s object + times object owed))
+    → HasCount parts object P
 has_count parts s owed object P stand holds = record {
   indexed = stand.objects.indexed;
   bare = stand.references.bare;
@@ -113,7 +116,7 @@ settled_next parts now s owed object stand is =
 pub owed_has : (parts : Parts) (s : State) (owed : List Serial) (object : Serial)
     → StandsOwing (object ∷ owed) parts s → HasCount parts object.0 (λ (n : ℕ). 1 ≤ n)
 owed_has parts s owed object stand =
-    has_count parts s (object ∷ owed) object.0 (λ (n : ℕ). 1 ≤ n) stand (owed_some s object owed)
+    has_count parts s (object ∷ owed) object.0 (λ (n : ℕ). 1 ≤ n) stand (λ alive. owed_some s object owed)
 
 times_most : (n : ℕ) (owed : List Serial) → times n owed ≤ length owed
 times_most n [] = let none : times n [] ≡ 0 = refl in omega arith
@@ -131,4 +134,4 @@ pub may_owe : (parts : Parts) (s : State) (owed : List Serial) (object : ℕ)
     → HasCount parts object (λ (n : ℕ). n < 2 ^ 64 - 1)
 may_owe parts s owed object stand room few =
     has_count parts s owed object (λ (n : ℕ). n < 2 ^ 64 - 1) stand
-    (omega (arith, times_most object owed, room.references object))
+    (λ alive. omega (arith, times_most object owed, room.references object alive))

@@ -60,6 +60,13 @@ costing_more object cost parts =
 abbrev pub free_of : Option Account → ℕ
 free_of account = option_map_or (λ (a : Account). free_units a.units) account 0
 
+-- the used, free and given units in an account, if there is one
+abbrev pub units_told : Account → ℕ × ℕ × ℕ
+units_told account = (account.units.used, free_units account.units, account.units.given)
+
+abbrev pub units_in : Option Account → Option (ℕ × ℕ × ℕ)
+units_in account = option_map units_told account
+
 -- the row of a partition, as its account has it
 abbrev pub partition_of : Account → PartitionRow
 partition_of account =

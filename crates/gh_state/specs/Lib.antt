@@ -3,9 +3,12 @@ pub mod Beginning
 pub mod Blocks
 pub mod Bodies
 pub mod BodyChanges
+pub mod BootLines
+pub mod Entries
 pub mod Follows
 pub mod Index
 pub mod Making
+pub mod MakingAll
 pub mod MappingChanges
 pub mod MemoryChanges
 pub mod NumberChanges
@@ -13,7 +16,9 @@ pub mod ObjectChanges
 pub mod ObjectReads
 pub mod Owing
 pub mod PageMoves
+pub mod Past
 pub mod QueueReads
+pub mod Reading
 pub mod Reclaims
 pub mod Shares
 pub mod SlotChanges

@@ -9,6 +9,7 @@ ghost use Rattle.gh_model.specs.Rows.{is_extent};
 ghost use Rattle.gh_model.specs.declared.state.State.{State};
 ghost use Rattle.gh_state.specs.SpaceReads.{access_in, overlaps_in, row_in, row_with, rows_in};
 ghost use Rattle.gh_state.specs.SpaceReads.{run_row};
+ghost use Rattle.gh_state.specs.Reading.{IsReadable};
 ghost use Rattle.gh_state.specs.Stands.{Stands, extent_rows, page_holders};
 
 use crate::body::Body;
@@ -137,9 +138,7 @@ fn access_in(body: &Body, page: u16) -> Option<(PageNo, Access)>
 impl Parts {
     /// The row of an extent. It looks at one extent after another.
     pub fn extent(&self, extent: Serial) -> Option<ExtentRow>
-        ghost s: { State }
-        requires { Stands self.now s }
-        ensures { result ≡ find (is_extent extent.0) s.extents }
+        ensures { (s : State) → Stands self.now s → result ≡ find (is_extent extent.0) s.extents }
     {
         extent_row(&self.journal.memory, extent)
     }
@@ -147,9 +146,8 @@ impl Parts {
     /// Whether the extent holds each page of a run of the machine's pages, by a binary search for
     /// the first.
     pub fn holds_run(&self, extent: Serial, first: u128, count: u128) -> bool
-        ghost s: { State }
-        requires { Stands self.now s }
-        ensures { result ≡ holds_run s.holders extent first count }
+        ensures { (s : State) → Stands self.now s
+            → result ≡ holds_run s.holders extent first count }
     {
         holds_run(&self.journal.memory, extent, first, count)
     }
@@ -157,9 +155,9 @@ impl Parts {
     /// Whether a mapping row of the address space has one of these pages. It looks at the space's
     /// rows.
     pub fn overlaps(&self, space: Serial, base: u64, count: u64) -> bool
-        ghost s: { State }
-        requires { Stands self.now s }
-        ensures { result ≡ list_any (overlaps space.0 base count) s.mappings }
+        requires { IsReadable self.now }
+        ensures { (s : State) → Stands self.now s
+            → result ≡ list_any (overlaps space.0 base count) s.mappings }
     {
         match self.index(space) {
             None => false,
@@ -169,9 +167,9 @@ impl Parts {
 
     /// How many mapping rows the address space has, by a binary search for it.
     pub fn mappings(&self, space: Serial) -> usize
-        ghost s: { State }
-        requires { Stands self.now s }
-        ensures { result ≡ count_by (is_row_of space.0) s.mappings }
+        requires { IsReadable self.now }
+        ensures { (s : State) → Stands self.now s
+            → result ≡ count_by (is_row_of space.0) s.mappings }
     {
         match self.index(space) {
             None => 0,
@@ -189,9 +187,9 @@ impl Parts {
         offset: u64,
         count: u64,
     ) -> Option<MappingRow>
-        ghost s: { State }
-        requires { Stands self.now s }
-        ensures { result ≡ mapping_row s space extent base offset count }
+        requires { IsReadable self.now }
+        ensures { (s : State) → Stands self.now s
+            → result ≡ mapping_row s space extent base offset count }
     {
         match self.index(space) {
             None => None,
@@ -202,9 +200,8 @@ impl Parts {
     /// The machine page and the access at a page of an address space, by a binary search for the
     /// space and a walk of its page table.
     pub fn access(&self, space: Serial, page: u16) -> Option<(PageNo, Access)>
-        ghost s: { State }
-        requires { Stands self.now s }
-        ensures { result ≡ access_at s space.0 page }
+        requires { IsReadable self.now }
+        ensures { (s : State) → Stands self.now s → result ≡ access_at s space.0 page }
     {
         match self.index(space) {
             None => None,

@@ -6,6 +6,7 @@ ghost use Rattle.gh_model.specs.QueueCalls.{first_message as first_message_of, q
 ghost use Rattle.gh_model.specs.Rows.{is_queue};
 ghost use Rattle.gh_model.specs.declared.state.State.{State};
 ghost use Rattle.gh_state.specs.QueueReads.{fill_in, first_in, has_some};
+ghost use Rattle.gh_state.specs.Reading.{IsReadable};
 ghost use Rattle.gh_state.specs.Stands.{Stands};
 
 use crate::body::Body;
@@ -77,9 +78,8 @@ fn link_of(links: &[LinkRow], vm: u8) -> Option<LinkRow>
 impl Parts {
     /// How full a queue is, by a binary search for it.
     pub fn queue(&self, queue: Serial) -> Option<QueueFill>
-        ghost s: { State }
-        requires { Stands self.now s }
-        ensures { result ≡ queue_fill s queue }
+        requires { IsReadable self.now }
+        ensures { (s : State) → Stands self.now s → result ≡ queue_fill s queue }
     {
         match self.index(queue) {
             None => None,
@@ -93,9 +93,9 @@ impl Parts {
         alloc: Global,
         queue: Serial,
     ) -> Result<Option<Sequence<u8>>, NoMemory>
-        ghost s: { State }
-        requires { Stands self.now s }
-        ensures { IfOk result (λ message. message ≡ first_message_of s queue) }
+        requires { IsReadable self.now }
+        ensures { (s : State) → Stands self.now s
+            → IfOk result (λ message. message ≡ first_message_of s queue) }
     {
         match self.index(queue) {
             None => Ok(None),
@@ -105,9 +105,9 @@ impl Parts {
 
     /// Whether a queue has a message.
     fn has_messages(&self, queue: Serial) -> bool
-        ghost s: { State }
-        requires { Stands self.now s }
-        ensures { result ≡ has_messages (find (is_queue queue.0) s.queues) }
+        requires { IsReadable self.now }
+        ensures { (s : State) → Stands self.now s
+            → result ≡ has_messages (find (is_queue queue.0) s.queues) }
     {
         match self.index(queue) {
             None => false,
@@ -117,9 +117,8 @@ impl Parts {
 
     /// Whether the VM is linked, and its request queue has messages.
     pub fn vm_requests(&self, vm: u8) -> bool
-        ghost s: { State }
-        requires { Stands self.now s }
-        ensures { result ≡ vm_requests s vm }
+        requires { IsReadable self.now }
+        ensures { (s : State) → Stands self.now s → result ≡ vm_requests s vm }
     {
         match link_of(self.journal.links.as_slice(), vm) {
             None => false,

@@ -6,6 +6,7 @@ ghost use Rattle.gh_invariant.specs.Valid.{IsValidWithin};
 ghost use Rattle.gh_model.specs.Boot.{kind_count};
 ghost use Rattle.gh_model.specs.ManagerCalls.{is_link_for, is_linked};
 ghost use Rattle.gh_model.specs.QueueCalls.{is_request_queue, is_requests};
+ghost use Rattle.gh_model.specs.Reads.{partition_units};
 ghost use Rattle.gh_model.specs.References.{is_doomed};
 ghost use Rattle.gh_model.specs.Rows.{cpu_row as cpu_row_of, is_bell, is_partition};
 ghost use Rattle.gh_model.specs.Rows.{object_row as object_row_of};
@@ -14,13 +15,14 @@ ghost use Rattle.gh_model.specs.declared.state.State.{State};
 ghost use Rattle.gh_objects.specs.Counts.{is_doomed as is_doomed_count};
 ghost use Rattle.gh_state.specs.Bodies.{bell_in};
 ghost use Rattle.gh_state.specs.ObjectReads.{is_childless, object_row_at};
+ghost use Rattle.gh_state.specs.Reading.{IsReadable};
 ghost use Rattle.gh_state.specs.Stands.{Stands};
 
 use crate::body::Body;
 use crate::cpus::cpu_row;
 use crate::journal::Memory;
 use crate::parts::Parts;
-use crate::units::{free_in, partition_row};
+use crate::units::{free_in, partition_row, units_in};
 use gh_base::{CpuNo, Kind, OBJECT_INDICES, ObjIndex, Serial};
 use gh_model::{BellRow, CpuRow, LinkRow, ObjectRow, PartitionRow};
 use gh_objects::Count;
@@ -100,10 +102,9 @@ impl Parts {
 
     /// The row of an object, by a binary search.
     pub fn object(&self, object: Serial) -> Option<ObjectRow>
-        ghost s: { State }
-        requires stands { Stands self.now s }
-        requires valid { IsValidWithin s }
-        ensures { result ≡ object_row_of s object.0 }
+        requires { IsReadable self.now }
+        ensures { (s : State) → Stands self.now s → IsValidWithin s
+            → result ≡ object_row_of s object.0 }
     {
         match self.index(object) {
             None => None,
@@ -113,9 +114,8 @@ impl Parts {
 
     /// The row of a doorbell, by a binary search.
     pub fn bell(&self, bell: Serial) -> Option<BellRow>
-        ghost s: { State }
-        requires { Stands self.now s }
-        ensures { result ≡ find (is_bell bell.0) s.bells }
+        requires { IsReadable self.now }
+        ensures { (s : State) → Stands self.now s → result ≡ find (is_bell bell.0) s.bells }
     {
         match self.index(bell) {
             None => None,
@@ -125,47 +125,46 @@ impl Parts {
 
     /// The row of a CPU.
     pub fn cpu(&self, cpu: CpuNo) -> Option<CpuRow>
-        ghost s: { State }
-        requires { Stands self.now s }
-        ensures { result ≡ cpu_row_of s cpu.0 }
+        ensures { (s : State) → Stands self.now s → result ≡ cpu_row_of s cpu.0 }
     {
         cpu_row(self.journal.cpus.as_slice(), cpu)
     }
 
     /// The units that a partition has left.
     pub fn free_units(&self, partition: Serial) -> u16
-        ghost s: { State }
-        requires { Stands self.now s }
-        ensures { result ≡ free_units_of s partition.0 }
+        ensures { (s : State) → Stands self.now s → result ≡ free_units_of s partition.0 }
     {
         free_in(self.journal.accounts.as_slice(), partition)
     }
 
+    /// The used, free and given units of a live partition.
+    pub fn units(&self, partition: Serial) -> Option<(u16, u16, u16)>
+        ensures { (s : State) → Stands self.now s → IsValidWithin s
+            → result ≡ partition_units s partition.0 }
+    {
+        units_in(self.journal.accounts.as_slice(), partition)
+    }
+
     /// The row of a partition.
     pub fn partition(&self, partition: Serial) -> Option<PartitionRow>
-        ghost s: { State }
-        requires { Stands self.now s }
-        ensures { result ≡ find (is_partition partition.0) s.partitions }
+        ensures { (s : State) → Stands self.now s
+            → result ≡ find (is_partition partition.0) s.partitions }
     {
         partition_row(self.journal.accounts.as_slice(), partition)
     }
 
     /// How many objects of a kind are there. It looks at no object.
     pub fn kind_count(&self, kind: Kind) -> usize
-        ghost s: { State }
-        requires stands { Stands self.now s }
-        requires valid { IsValidWithin s }
-        ensures { result ≡ kind_count s kind }
+        ensures { (s : State) → Stands self.now s → IsValidWithin s → result ≡ kind_count s kind }
     {
         self.table.kind_count(kind)
     }
 
     /// Whether nothing refers to the object, by a binary search for its count.
     pub fn doomed(&self, object: Serial) -> bool
-        ghost s: { State }
-        requires stands { Stands self.now s }
-        requires valid { IsValidWithin s }
-        ensures { result ≡ is_doomed s object.0 }
+        requires { IsReadable self.now }
+        ensures { (s : State) → Stands self.now s → IsValidWithin s
+            → result ≡ is_doomed s object.0 }
     {
         match self.index(object) {
             None => is_childless(&self.journal.memory, object),
@@ -175,45 +174,35 @@ impl Parts {
 
     /// The serial of the next object.
     pub fn next_serial(&self) -> Serial
-        ghost s: { State }
-        requires { Stands self.now s }
-        ensures { result.0 ≡ s.next_serial }
+        ensures { (s : State) → Stands self.now s → result.0 ≡ s.next_serial }
     {
         Serial(self.journal.next_serial)
     }
 
     /// How many slots the revokes took since the last entry of another kind.
     pub fn taken(&self) -> usize
-        ghost s: { State }
-        requires { Stands self.now s }
-        ensures { result ≡ length s.taken }
+        ensures { (s : State) → Stands self.now s → result ≡ length s.taken }
     {
         self.journal.taken.len()
     }
 
     /// How often the resource manager's bell has rung.
     pub fn rings(&self) -> u32
-        ghost s: { State }
-        requires { Stands self.now s }
-        ensures { result ≡ s.rings }
+        ensures { (s : State) → Stands self.now s → result ≡ s.rings }
     {
         self.journal.rings
     }
 
     /// Whether it is the request queue of a link.
     pub fn is_request_queue(&self, queue: Serial) -> bool
-        ghost s: { State }
-        requires { Stands self.now s }
-        ensures { result ≡ is_request_queue s queue }
+        ensures { (s : State) → Stands self.now s → result ≡ is_request_queue s queue }
     {
         requests(self.journal.links.as_slice(), queue)
     }
 
     /// Whether the VM is linked.
     pub fn is_linked(&self, vm: u64) -> bool
-        ghost s: { State }
-        requires { Stands self.now s }
-        ensures { result ≡ is_linked s vm }
+        ensures { (s : State) → Stands self.now s → result ≡ is_linked s vm }
     {
         links(self.journal.links.as_slice(), vm)
     }

@@ -51,7 +51,7 @@ fn return_runs(extents: &mut Extents, shares: &mut Shares, extent: Serial, paren
     ensures follow { SharesFollow extents.old.holders extents.new.holders shares.old shares.new }
 {
     while let Some((first, count)) = extents.give_back(extent) {
-        shares.follow(extent, parent, first, count);
+        shares.follow_run(extent, parent, first.0, count);
     }
 }
 

@@ -181,10 +181,7 @@ fn finished(all: &[Slots], taken: &[TakenSlot], object: Serial) -> bool
 impl Parts {
     /// What a slot holds. A number outside 1 to 127 is an empty slot that no entry set.
     pub fn word(&self, cspace: Serial, slot: u64) -> Word
-        ghost s: { State }
-        requires stands { Stands self.now s }
-        requires valid { IsValid s }
-        ensures { result ≡ word_at s cspace.0 slot }
+        ensures { (s : State) → Stands self.now s → IsValid s → result ≡ word_at s cspace.0 slot }
     {
         let _entries = self.journal.entries;
         held(self.journal.slots.as_slice(), cspace, slot)
@@ -192,10 +189,7 @@ impl Parts {
 
     /// The least free slot, by the bits of the capability space; none where all are filled.
     pub fn free_slot(&self, cspace: Serial) -> Option<u8>
-        ghost s: { State }
-        requires stands { Stands self.now s }
-        requires valid { IsValid s }
-        ensures { result ≡ free_slot_of s cspace.0 }
+        ensures { (s : State) → Stands self.now s → IsValid s → result ≡ free_slot_of s cspace.0 }
     {
         let _entries = self.journal.entries;
         least_free(self.journal.slots.as_slice(), cspace)
@@ -204,10 +198,7 @@ impl Parts {
     /// Whether a revoke of the object's capabilities has taken all of them, and nothing else. It
     /// looks at each slot of each capability space.
     pub fn finished(&self, object: Serial) -> bool
-        ghost s: { State }
-        requires stands { Stands self.now s }
-        requires valid { IsValid s }
-        ensures { result ≡ is_finished s object }
+        ensures { (s : State) → Stands self.now s → IsValid s → result ≡ is_finished s object }
     {
         let _entries = self.journal.entries;
         finished(

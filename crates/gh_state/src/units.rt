@@ -6,7 +6,8 @@ ghost use Rattle.gh_model.specs.Rows.{change_row};
 ghost use Rattle.gh_model.specs.declared.change.Change.TheVariants.{GiveQuota};
 ghost use Rattle.gh_model.specs.declared.state.State.{State};
 ghost use Rattle.gh_state.specs.Accounts.{costing, costing_more, free_of, giver_in, giving, quoted};
-ghost use Rattle.gh_state.specs.Accounts.{partition_in, partition_of, using, with_accounts};
+ghost use Rattle.gh_state.specs.Accounts.{partition_in, partition_of, units_in, using};
+ghost use Rattle.gh_state.specs.Accounts.{with_accounts};
 ghost use Rattle.gh_state.specs.Index.{AreIndexed};
 ghost use Rattle.gh_state.specs.Making.{CanMake};
 ghost use Rattle.gh_state.specs.Reclaims.{HasUnits, freed, freeing, quota_of};
@@ -118,6 +119,16 @@ pub(crate) fn free_in(accounts: &[Account], partition: Serial) -> u16
     match account_place(accounts, partition) {
         None => 0,
         Some(at) => accounts[at].units.free(),
+    }
+}
+
+/// The used, free and given units in a partition's account; none where it has none.
+pub(crate) fn units_in(accounts: &[Account], partition: Serial) -> Option<(u16, u16, u16)>
+    ensures { result ≡ units_in (find (is_account partition.0) accounts.now) }
+{
+    match account_place(accounts, partition) {
+        None => None,
+        Some(at) => Some(accounts[at].units.units()),
     }
 }
 

@@ -6,11 +6,11 @@ use Rattle.gh_state.proofs.DoomedLemmas.{doomed_found, doomed_unfound}
 use Rattle.gh_state.proofs.parts.Parts.doomed.Goals as goal
 
 pub returns-in-None : goal.returns-in-None
-returns-in-None g c =
-    c.is_childless.ensures ∙ doomed_unfound c.args.self.now g.s c.requires.0 c.requires.1 c.args.object.0 c.in-None.ensures.found
+returns-in-None c = λ s stands valid.
+    c.is_childless.ensures ∙ doomed_unfound c.args.self.now s stands valid c.args.object.0 c.in-None.ensures.found
 
 pub returns-in-Some : goal.returns-in-Some
-returns-in-Some g c =
+returns-in-Some c = λ s stands valid.
     c.is_doomed.ensures
     ∙ ap (λ (count : Option Count). is_doomed_count count) c.get.ensures.count
-    ∙ doomed_found c.args.self.now g.s c.requires.0 c.requires.1 c.args.object.0 c.in-Some.index c.in-Some.ensures.found
+    ∙ doomed_found c.args.self.now s stands valid c.args.object.0 c.in-Some.index c.in-Some.ensures.found

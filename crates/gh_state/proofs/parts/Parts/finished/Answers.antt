@@ -7,10 +7,10 @@ use Rattle.gh_state.proofs.SlotReadLemmas.{finished_told}
 use Rattle.gh_state.proofs.parts.Parts.finished.Goals as goal
 
 pub returns : goal.returns
-returns g c =
-    let small : g.s.entries < 4294967296 = omega (arith, c.requires.0.numbers.entries) in
+returns c = λ s stands valid.
+    let small : s.entries < 4294967296 = omega (arith, stands.numbers.entries) in
     c.finished.ensures
     ∙ ap (λ (all : List Slots). finished_in all c.as_slice-2.result.now c.args.object) c.as_slice.ensures
     ∙ ap (λ (taken : List TakenSlot). finished_in c.args.self.now.journal.slots taken c.args.object)
-    (c.as_slice-2.ensures ∙ c.requires.0.numbers.taken)
-    ∙ finished_told c.args.self.now g.s c.requires.0 c.requires.1 small c.args.object
+    (c.as_slice-2.ensures ∙ stands.numbers.taken)
+    ∙ finished_told c.args.self.now s stands valid small c.args.object

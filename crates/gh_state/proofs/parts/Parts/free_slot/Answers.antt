@@ -7,8 +7,8 @@ use Rattle.gh_state.proofs.SlotReadLemmas.{free_told}
 use Rattle.gh_state.proofs.parts.Parts.free_slot.Goals as goal
 
 pub returns : goal.returns
-returns g c =
-    let small : g.s.entries < 4294967296 = omega (arith, c.requires.0.numbers.entries) in
+returns c = λ s stands valid.
+    let small : s.entries < 4294967296 = omega (arith, stands.numbers.entries) in
     c.least_free.ensures
     ∙ ap (λ (all : List Slots). free_slot_in (find (is_home c.args.cspace.0) all)) c.as_slice.ensures
-    ∙ free_told c.args.self.now g.s c.requires.0 c.requires.1 small c.args.cspace.0
+    ∙ free_told c.args.self.now s stands valid small c.args.cspace.0

@@ -7,7 +7,7 @@ use Rattle.gh_state.proofs.ReadLemmas.{free_told}
 use Rattle.gh_state.proofs.parts.Parts.free_units.Goals as goal
 
 pub returns : goal.returns
-returns g c =
+returns c = λ s stands.
     c.free_in.ensures
     ∙ ap (λ (all : List Account). free_of (find (is_account c.args.partition.0) all)) c.as_slice.ensures
-    ∙ free_told c.args.self.now g.s c.requires c.args.partition.0
+    ∙ free_told c.args.self.now s stands c.args.partition.0

@@ -7,10 +7,10 @@ use Rattle.gh_state.proofs.ReadLemmas.{seen_told, seen_untold}
 use Rattle.gh_state.proofs.parts.Parts.has_messages.Goals as goal
 
 pub returns-in-None : goal.returns-in-None
-returns-in-None g c =
-    seen_untold c.args.self.now g.s c.requires (λ (body : Body). has_some body) _ c.args.queue.0 (some_told c.args.self.now g.s c.requires c.args.queue.0) c.in-None.ensures.found
+returns-in-None c = λ s stands.
+    seen_untold c.args.self.now s stands (λ (body : Body). has_some body) _ c.args.queue.0 (some_told c.args.self.now s stands c.args.queue.0) c.in-None.ensures.found
 
 pub returns-in-Some : goal.returns-in-Some
-returns-in-Some g c =
+returns-in-Some c = λ s stands.
     c.has_some.ensures ∙ ap (λ (body : Body). has_some body) c.body.ensures
-    ∙ seen_told c.args.self.now g.s c.requires (λ (body : Body). has_some body) _ c.args.queue.0 c.in-Some.index (some_told c.args.self.now g.s c.requires c.args.queue.0) c.in-Some.ensures.found
+    ∙ seen_told c.args.self.now s stands (λ (body : Body). has_some body) _ c.args.queue.0 c.in-Some.index (some_told c.args.self.now s stands c.args.queue.0) c.in-Some.ensures.found

@@ -4,4 +4,4 @@ use Rattle.gh_state.proofs.KindCounts.{kind_told}
 use Rattle.gh_state.proofs.parts.Parts.kind_count.Goals as goal
 
 pub returns : goal.returns
-returns g c = c.kind_count.ensures ∙ kind_told c.args.self.now g.s c.requires.0 c.requires.1 c.args.kind
+returns c = λ s stands valid. c.kind_count.ensures ∙ kind_told c.args.self.now s stands valid c.args.kind

@@ -4,10 +4,10 @@ use Rattle.gh_state.proofs.ReadLemmas.{object_found, object_unfound}
 use Rattle.gh_state.proofs.parts.Parts.object.Goals as goal
 
 pub returns-in-None : goal.returns-in-None
-returns-in-None g c =
-    object_unfound c.args.self.now g.s c.requires.0 c.requires.1 c.args.object.0 c.in-None.ensures.found
+returns-in-None c = λ s stands valid.
+    object_unfound c.args.self.now s stands valid c.args.object.0 c.in-None.ensures.found
 
 pub returns-in-Some : goal.returns-in-Some
-returns-in-Some g c =
+returns-in-Some c = λ s stands valid.
     c.object_at.ensures
-    ∙ object_found c.args.self.now g.s c.requires.0 c.requires.1 c.args.object.0 c.in-Some.index c.in-Some.ensures.found
+    ∙ object_found c.args.self.now s stands valid c.args.object.0 c.in-Some.index c.in-Some.ensures.found

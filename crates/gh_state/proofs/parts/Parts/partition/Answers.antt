@@ -7,7 +7,7 @@ use Rattle.gh_state.proofs.ReadLemmas.{partition_told}
 use Rattle.gh_state.proofs.parts.Parts.partition.Goals as goal
 
 pub returns : goal.returns
-returns g c =
+returns c = λ s stands.
     c.partition_row.ensures
     ∙ ap (λ (all : List Account). partition_in (find (is_account c.args.partition.0) all)) c.as_slice.ensures
-    ∙ partition_told c.args.self.now g.s c.requires c.args.partition.0
+    ∙ partition_told c.args.self.now s stands c.args.partition.0

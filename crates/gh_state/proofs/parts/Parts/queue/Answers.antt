@@ -7,10 +7,10 @@ use Rattle.gh_state.proofs.ReadLemmas.{seen_told, seen_untold}
 use Rattle.gh_state.proofs.parts.Parts.queue.Goals as goal
 
 pub returns-in-None : goal.returns-in-None
-returns-in-None g c =
-    seen_untold c.args.self.now g.s c.requires (λ (body : Body). fill_in body) _ c.args.queue.0 (fill_told c.args.self.now g.s c.requires c.args.queue.0) c.in-None.ensures.found
+returns-in-None c = λ s stands.
+    seen_untold c.args.self.now s stands (λ (body : Body). fill_in body) _ c.args.queue.0 (fill_told c.args.self.now s stands c.args.queue.0) c.in-None.ensures.found
 
 pub returns-in-Some : goal.returns-in-Some
-returns-in-Some g c =
+returns-in-Some c = λ s stands.
     c.fill_of.ensures ∙ ap (λ (body : Body). fill_in body) c.body.ensures
-    ∙ seen_told c.args.self.now g.s c.requires (λ (body : Body). fill_in body) _ c.args.queue.0 c.in-Some.index (fill_told c.args.self.now g.s c.requires c.args.queue.0) c.in-Some.ensures.found
+    ∙ seen_told c.args.self.now s stands (λ (body : Body). fill_in body) _ c.args.queue.0 c.in-Some.index (fill_told c.args.self.now s stands c.args.queue.0) c.in-Some.ensures.found
