@@ -1,5 +1,5 @@
--- What a step of the turn's holder says: its event was possible and was made, behind events of other
--- CPUs that came first.
+-- What a step of the turn's holder says: its event was possible and was made, behind events of
+-- other CPUs that came first.
 use Rattle.std.specs.Prelude.{◌≡◌, ◌==◌, ⊤, not, Bool, true, List, [], ◌∷◌, ◌++◌}
 use Rattle.std.specs.List.{list_all}
 use Rattle.gh_base.specs.declared.ids.CpuNo.{CpuNo}
@@ -31,9 +31,9 @@ made_on (Split cpu) = cpu
 abbrev pub is_other : CpuNo → Event → Bool
 is_other cpu event = not ((made_on event).0 == cpu.0)
 
--- from this configuration on, other CPUs made their events, and then this event was made: each was
--- possible where it came. The first fact is one of the configuration that the event found, the second
--- one of the configuration behind it
+-- from this configuration on, other CPUs made their events, and then this event was made: each
+-- was possible where it came. The first fact is one of the configuration that the event found, the
+-- second one of the configuration behind it
 pub record Moved (found behind : Config → Type 0) (conf : Config) (event : Event) : Type 0 where
   pub others : List Event
   pub foreign : list_all (is_other (made_on event)) others ≡ true

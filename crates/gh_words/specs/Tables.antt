@@ -9,7 +9,9 @@ use Rattle.gh_words.specs.declared.plain_words.ReferenceWord.{ReferenceWord}
 -- another word of a slot that there is
 abbrev pub with_cap : PlainWords → ℕ → ℕ → CapWord → PlainWords
 with_cap words space slot word = record words {
-  caps = if nat_lt slot SLOT_WORDS then slice_set words.caps (cap_place space slot) word else words.caps;
+  caps =
+      if nat_lt slot SLOT_WORDS then slice_set words.caps (cap_place space slot) word
+      else words.caps;
 }
 
 -- another reference word at an index

@@ -13,6 +13,10 @@ use Rattle.gh_words.specs.Tables.{with_place}
 use Rattle.gh_words.specs.declared.plain_words.PlainWords.{PlainWords}
 use Rattle.gh_words.specs.declared.plain_words.Turn.{Turn}
 
+-- no CPU has the turn
+abbrev pub IsFree : PlainWords → Type 0
+IsFree words = words.turn ≡ None
+
 -- the call that the CPU takes the turn for: its number, its frame and what its looks granted
 pub record IsReady (conf : Config) (cpu no : ℕ) (made : Frame) (granted : List Grant)
     : Type 0 where

@@ -13,6 +13,7 @@ ghost use Rattle.gh_words.specs.Booting.{AreBooted, HasFew, HasIndices, boot_wor
 ghost use Rattle.gh_words.specs.Booting.{home_index, is_set_in, placed_word, row_number, slot_word};
 ghost use Rattle.gh_words.specs.Booting.{space_at};
 ghost use Rattle.gh_words.specs.Shows.{Shows};
+ghost use Rattle.gh_words.specs.Turns.{IsFree};
 
 use crate::boot_counts::references;
 use crate::boot_index::{boot_index, boot_numbers, object_at};
@@ -217,6 +218,7 @@ impl PlainWords {
     pub fn new(alloc: Global, boot: &Boot) -> Result<PlainWords, NoMemory>
         ensures shown { IfOk result (λ words. Shows words
             (start (boot_state boot.now) (boot_index_of (boot_state boot.now)))) }
+        ensures free { IfOk result IsFree }
         ensures bell { IfOk result (λ words. words.rings ≡ 0) }
     {
         let _lines = boot.lines();

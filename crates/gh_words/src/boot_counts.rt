@@ -1,12 +1,12 @@
 //! What refers to the objects of a boot.
 
-ghost use Rattle.std.specs.Prelude.{◌≡◌, ◌+◌, ◌<◌, count_by, length};
-ghost use Rattle.gh_model.specs.References.{is_attached_to, is_boot_partition, is_capability_of};
-ghost use Rattle.gh_model.specs.References.{is_child_of, is_inhabitant_of, is_link_of};
-ghost use Rattle.gh_model.specs.References.{is_mapping_of, is_root_extent, is_share as is_share_kind};
-ghost use Rattle.gh_model.specs.References.{is_share_of, is_slot_of, is_space_of, references, uses_link};
-ghost use Rattle.gh_words.specs.Booting.{by_memory, by_objects, by_slots, by_vms};
+ghost use Rattle.std.specs.Prelude.{◌≡◌, ◌<◌, count_by};
 ghost use Rattle.gh_events.specs.Bounded.{many_references};
+ghost use Rattle.gh_model.specs.References.{is_capability_of, is_child_of, is_mapping_of};
+ghost use Rattle.gh_model.specs.References.{is_root_extent, is_share as is_share_kind};
+ghost use Rattle.gh_model.specs.References.{is_share_of, is_slot_of, is_space_of, references};
+ghost use Rattle.gh_model.specs.References.{uses_link};
+ghost use Rattle.gh_words.specs.Booting.{by_memory, by_objects, by_slots, by_vms};
 
 use gh_base::{CpuNo, Serial};
 use gh_model::{

@@ -1,6 +1,6 @@
 //! The indices of a boot's objects, each in the block of its partition.
 
-ghost use Rattle.std.specs.Prelude.{◌≡◌, ◌<◌, ℕ, IfOk, count_by, map, slice_get};
+ghost use Rattle.std.specs.Prelude.{◌≡◌, ◌<◌, IfOk, count_by, map, slice_get};
 ghost use Rattle.std.specs.List.{position};
 ghost use Rattle.gh_base.specs.declared.limits.TheConstants.{OBJECT_INDICES};
 ghost use Rattle.gh_events.specs.Config.{object_at};

@@ -87,8 +87,8 @@ impl PlainWords {
         self.caps.get(space.0 as usize * SLOT_WORDS + place)
     }
 
-    /// The word that a look loads: that of the CPU's capability space, or for a number that names no
-    /// slot one that no entry sets.
+    /// The word that a look loads: that of the CPU's capability space, or for a number that names
+    /// no slot one that no entry sets.
     fn load(&self, cpu: CpuNo, slot: u64) -> CapWord
         requires { Can self.now (IsCpu cpu.0) }
         ensures { Loads self.now cpu.0 slot result }

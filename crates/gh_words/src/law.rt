@@ -36,7 +36,8 @@ pub fn given_calls_stay_shown()
         → Shows words (given conf at number frame) }
 {}
 
-/// No counter of a scan is less than that CPU's counter on a retirement or a reclaim in the history.
+/// No counter of a scan is less than that CPU's counter on a retirement or a reclaim in the
+/// history.
 pub fn scans_are_latest()
     ensures { (conf : Config) (seen : List ℕ) (cpu counter : ℕ) → IsSound conf
         → HasScans conf seen → cpu < CPUS → slice_get seen cpu ≡ Some counter

@@ -23,7 +23,8 @@ impl Model for Log {
 
     ghost view = { λ log. record { entries = log.entries.items; room = log.room } };
 
-    ghost invariant = { λ log. (vec_len log.entries + log.room ≤ vec_capacity log.entries) × (vec_len log.entries + log.room < 2 ^ 32) };
+    ghost invariant = { λ log. (vec_len log.entries + log.room ≤ vec_capacity log.entries)
+        × (vec_len log.entries + log.room < 2 ^ 32) };
 }
 
 impl Log {

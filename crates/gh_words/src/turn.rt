@@ -1,12 +1,12 @@
 //! How plain words take the turn and free it.
 
-ghost use Rattle.std.specs.Prelude.{◌≡◌, ◌<◌, ◌≤◌, IfOk, None, OnErr, OnOk, Some};
+ghost use Rattle.std.specs.Prelude.{◌≡◌, ◌<◌, ◌≤◌, IfOk, OnErr, OnOk, Some};
 ghost use Rattle.gh_base.specs.declared.limits.TheConstants.{ACT_ENTRIES, CPUS};
 ghost use Rattle.gh_base.specs.declared.ids.CpuNo.{CpuNo};
 ghost use Rattle.gh_words.specs.Calls.{KeepsRest};
 ghost use Rattle.gh_words.specs.Moved.{May};
 ghost use Rattle.gh_words.specs.Shows.{Shows};
-ghost use Rattle.gh_words.specs.Turns.{Frees, Takes, at_end, freeing, holder_of};
+ghost use Rattle.gh_words.specs.Turns.{Frees, IsFree, Takes, at_end, freeing, holder_of};
 
 use crate::plain_words::{PlainWords, Turn};
 use gh_base::{CpuNo, Frame, Grant, NoMemory, Sequence};
@@ -39,8 +39,8 @@ fn new_turn(
 }
 
 impl PlainWords {
-    /// The CPU takes the free turn for a call of this number and frame, whose looks granted these. The
-    /// room is then at least that of one act.
+    /// The CPU takes the free turn for a call of this number and frame, whose looks granted these.
+    /// The room is then at least that of one act.
     pub fn take(
         &mut self,
         alloc: Global,
@@ -49,7 +49,7 @@ impl PlainWords {
         frame: &Frame,
         grants: &[Grant],
     ) -> Result<(), NoMemory>
-        requires free { self.old.turn ≡ None }
+        requires free { IsFree self.old }
         requires cpu { cpu.0 < CPUS }
         ensures made { OnOk result (Takes self.old self.new cpu number frame.now grants.now) }
         ensures room { OnOk result (ACT_ENTRIES ≤ self.new.log.room) }
@@ -66,6 +66,7 @@ impl PlainWords {
     pub fn free(&mut self)
         requires { May (Shows self.old) freeing }
         ensures made { Frees self.old self.new }
+        ensures free { IsFree self.new }
         ensures rest { KeepsRest self.old self.new }
     {
         self.put_end();
