@@ -16,6 +16,9 @@ mod BootUnits
 mod CountedRows
 mod DoomedLemmas
 mod Entering
+mod EntryLogged
+mod EntryTests
+mod FewObjects
 mod FilledSlots
 mod FollowLemmas
 mod FoundAlone

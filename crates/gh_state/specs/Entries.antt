@@ -1,5 +1,7 @@
 -- The log as callers see it: its entries in order, and how many more it has room for.
 use Rattle.std.specs.Prelude.{◌-◌, ◌++◌, ◌∷◌, ℕ, List, []}
+use Rattle.gh_base.specs.declared.call.Call.TheVariants.{Identify}
+use Rattle.gh_model.specs.declared.entry.Entry.{Entry}
 use Rattle.gh_state.specs.declared.log.Logged.{Logged}
 
 pub record Entries : Type 0 where
@@ -15,3 +17,7 @@ with_logged logged entries = record {
   logged = entries.logged ++ logged ∷ [];
   room = entries.room - 1;
 }
+
+-- an entry that is no act and no part of a revoke
+abbrev pub other_logged : Entry → Logged
+other_logged entry = record { entry = entry; call = Identify; bytes = []; words = [] }

@@ -5,6 +5,7 @@ pub mod Bodies
 pub mod BodyChanges
 pub mod BootLines
 pub mod Entries
+pub mod EntryMaking
 pub mod Follows
 pub mod Index
 pub mod Making

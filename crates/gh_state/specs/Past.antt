@@ -1,6 +1,7 @@
 -- The state as callers see it: a boot file, the history since, and how many entries more the log has
 -- room for. Its rows are those that the history makes of the boot file's.
-use Rattle.std.specs.Prelude.{ℕ, List, [], map, IsTrue}
+use Rattle.std.specs.Prelude.{◌-◌, ◌*◌, ◌≤◌, ◌++◌, ◌∷◌, ℕ, List, [], length, map, IsTrue}
+use Rattle.gh_base.specs.declared.limits.TheConstants.{CPUS, CSPACES, CSPACE_SLOTS}
 use Rattle.gh_invariant.specs.Valid.{IsValid}
 use Rattle.gh_model.specs.Boot.{boot_fits, boot_state}
 use Rattle.gh_model.specs.History.{Event, replay}
@@ -38,9 +39,19 @@ abbrev pub past_of : List BootLine → Entries → Past
 past_of boot log =
     record { boot = boot; history = map event_of log.logged; room = log.room }
 
+-- an entry more
+abbrev pub with_event : Event → Past → Past
+with_event event past = record past { history = past.history ++ event ∷ []; room = past.room - 1 }
+
+-- the CPUs and the links are those of the boot file, which are few
+pub record HasFewSeats (s : State) : Type 0 where
+  pub cpus : length s.cpus ≤ CPUS
+  pub links : 2 * length s.links ≤ CSPACES * CSPACE_SLOTS
+
 -- the parts are those of the rows by now, which are valid
 pub record IsPresent (past : Past) (parts : Parts) : Type 0 where
   pub boot : IsTrue (boot_fits past.boot)
   pub stands : Stands parts (rows_of past)
   pub valid : IsValid (rows_of past)
   pub kept : IsKept (rows_of past)
+  pub seats : HasFewSeats (rows_of past)

@@ -9,6 +9,7 @@ mod counts;
 mod cpu_lines;
 mod cpus;
 mod creation;
+mod entries;
 mod extent_lines;
 mod journal;
 mod lines;

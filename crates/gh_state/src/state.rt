@@ -1,16 +1,22 @@
 //! The locked state: a boot file and a log, and the parts that they make.
 
-ghost use Rattle.std.specs.Prelude.{◌≡◌, ◌≤◌, IfOk, OnErr, OnOk};
+ghost use Rattle.std.specs.Prelude.{◌≡◌, ◌<◌, ◌≤◌, ◌&&◌, IfOk, OnErr, OnOk, if◌then◌else◌};
+ghost use Rattle.gh_base.specs.declared.limits.TheConstants.{HISTORY_ENTRIES};
 ghost use Rattle.gh_invariant.specs.Valid.{IsValid, IsValidWithin};
+ghost use Rattle.gh_model.specs.History.{is_retired, is_unretired};
+ghost use Rattle.gh_model.specs.References.{is_doomed};
+ghost use Rattle.gh_model.specs.Rows.{object_row};
 ghost use Rattle.gh_model.specs.Small.{IsKept};
-ghost use Rattle.gh_state.specs.Past.{begun, rows_of};
+ghost use Rattle.gh_model.specs.declared.entry.Entry.TheVariants.{Reclaimed, Retired};
+ghost use Rattle.gh_state.specs.Entries.{other_logged};
+ghost use Rattle.gh_state.specs.Past.{begun, event_of, rows_of, with_event};
 ghost use Rattle.gh_state.specs.Reading.{IsReadable};
 ghost use Rattle.gh_state.specs.Stands.{Stands};
 
 use crate::log::Log;
 use crate::parts::Parts;
 use crate::present::Present;
-use gh_base::{ACT_ENTRIES, NoMemory};
+use gh_base::{ACT_ENTRIES, Counters, NoMemory, Serial};
 use gh_model::Boot;
 use std::alloc::Global;
 use std::marker::Model;
@@ -60,6 +66,35 @@ impl State {
         ensures err { OnErr result (self.new ≡ self.old) }
     {
         self.present.log.reserve(ACT_ENTRIES)
+    }
+
+    /// An object's retirement with the CPUs' counters, as an entry of the history. False where
+    /// something refers to it, or it is retired; then nothing changes. It takes no memory.
+    pub fn retire(&mut self, alloc: Global, serial: Serial, seen: Counters) -> bool
+        requires entries { (rows_of self.old).entries < HISTORY_ENTRIES }
+        requires room { 0 < self.old.room }
+        ensures may { result ≡ (is_doomed (rows_of self.old) serial.0
+            && is_unretired (object_row (rows_of self.old) serial.0)) }
+        ensures made { self.new ≡ (if result
+            then with_event (event_of (other_logged (Retired serial seen))) self.old
+            else self.old) }
+    {
+        self.present.retire(alloc, serial, seen)
+    }
+
+    /// A retired object goes with all its rows, as an entry of the history with the CPUs' counters.
+    /// False where something refers to it, or it isn't retired; then nothing changes. It takes no
+    /// memory.
+    pub fn reclaim(&mut self, alloc: Global, serial: Serial, seen: Counters) -> bool
+        requires entries { (rows_of self.old).entries < HISTORY_ENTRIES }
+        requires room { 0 < self.old.room }
+        ensures may { result ≡ (is_doomed (rows_of self.old) serial.0
+            && is_retired (object_row (rows_of self.old) serial.0)) }
+        ensures made { self.new ≡ (if result
+            then with_event (event_of (other_logged (Reclaimed serial seen))) self.old
+            else self.old) }
+    {
+        self.present.reclaim(alloc, serial, seen)
     }
 
     /// The parts.

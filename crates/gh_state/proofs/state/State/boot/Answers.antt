@@ -1,5 +1,7 @@
 -- The rows of a boot file are valid and small.
-use Rattle.std.proofs.Common.{◌≡◌, IsTrue, List, refl, subst, sym}
+use Rattle.std.proofs.Common.{◌≡◌, IsTrue, List, arith, refl, subst, sym}
+use Rattle.gh_events.proofs.FewReferences.{boot_cpus, boot_links}
+use Rattle.gh_events.proofs.LengthBoot.{few_capabilities}
 use Rattle.gh_invariant.proofs.BootValid.{boot_valid}
 use Rattle.gh_model.proofs.Small.{boot_kept}
 use Rattle.gh_model.specs.Boot.{boot_fits, boot_state}
@@ -17,6 +19,10 @@ begins lines parts fit stands = record {
   stands = stands;
   valid = boot_valid lines fit;
   kept = boot_kept (boot_state lines) lines refl fit;
+  seats = record {
+    cpus = boot_cpus lines fit;
+    links = omega (arith, boot_links lines, few_capabilities (boot_state lines) (boot_valid lines fit));
+  };
 }
 
 began : (lines boot : List BootLine) (log : Entries) (parts : Parts) → boot ≡ lines → log ≡ no_entries

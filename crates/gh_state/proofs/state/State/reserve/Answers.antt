@@ -6,7 +6,7 @@ use Rattle.gh_model.specs.History.{replay}
 use Rattle.gh_model.specs.Small.{IsKept}
 use Rattle.gh_model.specs.declared.boot_line.BootLine.{BootLine}
 use Rattle.gh_state.specs.Entries.{Entries}
-use Rattle.gh_state.specs.Past.{IsPresent, event_of, past_of}
+use Rattle.gh_state.specs.Past.{HasFewSeats, IsPresent, event_of, past_of}
 use Rattle.gh_state.specs.Stands.{Stands}
 use Rattle.gh_state.specs.declared.log.Logged.{Logged}
 use Rattle.gh_state.specs.declared.parts.Parts.{Parts}
@@ -19,6 +19,7 @@ roomier boot log now parts same present = record {
   stands = subst (λ (all : List Logged). Stands parts (replay (boot_state boot) (map event_of all))) (sym same) present.stands;
   valid = subst (λ (all : List Logged). IsValid (replay (boot_state boot) (map event_of all))) (sym same) present.valid;
   kept = subst (λ (all : List Logged). IsKept (replay (boot_state boot) (map event_of all))) (sym same) present.kept;
+  seats = subst (λ (all : List Logged). HasFewSeats (replay (boot_state boot) (map event_of all))) (sym same) present.seats;
 }
 
 pub invariant_of-self : goal.invariant_of-self
