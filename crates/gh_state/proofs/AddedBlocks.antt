@@ -1,22 +1,19 @@
 -- Objects stay in their blocks once a header more stands in the block of its partition's place.
-use Rattle.std.proofs.Common.{◌≡◌, ◌≢◌, ◌<◌, ◌≤◌, ◌∙◌, ◌/◌, ◌*◌, ◌+◌, ℕ, Bool, true, false, List, Option, Some, None, refl, sym, ap, subst, arith, inl, inr}
+use Rattle.std.proofs.Common.{◌≡◌, ◌≢◌, ◌<◌, ◌∙◌, ◌/◌, ◌*◌, ℕ, Bool, true, false, List, Option, Some, None, refl, sym, ap, subst, arith, inl, inr}
 use Rattle.std.proofs.Common.{length, set, get_or, ltb}
-use Rattle.std.specs.Prelude.{count_by, is_none, is_some, if◌then◌else◌}
-use Rattle.std.specs.List.{position_or_len}
-use Rattle.std.proofs.lemmas.Bool.{both_ways, cases_eq, eq-eqb, ltb-true, ne_eqb}
-use Rattle.std.proofs.lemmas.List.{get_or-set_other, get_or-set_same, length-set}
+use Rattle.std.specs.Prelude.{count_by, if◌then◌else◌}
+use Rattle.std.proofs.lemmas.Bool.{both_ways, cases_eq, ltb-true, ne_eqb}
+use Rattle.std.proofs.lemmas.List.{get_or-set_other, get_or-set_same}
 use Rattle.std.proofs.lemmas.List.Folds.{position_or_len-set}
-use Rattle.std.proofs.lemmas.List.Sums.{passes_at_first, position_or_len_is}
-use Rattle.std.proofs.lemmas.Nat.{div-mul-add}
+use Rattle.std.proofs.lemmas.List.Sums.{passes_at_first}
 use Rattle.gh_base.specs.declared.ids.ObjIndex.{ObjIndex}
 use Rattle.gh_base.specs.declared.limits.TheConstants.{OBJECT_INDICES, PARTITION_PLACES, PARTITIONS}
-use Rattle.gh_objects.proofs.ListLemmas.{count_by-passes, position-count, position_or_len-lt-length}
+use Rattle.gh_objects.proofs.ListLemmas.{count_by-passes, position-count}
 use Rattle.gh_objects.proofs.PartitionsLemmas.{HavePlaces-new, HavePlaces-same}
 use Rattle.gh_objects.specs.Headers.{HeaderTable, header_at, is_had_by, is_partition, is_partition_kind, place_of, with_header, with_partition}
 use Rattle.gh_objects.specs.Partitions.{HavePlaces}
 use Rattle.gh_objects.specs.declared.header.Header.{Header}
 use Rattle.gh_state.specs.Blocks.{BlocksStand}
-use Rattle.gh_state.proofs.AddedIndices.{header_here, header_there}
 use Rattle.gh_state.proofs.Options.{some_same}
 
 module _ (headers : List (Option Header)) (partitions : List (Option ObjIndex))

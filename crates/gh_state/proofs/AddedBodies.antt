@@ -1,9 +1,8 @@
 -- Bodies stand once an object is entered with a new one.
-use Rattle.std.proofs.Common.{◌≡◌, ◌≢◌, ◌∙◌, ◌∷◌, ◌++◌, ◌==◌, ℕ, Bool, true, false, List, [], Option, Some, None, refl, sym, ap, subst, arith, inl, inr}
+use Rattle.std.proofs.Common.{◌≡◌, ◌≢◌, ◌∙◌, ◌∷◌, ◌++◌, ℕ, true, List, [], Option, Some, None, refl, sym, ap, subst, arith, inl, inr}
 use Rattle.std.proofs.Common.{find, filter, map, set}
 use Rattle.std.specs.Prelude.{IsSomeAnd}
-use Rattle.std.specs.List.{list_all}
-use Rattle.std.proofs.lemmas.Bool.{cases_eq, eq-eqb, eqb-true, ne_eqb}
+use Rattle.std.proofs.lemmas.Bool.{cases_eq, eq-eqb, ne_eqb}
 use Rattle.gh_addrspace.specs.Space.{IsEmptySpace, Shows, Space as Mapped}
 use Rattle.gh_base.specs.declared.ids.Serial.{Serial}
 use Rattle.gh_base.specs.declared.kind.Kind.{Kind}
@@ -13,7 +12,6 @@ use Rattle.gh_invariant.proofs.Counting.{find_here, find_later}
 use Rattle.gh_model.specs.Boot.{is_row_of}
 use Rattle.gh_model.specs.Changes.{new_bell, new_bells, new_queues}
 use Rattle.gh_model.specs.Rows.{is_bell, is_object, is_queue}
-use Rattle.gh_model.specs.declared.rows.BellRow.{BellRow}
 use Rattle.gh_model.specs.declared.rows.ObjectRow.{ObjectRow}
 use Rattle.gh_model.specs.declared.rows.QueueRow.{QueueRow}
 use Rattle.gh_model.specs.declared.state.State.{State}
@@ -22,7 +20,7 @@ use Rattle.gh_state.specs.Bodies.{bell_in, body_of, fits_body, is_body_of, mappi
 use Rattle.gh_state.specs.Index.{index_of, indexed}
 use Rattle.gh_state.specs.ObjectChanges.{IsNewBody}
 use Rattle.gh_state.specs.Shares.{with_place}
-use Rattle.gh_state.specs.Stands.{BellsStand, KindsStand, QueuesStand, SpacesStand, SpansStand, StandsOwing, span_row_of}
+use Rattle.gh_state.specs.Stands.{BellsStand, KindsStand, QueuesStand, SpacesStand, SpansStand, span_row_of}
 use Rattle.gh_state.specs.declared.body.Body.{Body}
 use Rattle.gh_state.specs.declared.body.Body.TheVariants.{Bell, Extent, NewQueue, Nothing, Queue, Space}
 use Rattle.gh_state.specs.declared.parts.Parts.{Parts}

@@ -1,5 +1,5 @@
 -- Where the live objects are once a header more stands at a free index.
-use Rattle.std.proofs.Common.{◌≡◌, ◌≢◌, ◌<◌, ◌≤◌, ◌∙◌, not, ℕ, Bool, true, false, List, Option, Some, None, refl, sym, ap, subst, arith}
+use Rattle.std.proofs.Common.{◌≡◌, ◌≢◌, ◌<◌, ◌≤◌, ◌∙◌, not, ℕ, true, false, List, Option, Some, None, refl, sym, ap, subst, arith}
 use Rattle.std.proofs.Common.{inl, inr, length, set}
 use Rattle.std.proofs.lemmas.Bool.{both_ways, cases_eq, cases_lt, eq-eqb, ne_eqb}
 use Rattle.std.proofs.lemmas.List.{get_or-set_other, get_or-set_same, get_or_past, length-set}
@@ -10,7 +10,7 @@ use Rattle.gh_objects.specs.Headers.{has_serial, header_at}
 use Rattle.gh_objects.specs.declared.header.Header.{Header}
 use Rattle.gh_state.specs.Index.{AreIndexed, index_of}
 use Rattle.gh_state.proofs.FoundRows.{not_true}
-use Rattle.gh_state.proofs.IndexLemmas.{header_found, index_within}
+use Rattle.gh_state.proofs.IndexLemmas.{header_found}
 use Rattle.gh_state.proofs.Options.{some_same}
 
 -- where a serial has no index, no header has it

@@ -1,6 +1,6 @@
 -- Slots stand once an object is entered; a new capability space has its own.
 use Rattle.std.proofs.Common.{◌≡◌, ◌≢◌, ◌+◌, ◌-◌, ◌∙◌, ◌∷◌, ◌++◌, ◌==◌, ◌||◌, not, ℕ, Bool, true, false, List, [], Option, Some, None, refl, sym, ap, subst}
-use Rattle.std.proofs.Common.{arith, inl, inr, find, is_some, length, replicate, set, IsTrue}
+use Rattle.std.proofs.Common.{arith, inl, inr, find, is_some, replicate, set, IsTrue}
 use Rattle.std.specs.Prelude.{◌≤◌, count_by, slice_index_or}
 use Rattle.std.specs.Option.{option_map_or}
 use Rattle.std.proofs.lemmas.Bool.{and_parts, cases_eq, eq-eqb, eqb-true, ne_eqb}
@@ -13,21 +13,21 @@ use Rattle.gh_base.specs.declared.kind.Kind.TheVariants as kind
 use Rattle.gh_base.specs.declared.limits.TheConstants.{CSPACE_SLOTS}
 use Rattle.gh_cspace.specs.Cspace.{IsSlot, never_set, word_at}
 use Rattle.gh_invariant.proofs.Counting.{count_push, count_unfound, find_push_new, find_push_other, found_all, one_false}
-use Rattle.gh_invariant.proofs.SlotsFit.{SettingParts, SlotParts, setting_parts, slot_parts}
+use Rattle.gh_invariant.proofs.SlotsFit.{setting_parts, slot_parts}
 use Rattle.gh_invariant.specs.Lives.{lives_as, setting_fits, slot_fits}
 use Rattle.gh_model.specs.Boot.{is_of_kind}
 use Rattle.gh_model.specs.QueueCalls.{one_if}
-use Rattle.gh_model.specs.Rows.{fills, is_object, tells_setting}
+use Rattle.gh_model.specs.Rows.{fills, tells_setting}
 use Rattle.gh_model.specs.Word.{is_slot, setting_number}
 use Rattle.gh_model.specs.declared.rows.CapabilityRow.{CapabilityRow}
 use Rattle.gh_model.specs.declared.rows.ObjectRow.{ObjectRow}
 use Rattle.gh_model.specs.declared.rows.SetAtRow.{SetAtRow}
 use Rattle.gh_model.specs.declared.state.State.{State}
 use Rattle.gh_objects.specs.declared.header.Header.{Header}
-use Rattle.gh_state.specs.Index.{index_of, indexed}
+use Rattle.gh_state.specs.Index.{indexed}
 use Rattle.gh_state.specs.ObjectChanges.{with_space}
 use Rattle.gh_state.specs.Slots.{is_home, name_in, new_slots, no_serial, word_in}
-use Rattle.gh_state.specs.Stands.{HavePlaces, ShowsSlot, SlotsStand, StandsOwing}
+use Rattle.gh_state.specs.Stands.{HavePlaces, ShowsSlot, SlotsStand}
 use Rattle.gh_state.specs.declared.parts.Parts.{Parts}
 use Rattle.gh_state.specs.declared.slots.Slots.{Slots}
 use Rattle.gh_state.proofs.Entering.{Enters, at_there, found_here, lives_apart, lives_not, lives_there}

@@ -1,6 +1,6 @@
 -- Units stand once an object is entered: its partition uses its cost, and a new partition has an
 -- account.
-use Rattle.std.proofs.Common.{◌≡◌, ◌≢◌, ◌<◌, ◌≤◌, ◌+◌, ◌-◌, ◌∙◌, ◌∷◌, ◌++◌, ℕ, false, List, [], Option, Some, None, refl, sym, ap, subst, arith, inl, inr}
+use Rattle.std.proofs.Common.{◌≡◌, ◌≢◌, ◌≤◌, ◌+◌, ◌-◌, ◌∙◌, ◌∷◌, ◌++◌, ℕ, false, List, [], Option, Some, None, refl, sym, ap, subst, arith, inl, inr}
 use Rattle.std.proofs.Common.{find, nat_lt}
 use Rattle.std.specs.Option.{option_map}
 use Rattle.std.proofs.lemmas.Bool.{cases_eq, eq-eqb, eqb-true, le-ltb, ne_eqb}
@@ -9,7 +9,7 @@ use Rattle.gh_base.specs.declared.kind.Kind.{Kind}
 use Rattle.gh_base.specs.declared.kind.Kind.TheVariants as kind
 use Rattle.gh_invariant.proofs.ChangedRow.{find_past_change}
 use Rattle.gh_invariant.proofs.Counting.{find_push_new, find_push_other, found_passes}
-use Rattle.gh_invariant.proofs.UnitsMoved.{cost_in, given_push, used_push}
+use Rattle.gh_invariant.proofs.UnitsMoved.{given_push, used_push}
 use Rattle.gh_model.proofs.ChangedRows.{find_changed}
 use Rattle.gh_model.specs.Changes.{new_partitions}
 use Rattle.gh_model.specs.Rows.{change_row, is_partition}
@@ -22,7 +22,7 @@ use Rattle.gh_state.specs.ObjectChanges.{new_account, with_account}
 use Rattle.gh_state.specs.Stands.{UnitsStand, account_of, is_account}
 use Rattle.gh_state.specs.declared.journal.Account.{Account}
 use Rattle.gh_state.specs.declared.parts.Parts.{Parts}
-use Rattle.gh_state.proofs.Entering.{Enters, lives_apart, unmade}
+use Rattle.gh_state.proofs.Entering.{Enters}
 use Rattle.gh_state.proofs.FoundRows.{find_behind, find_beside}
 use Rattle.gh_state.proofs.StandsBells.{apart_serials}
 use Rattle.gh_state.proofs.StandsCost.{costs_not}

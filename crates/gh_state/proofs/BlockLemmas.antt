@@ -1,11 +1,11 @@
 -- Objects stay in their blocks.
-use Rattle.std.proofs.Common.{◌≡◌, ◌∙◌, ◌/◌, ◌*◌, ℕ, Bool, true, List, Option, Some, None, refl, sym, ap, subst, inl, inr, length, replicate, set}
+use Rattle.std.proofs.Common.{◌≡◌, ◌∙◌, ℕ, List, Option, Some, None, refl, sym, ap, subst, inl, inr, length, set}
 use Rattle.std.specs.Option.{option_map}
 use Rattle.std.proofs.lemmas.Bool.{cases_eq, cases_lt}
 use Rattle.std.proofs.lemmas.List.{get_or-set_other, set_past}
 use Rattle.gh_base.specs.declared.ids.ObjIndex.{ObjIndex}
 use Rattle.gh_base.specs.declared.kind.Stage.{Stage}
-use Rattle.gh_base.specs.declared.limits.TheConstants.{OBJECT_INDICES, PARTITION_PLACES, PARTITIONS}
+use Rattle.gh_base.specs.declared.limits.TheConstants.{OBJECT_INDICES}
 use Rattle.gh_objects.proofs.ListLemmas.{replicate-at, set_map-here}
 use Rattle.gh_objects.proofs.PartitionsLemmas.{HavePlaces-none, HavePlaces-same}
 use Rattle.gh_objects.specs.Headers.{HeaderTable, header_at, header_staged, in_stage, is_partition, no_headers, place_of}

@@ -1,7 +1,7 @@
 -- There is room for an object in its partition's block: each of the headers there is that of an object
 -- that lives in the partition, and each of these costs a unit at least.
-use Rattle.std.proofs.Common.{◌≡◌, ◌<◌, ◌≤◌, ◌∙◌, ◌*◌, ◌+◌, ◌/◌, ◌==◌, ◌&&◌, ℕ, Bool, true, false, List, [], ◌∷◌, Option, Some, None, refl, sym, ap, subst, arith}
-use Rattle.std.proofs.Common.{find, IsTrue, length, get_or, take, drop, inl, inr, nat_le, nat_lt}
+use Rattle.std.proofs.Common.{◌≡◌, ◌<◌, ◌≤◌, ◌∙◌, ◌*◌, ◌+◌, ◌/◌, ◌==◌, ℕ, Bool, true, false, List, [], ◌∷◌, Option, Some, None, refl, sym, ap, subst, arith}
+use Rattle.std.proofs.Common.{find, IsTrue, get_or, drop, inl, inr, nat_lt}
 use Rattle.std.specs.Prelude.{count_by, is_some, sum_by, if◌then◌else◌}
 use Rattle.std.specs.List.{list_all}
 use Rattle.std.proofs.lemmas.Bool.{and_parts, cases_lt, eq-eqb, leb-true, ltb-true}
@@ -9,18 +9,17 @@ use Rattle.std.proofs.lemmas.List.{get_or-drop, get_or-take, get_or_past, length
 use Rattle.std.proofs.lemmas.List.Sums.{sum_by-cons}
 use Rattle.std.proofs.lemmas.Nat.{div-mul-add}
 use Rattle.gh_base.specs.Kind.{kind_number}
-use Rattle.gh_base.specs.declared.ids.ObjIndex.{ObjIndex}
 use Rattle.gh_base.specs.declared.ids.Serial.{Serial}
 use Rattle.gh_base.specs.declared.kind.Kind.{Kind}
 use Rattle.gh_base.specs.declared.kind.Kind.TheVariants as kind
-use Rattle.gh_base.specs.declared.limits.TheConstants.{OBJECT_INDICES, PARTITION_PLACES, PARTITION_UNITS, PARTITIONS}
-use Rattle.gh_invariant.proofs.Counting.{all_by, count_cons, found_all, found_passes}
+use Rattle.gh_base.specs.declared.limits.TheConstants.{PARTITION_PLACES, PARTITION_UNITS}
+use Rattle.gh_invariant.proofs.Counting.{all_by, count_cons, found_all}
 use Rattle.gh_invariant.proofs.Summing.{number_if}
-use Rattle.gh_invariant.proofs.UnitsMoved.{cost_in, used_sum}
+use Rattle.gh_invariant.proofs.UnitsMoved.{used_sum}
 use Rattle.gh_invariant.specs.Lives.{cost_fits, kind_total, lives_as, quota_fits}
 use Rattle.gh_invariant.specs.Valid.{IsValidWithin}
 use Rattle.gh_model.specs.QueueCalls.{one_if}
-use Rattle.gh_model.specs.Rows.{is_object, is_partition as is_partition_row}
+use Rattle.gh_model.specs.Rows.{is_partition as is_partition_row}
 use Rattle.gh_model.specs.Units.{given_by, lives_in, object_cost, row_quota, used_by}
 use Rattle.gh_model.specs.declared.rows.ObjectRow.{ObjectRow}
 use Rattle.gh_model.specs.declared.rows.PartitionRow.{PartitionRow}
@@ -28,13 +27,12 @@ use Rattle.gh_model.specs.declared.state.State.{State}
 use Rattle.gh_objects.specs.Headers.{HasIndex, HasIndexIf, header_at, headers_in, is_partition, is_partition_kind, place_of}
 use Rattle.gh_objects.specs.declared.header.Header.{Header}
 use Rattle.gh_state.specs.Index.{index_of}
-use Rattle.gh_state.specs.Stands.{StandsOwing, header_of}
+use Rattle.gh_state.specs.Stands.{StandsOwing}
 use Rattle.gh_state.specs.declared.parts.Parts.{Parts}
 use Rattle.gh_state.proofs.AddedBlocks.{one_place}
 use Rattle.gh_state.proofs.CountedRows.{HasRow, HaveRows, count_headers}
 use Rattle.gh_state.proofs.HeaderRows.{RowAt, housed_in, kind_is, partition_at, partition_below, row_at}
 use Rattle.gh_state.proofs.IndexLemmas.{one_serial}
-use Rattle.gh_state.proofs.Living.{same_kind}
 
 -- each row that passes adds one at least
 rows_cost : (test : ObjectRow → Bool) (rows : List ObjectRow)

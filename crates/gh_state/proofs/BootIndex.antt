@@ -1,5 +1,5 @@
 -- The index that a boot partition gets: the first of a block in which nothing lies.
-use Rattle.std.proofs.Common.{◌≡◌, ◌≢◌, ◌<◌, ◌≤◌, ◌∙◌, ◌*◌, ◌+◌, ◌/◌, ℕ, Bool, true, false, List, Option, Some, None, refl, sym, ap, subst, arith, length, get_or, set}
+use Rattle.std.proofs.Common.{◌≡◌, ◌<◌, ◌∙◌, ◌*◌, ◌+◌, ◌/◌, ℕ, Bool, true, false, List, Option, Some, None, refl, sym, ap, subst, arith, length, get_or, set}
 use Rattle.std.proofs.Common.{nat_lt, if◌then◌else◌}
 use Rattle.std.specs.Prelude.{is_none, position}
 use Rattle.std.specs.List.{position_or_len}
@@ -13,7 +13,6 @@ use Rattle.gh_base.specs.declared.kind.Kind.{Kind}
 use Rattle.gh_base.specs.declared.kind.Kind.TheVariants as kind
 use Rattle.gh_base.specs.declared.limits.TheConstants.{OBJECT_INDICES, PARTITION_PLACES, PARTITIONS}
 use Rattle.gh_objects.specs.Headers.{HasIndex, HasIndexIf, HeaderTable, boot_index, first_index, free_index, header_at, header_inserted, is_had_by, is_partition, new_index, new_place, place_of, with_header, with_partition}
-use Rattle.gh_objects.specs.Partitions.{HavePlaces}
 use Rattle.gh_objects.specs.declared.header.Header.{Header}
 use Rattle.gh_state.specs.Blocks.{BlocksStand}
 use Rattle.gh_state.proofs.AddedBlocks.{AreHoused, Places, blocks_placed, place_had, unhad}

@@ -1,6 +1,6 @@
 -- A boot file is a list of lines that can be made of the parts one after the other.
-use Rattle.std.proofs.Common.{◌≡◌, ◌+◌, ◌<◌, ◌≤◌, ◌++◌, ◌∷◌, ◌&&◌, [], ℕ, suc, true, List, length, take, drop, Option, Some, None, IsTrue, ◌∙◌, refl, sym, ap, subst, arith, add-one, drop-cons, fold, inl, inr}
-use Rattle.std.specs.Prelude.{All, IfSome, nat_le, slice_get, sum_by}
+use Rattle.std.proofs.Common.{◌≡◌, ◌+◌, ◌<◌, ◌≤◌, ◌++◌, ◌∷◌, ◌&&◌, [], ℕ, suc, true, List, length, take, drop, Option, Some, None, IsTrue, ◌∙◌, refl, ap, subst, arith, add-one, drop-cons, fold, inl, inr}
+use Rattle.std.specs.Prelude.{All, IfSome, nat_le, slice_get}
 use Rattle.std.proofs.lemmas.Bool.{and_parts, leb-true}
 use Rattle.std.proofs.lemmas.List.Elements.{All-append, All-cons}
 use Rattle.std.proofs.lemmas.List.Sums.{sum_by-append}
@@ -22,12 +22,11 @@ use Rattle.gh_model.proofs.BootFresh.{boot_fresh}
 use Rattle.gh_model.proofs.BootLemmas.{boot_rings}
 use Rattle.gh_model.proofs.FittingLemmas.{boot_fitting, empty_fitting, few_objects, few_serials, line_fitting, pages_fitting}
 use Rattle.gh_model.proofs.RoomLemmas.{CountsAll, changes_count}
-use Rattle.gh_model.specs.Boot.{after_line, boot_fits, boot_state, changes_of_line, empty_state, extent_fits, has_units, is_complete, line_fits, lines_fit, queue_cost}
+use Rattle.gh_model.specs.Boot.{after_line, boot_fits, boot_state, changes_of_line, empty_state, has_units, is_complete, line_fits, lines_fit, queue_cost}
 use Rattle.gh_model.specs.Changes.{changed, changed_all}
 use Rattle.gh_model.specs.Fitting.{IsFitting}
 use Rattle.gh_model.specs.References.{references}
 use Rattle.gh_model.specs.Room.{new_rings, new_serials}
-use Rattle.gh_model.specs.Rows.{is_extent}
 use Rattle.gh_model.specs.declared.boot_line.BootLine.{BootLine}
 use Rattle.gh_model.specs.declared.boot_line.BootLine.TheVariants.{Pages, Partition, Cspace, Addrspace, Doorbell, RootExtent, Extent, Msgqueue, Map, Cap, Vm, Rm, Link}
 use Rattle.gh_model.specs.declared.change.Change.{Change}

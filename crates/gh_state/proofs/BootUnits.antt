@@ -3,11 +3,10 @@ use Rattle.std.proofs.Common.{◌≡◌, ◌≢◌, ◌<◌, ◌≤◌, ◌+◌,
 use Rattle.std.specs.Option.{option_map}
 use Rattle.std.proofs.lemmas.Bool.{cases_eq, cases_lt, eq-eqb, eqb-true, ne_eqb}
 use Rattle.std.proofs.lemmas.List.Sums.{sum_by_push}
-use Rattle.gh_base.specs.declared.ids.Serial.{Serial}
 use Rattle.gh_base.specs.declared.kind.Kind.TheVariants as kind
 use Rattle.gh_invariant.proofs.Counting.{find_push_new, find_push_other, found_passes, unfound}
 use Rattle.gh_invariant.proofs.RoomFor.{no_row_by}
-use Rattle.gh_invariant.proofs.UnitsMoved.{cost_in, given_sum, quota_in, used_push}
+use Rattle.gh_invariant.proofs.UnitsMoved.{given_sum, quota_in, used_push}
 use Rattle.gh_invariant.specs.Valid.{IsValidWithin}
 use Rattle.gh_model.specs.Changes.{boot_object}
 use Rattle.gh_model.specs.Changes.{boot_partition, serial_of}

@@ -1,9 +1,9 @@
 -- No more headers pass a test than rows pass another, where the row of each header that passes the one
 -- passes the other.
-use Rattle.std.proofs.Common.{◌≡◌, ◌+◌, ◌≤◌, ◌∙◌, ◌⊎◌, ℕ, zero, suc, Bool, true, false, List, [], ◌∷◌, Option, Some, None, refl, sym, ap, subst, arith, inl, inr}
+use Rattle.std.proofs.Common.{◌≡◌, ◌+◌, ◌≤◌, ◌∙◌, ◌⊎◌, ℕ, zero, suc, Bool, true, false, List, [], ◌∷◌, Option, Some, None, refl, sym, ap, arith, inl, inr}
 use Rattle.std.proofs.Common.{find, get_or}
 use Rattle.std.specs.Prelude.{count_by, if◌then◌else◌}
-use Rattle.std.proofs.lemmas.Bool.{cases_Bool, eq-eqb, eqb-true, ne_eqb}
+use Rattle.std.proofs.lemmas.Bool.{cases_Bool, eqb-true, ne_eqb}
 use Rattle.gh_invariant.proofs.Counting.{count_cons, one_false, one_true, without_here, without_later}
 use Rattle.gh_invariant.proofs.RowsLeft.{count_fewer, find_left}
 use Rattle.gh_model.specs.Changes.{without}

@@ -1,8 +1,8 @@
 -- An object that is entered: its row is the last, and it is found by its serial, which is new.
-use Rattle.std.proofs.Common.{◌≡◌, ◌≢◌, ◌<◌, ◌≤◌, ◌∙◌, ◌∷◌, ◌++◌, ◌==◌, ℕ, Bool, true, false, List, [], Option, Some, None, refl, sym, ap, subst, arith, inl}
-use Rattle.std.proofs.Common.{inr, length, find, set, is_some, IsTrue}
+use Rattle.std.proofs.Common.{◌≡◌, ◌≢◌, ◌<◌, ◌≤◌, ◌∙◌, ◌∷◌, ◌++◌, ℕ, false, List, [], Option, Some, None, refl, sym, ap, subst, arith, inl}
+use Rattle.std.proofs.Common.{inr, length, find, set, IsTrue}
 use Rattle.std.specs.Option.{option_map}
-use Rattle.std.proofs.lemmas.Bool.{both_ways, cases_lt, eq-eqb, eqb-true, ne_eqb}
+use Rattle.std.proofs.lemmas.Bool.{both_ways, cases_lt, eq-eqb, ne_eqb}
 use Rattle.gh_base.specs.declared.ids.Serial.{Serial}
 use Rattle.gh_base.specs.declared.kind.Kind.{Kind}
 use Rattle.gh_base.specs.declared.kind.Kind.TheVariants as kind
@@ -22,7 +22,6 @@ use Rattle.gh_state.specs.Stands.{StandsOwing, header_of}
 use Rattle.gh_state.specs.declared.parts.Parts.{Parts}
 use Rattle.gh_state.proofs.AddedIndices.{index_here, index_there}
 use Rattle.gh_state.proofs.IndexLemmas.{header_found}
-use Rattle.gh_state.proofs.StandsBells.{apart_serials}
 
 -- a serial whose index has no header is past the last
 pub past_none : (headers : List (Option Header)) (x : ℕ) → header_at headers (index_of headers x) ≡ None

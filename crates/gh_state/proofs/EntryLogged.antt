@@ -2,7 +2,6 @@
 use Rattle.std.proofs.Common.{◌≡◌, ◌∙◌, ◌∷◌, ◌++◌, [], Bool, true, false, List, map, refl, sym, ap, subst, if◌then◌else◌}
 use Rattle.std.proofs.lemmas.List.{map-append}
 use Rattle.std.proofs.lemmas.List.Sums.{fold-append}
-use Rattle.gh_base.specs.declared.ids.Serial.{Serial}
 use Rattle.gh_invariant.specs.Valid.{IsValid}
 use Rattle.gh_model.specs.Boot.{boot_state}
 use Rattle.gh_model.specs.History.{Event, after_event, replay}
@@ -10,7 +9,7 @@ use Rattle.gh_model.specs.Small.{IsKept}
 use Rattle.gh_model.specs.declared.boot_line.BootLine.{BootLine}
 use Rattle.gh_model.specs.declared.state.State.{State}
 use Rattle.gh_state.specs.Entries.{Entries, with_logged}
-use Rattle.gh_state.specs.Past.{HasFewSeats, IsPresent, Past, event_of, past_of, rows_of, with_event}
+use Rattle.gh_state.specs.Past.{HasFewSeats, IsPresent, event_of, past_of, rows_of, with_event}
 use Rattle.gh_state.specs.Stands.{Stands}
 use Rattle.gh_state.specs.declared.log.Logged.{Logged}
 use Rattle.gh_state.specs.declared.parts.Parts.{Parts}

@@ -1,10 +1,10 @@
 -- Objects are no more than indices, and so each has few references.
-use Rattle.std.proofs.Common.{◌≡◌, ◌==◌, ◌+◌, ◌<◌, ◌≤◌, ◌∙◌, ℕ, Bool, true, List, length, Option, Some, None, refl, sym, ap, arith, inl, inr, find}
+use Rattle.std.proofs.Common.{◌≡◌, ◌==◌, ◌<◌, ◌≤◌, ◌∙◌, ℕ, Bool, true, length, Option, Some, None, refl, sym, ap, arith, inl, inr, find}
 use Rattle.std.specs.Prelude.{count_by, is_some, nat_lt, slice_get}
 use Rattle.std.specs.Option.{option_map}
 use Rattle.std.proofs.lemmas.Bool.{cases_lt, eq-eqb, eqb-true, lt-ltb}
 use Rattle.std.proofs.lemmas.List.{get_or_past}
-use Rattle.gh_base.specs.declared.limits.TheConstants.{CPUS, CSPACES, CSPACE_SLOTS, HISTORY_ENTRIES, OBJECT_INDICES}
+use Rattle.gh_base.specs.declared.limits.TheConstants.{HISTORY_ENTRIES, OBJECT_INDICES}
 use Rattle.gh_events.proofs.Boxes.{all_of, few_numbered, more_pass, one_of}
 use Rattle.gh_events.proofs.FewRows.{few_references}
 use Rattle.gh_events.proofs.Finding.{same_number}
@@ -12,13 +12,11 @@ use Rattle.gh_events.proofs.LengthBoot.{few_capabilities}
 use Rattle.gh_invariant.proofs.Counting.{count_unfound, found_passes}
 use Rattle.gh_invariant.specs.Lives.{lives}
 use Rattle.gh_invariant.specs.Valid.{IsValid}
-use Rattle.gh_model.specs.References.{references}
 use Rattle.gh_model.specs.Rows.{is_object}
 use Rattle.gh_model.specs.Small.{IsKept}
 use Rattle.gh_model.specs.declared.rows.ObjectRow.{ObjectRow}
 use Rattle.gh_model.specs.declared.state.State.{State}
 use Rattle.gh_objects.specs.Headers.{header_at}
-use Rattle.gh_objects.specs.declared.header.Header.{Header}
 use Rattle.gh_state.specs.Index.{index_of}
 use Rattle.gh_state.specs.Making.{HasRoom}
 use Rattle.gh_state.specs.Past.{HasFewSeats}

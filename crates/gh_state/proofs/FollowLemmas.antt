@@ -1,17 +1,16 @@
 -- Bodies whose address spaces follow pages that moved.
-use Rattle.std.proofs.Common.{◌≡◌, ◌≢◌, ◌<◌, ◌≤◌, ◌+◌, arith, inl, inr, ◌∙◌, ◌==◌, ◌||◌, not, ℕ, Bool, true, false, List, [], ◌∷◌, Option, Some, None, refl, sym, ap, subst, filter, map, if◌then◌else◌, IsTrue}
+use Rattle.std.proofs.Common.{◌≡◌, ◌∙◌, not, ℕ, Bool, true, false, List, [], ◌∷◌, Some, None, refl, ap, subst, filter, map, IsTrue}
 use Rattle.std.specs.Prelude.{All, count_by}
 use Rattle.std.specs.List.{list_all}
-use Rattle.std.proofs.lemmas.Bool.{and_from, and_parts, cases_eq, cases_lt}
+use Rattle.std.proofs.lemmas.Bool.{and_from, and_parts}
 use Rattle.std.proofs.lemmas.List.Elements.{All-cons, All-nil}
-use Rattle.gh_addrspace.specs.Space.{Shows, Space as Mapped}
+use Rattle.gh_addrspace.specs.Space.{Space as Mapped}
 use Rattle.gh_addrspace.specs.declared.mapping.Mapping.{Mapping}
 use Rattle.gh_base.specs.declared.ids.Serial.{Serial}
 use Rattle.gh_invariant.proofs.Counting.{none_fail}
 use Rattle.gh_model.specs.Boot.{is_row_of, move_pages}
 use Rattle.gh_model.specs.Memory.{HoldsRun}
 use Rattle.gh_model.specs.References.{is_mapping_of}
-use Rattle.gh_model.specs.declared.memory.Span.{Span}
 use Rattle.gh_model.specs.declared.rows.MappingRow.{MappingRow}
 use Rattle.gh_state.specs.Bodies.{mapping_row, mappings_in, space_in}
 use Rattle.gh_state.specs.Follows.{SharesFollow, ShowsOn}

@@ -1,6 +1,6 @@
 -- The index that a new object gets in the block of a partition that lives, and the one that a boot
 -- partition gets.
-use Rattle.std.proofs.Common.{◌≡◌, ◌<◌, ◌≤◌, ◌∙◌, ◌*◌, ◌+◌, ◌/◌, ℕ, Bool, true, false, not, List, Option, Some, None, refl, sym, ap, subst, arith, length, get_or, take, drop}
+use Rattle.std.proofs.Common.{◌≡◌, ◌<◌, ◌∙◌, ◌*◌, ◌+◌, ◌/◌, ℕ, Bool, true, List, Option, Some, None, refl, sym, ap, arith, length, get_or, drop}
 use Rattle.std.specs.Prelude.{count_by, is_none, is_some, if◌then◌else◌}
 use Rattle.std.specs.List.{position_or_len}
 use Rattle.std.proofs.lemmas.List.{get_or-drop, get_or-take, length-drop, length-take-le}

@@ -1,12 +1,11 @@
 -- An object that goes: nothing refers to it, and so no row but its own names it.
-use Rattle.std.proofs.Common.{◌≡◌, ◌≢◌, ◌<◌, ◌≤◌, ◌+◌, ◌∙◌, ◌==◌, ◌&&◌, ◌||◌, not, ℕ, Bool, true, false, List, [], Option, Some, None, refl, sym, ap, subst, arith}
-use Rattle.std.proofs.Common.{length, find, is_some, IsTrue}
+use Rattle.std.proofs.Common.{◌≡◌, ◌≢◌, ◌<◌, ◌∙◌, not, ℕ, true, false, List, Option, Some, None, sym, ap, arith}
+use Rattle.std.proofs.Common.{length, find}
 use Rattle.std.specs.Prelude.{count_by}
 use Rattle.std.proofs.lemmas.Bool.{and_from, both_ways, eq-eqb, eqb-true, ne_eqb}
 use Rattle.gh_base.specs.declared.kind.Kind.{Kind}
-use Rattle.gh_base.specs.declared.kind.Kind.TheVariants as kind
 use Rattle.gh_base.specs.declared.limits.TheConstants.{OBJECT_INDICES}
-use Rattle.gh_invariant.proofs.Counting.{found_one, found_passes}
+use Rattle.gh_invariant.proofs.Counting.{found_passes}
 use Rattle.gh_invariant.proofs.ObjectsFit.{lives_gone, lives_left}
 use Rattle.gh_invariant.proofs.RowsLeft.{find_gone, find_left, without_none}
 use Rattle.gh_invariant.proofs.RowsTested.{other_number}
@@ -14,11 +13,10 @@ use Rattle.gh_invariant.specs.Lives.{lives_as}
 use Rattle.gh_invariant.specs.Premises.{MayReclaim}
 use Rattle.gh_invariant.specs.Valid.{IsValidWithin}
 use Rattle.gh_model.specs.Changes.{is_in_cspace, without}
-use Rattle.gh_model.specs.References.{is_boot_partition, is_capability_of, is_inhabitant_of, is_mapping_of, is_slot_of, references}
+use Rattle.gh_model.specs.References.{is_boot_partition, is_capability_of, is_inhabitant_of, is_mapping_of, is_slot_of}
 use Rattle.gh_model.specs.Rows.{fills, is_object, is_partition}
 use Rattle.gh_model.specs.declared.rows.CapabilityRow.{CapabilityRow}
 use Rattle.gh_model.specs.declared.rows.ObjectRow.{ObjectRow}
-use Rattle.gh_model.specs.declared.rows.MappingRow.{MappingRow}
 use Rattle.gh_model.specs.declared.rows.PartitionRow.{PartitionRow}
 use Rattle.gh_model.specs.declared.state.State.{State}
 use Rattle.gh_objects.specs.declared.header.Header.{Header}

@@ -1,10 +1,9 @@
 -- The partition of an object that goes: it is another object, and gave a partition its quota.
-use Rattle.std.proofs.Common.{◌≡◌, ◌≢◌, ◌<◌, ◌≤◌, ◌+◌, ◌∙◌, ◌==◌, ◌&&◌, ℕ, Bool, true, false, List, [], Option, Some, None, refl, sym, ap, subst, arith, find, nat_lt, nat_le, IsTrue}
-use Rattle.std.specs.Prelude.{count_by, if◌then◌else◌}
+use Rattle.std.proofs.Common.{◌≡◌, ◌≢◌, ◌<◌, ◌≤◌, ◌+◌, ◌∙◌, ℕ, Bool, true, false, Option, Some, None, refl, sym, ap, subst, arith, find, IsTrue}
+use Rattle.std.specs.Prelude.{count_by}
 use Rattle.std.proofs.lemmas.Bool.{and_parts, eqb-true, ltb-true, ne_eqb}
 use Rattle.gh_base.specs.declared.ids.Serial.{Serial}
 use Rattle.gh_base.specs.declared.kind.Kind.TheVariants as kind
-use Rattle.gh_base.specs.declared.limits.TheConstants.{PARTITION_UNITS}
 use Rattle.gh_invariant.proofs.Counting.{count_unfound, found_all, found_passes, one_true}
 use Rattle.gh_invariant.proofs.Summing.{number_found}
 use Rattle.gh_invariant.proofs.UnitsMoved.{cost_in, given_without, quota_in, used_without}

@@ -1,8 +1,7 @@
 -- Bodies stand once an object is removed, whose pages its parent has.
-use Rattle.std.proofs.Common.{◌≡◌, ◌≢◌, ◌<◌, ◌≤◌, ◌∙◌, ◌==◌, ◌||◌, not, ℕ, Bool, true, false, List, [], Option, Some, None, refl, sym, ap, subst, arith, inl, inr}
-use Rattle.std.proofs.Common.{find, filter, map, set, length, IsTrue}
-use Rattle.std.specs.Prelude.{All, count_by}
-use Rattle.std.specs.List.{list_all}
+use Rattle.std.proofs.Common.{◌≡◌, ◌≢◌, ◌∙◌, ◌==◌, not, ℕ, Bool, true, false, List, Option, Some, None, refl, sym, ap, subst, arith, inl, inr}
+use Rattle.std.proofs.Common.{find, filter, map, set}
+use Rattle.std.specs.Prelude.{count_by}
 use Rattle.std.specs.Option.{option_map}
 use Rattle.std.proofs.lemmas.Bool.{both_ways, cases_eq, eq-eqb, ne_eqb, or_left, or_right}
 use Rattle.std.proofs.lemmas.List.{length-set}
@@ -10,20 +9,15 @@ use Rattle.std.proofs.lemmas.List.Elements.{All-weaker}
 use Rattle.gh_addrspace.specs.Space.{Shows, Space as Mapped}
 use Rattle.gh_addrspace.specs.declared.mapping.Mapping.{Mapping}
 use Rattle.gh_base.specs.declared.ids.Serial.{Serial}
-use Rattle.gh_base.specs.declared.limits.TheConstants.{OBJECT_INDICES}
 use Rattle.gh_extent.specs.Extents.{row_span}
 use Rattle.gh_invariant.proofs.Counting.{all_by, none_fail}
 use Rattle.gh_invariant.proofs.RowsLeft.{find_gone, find_left}
 use Rattle.gh_invariant.proofs.RowsTested.{other_number}
 use Rattle.gh_model.specs.Boot.{is_row_of}
-use Rattle.gh_model.specs.Changes.{reclaim_object, without}
+use Rattle.gh_model.specs.Changes.{reclaim_object}
 use Rattle.gh_model.specs.References.{is_mapping_of}
 use Rattle.gh_model.specs.Rows.{is_bell, is_extent, is_object, is_queue}
-use Rattle.gh_model.specs.declared.memory.Span.{Span}
-use Rattle.gh_model.specs.declared.rows.BellRow.{BellRow}
-use Rattle.gh_model.specs.declared.rows.ExtentRow.{ExtentRow}
 use Rattle.gh_model.specs.declared.rows.MappingRow.{MappingRow}
-use Rattle.gh_model.specs.declared.rows.QueueRow.{QueueRow}
 use Rattle.gh_model.specs.declared.state.State.{State}
 use Rattle.gh_objects.specs.declared.header.Header.{Header}
 use Rattle.gh_state.specs.Bodies.{bell_in, body_of, fits_body, mapping_row, mappings_in, queue_in, space_in, span_in}

@@ -3,13 +3,12 @@ use Rattle.std.proofs.Common.{◌≡◌, ◌≢◌, ◌<◌, ◌∙◌, ◌+◌,
 use Rattle.std.specs.Prelude.{slice_index_or}
 use Rattle.std.specs.Option.{option_map}
 use Rattle.std.proofs.lemmas.Bool.{cases_eq, eqb-true}
-use Rattle.std.proofs.lemmas.List.{get_or-set_other, get_or_past, length-set}
+use Rattle.std.proofs.lemmas.List.{get_or-set_other, length-set}
 use Rattle.gh_base.specs.declared.ids.Serial.{Serial}
 use Rattle.gh_invariant.proofs.Counting.{found_passes}
 use Rattle.gh_invariant.proofs.ReferencesLaw.{moves}
-use Rattle.gh_invariant.specs.Effects.{losses, times}
+use Rattle.gh_invariant.specs.Effects.{losses}
 use Rattle.gh_model.specs.Changes.{reclaim_object}
-use Rattle.gh_model.specs.References.{references}
 use Rattle.gh_model.specs.Rows.{is_object}
 use Rattle.gh_model.specs.declared.change.Change.TheVariants.{Reclaim}
 use Rattle.gh_model.specs.declared.rows.ObjectRow.{ObjectRow}
@@ -28,7 +27,7 @@ use Rattle.gh_state.specs.declared.shares.Place.{Place}
 use Rattle.gh_state.proofs.Leaving.{Leaves, found_gone, found_left, home_elsewhere, leaves_within}
 use Rattle.gh_state.proofs.Living.{object_some}
 use Rattle.gh_state.proofs.PlaceLemmas.{place_elsewhere, places_whole}
-use Rattle.gh_state.proofs.RemovedIndices.{header_gone, header_left, index_elsewhere, index_gone, index_left, indexed_left, left_there}
+use Rattle.gh_state.proofs.RemovedIndices.{header_gone, header_left, index_elsewhere, index_left, indexed_left, left_there}
 
 module _ (parts : Parts) (s : State) (object : Serial) (leaves : Leaves parts s object.0) where
   abbrev headers : List (Option Header)

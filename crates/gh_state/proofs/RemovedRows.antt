@@ -1,5 +1,5 @@
 -- Rows of which those that pass a test are taken away, one after another.
-use Rattle.std.proofs.Common.{◌≡◌, ◌<◌, ◌∙◌, ◌++◌, ◌∷◌, not, ℕ, suc, Bool, true, List, Option, Some, None, refl, sym, ap, arith, length, position, take, drop, get_or, filter}
+use Rattle.std.proofs.Common.{◌≡◌, ◌<◌, ◌∙◌, ◌++◌, not, ℕ, suc, Bool, true, List, Some, None, sym, ap, arith, length, position, take, drop, get_or}
 use Rattle.std.specs.Prelude.{remove}
 use Rattle.std.proofs.lemmas.List.{take-append-drop}
 use Rattle.std.proofs.lemmas.List.Edits.{length-remove}

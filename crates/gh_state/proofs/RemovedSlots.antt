@@ -1,5 +1,5 @@
 -- Slots stand once an object is removed; a capability space's own go with it.
-use Rattle.std.proofs.Common.{◌≡◌, ◌≢◌, ◌-◌, ◌∙◌, ◌==◌, ◌&&◌, not, ℕ, Bool, true, false, List, [], Option, Some, None, refl, sym, ap, subst, arith, inl, inr}
+use Rattle.std.proofs.Common.{◌≡◌, ◌≢◌, ◌-◌, ◌∙◌, not, ℕ, List, [], Option, Some, None, refl, sym, ap, subst, arith, inl, inr}
 use Rattle.std.proofs.Common.{find, is_some, set, IsTrue}
 use Rattle.std.specs.Prelude.{count_by, slice_index_or}
 use Rattle.std.specs.Option.{option_map_or}

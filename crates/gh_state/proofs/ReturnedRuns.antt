@@ -1,6 +1,6 @@
 -- Runs of pages that an extent gives back to its parent, one after another.
 use Rattle.std.proofs.Common.{◌≡◌, ◌≢◌, ◌<◌, ◌≤◌, ◌+◌, ◌∙◌, ◌∷◌, ◌++◌, ◌==◌, not, ℕ, zero, suc, Bool, true, false, List, [], Option, Some, None, refl, sym, ap, subst, arith}
-use Rattle.std.proofs.Common.{length, map, take, drop, replicate, get_or, find, position, IsTrue, if◌then◌else◌}
+use Rattle.std.proofs.Common.{length, map, take, drop, replicate, get_or, position, IsTrue, if◌then◌else◌}
 use Rattle.std.specs.Prelude.{count_by}
 use Rattle.std.specs.List.{list_all, prefix_len}
 use Rattle.std.specs.Option.{option_map}
@@ -18,7 +18,6 @@ use Rattle.gh_invariant.proofs.Counting.{count_append, count_cons, count_unfound
 use Rattle.gh_model.specs.Boot.{move_pages}
 use Rattle.gh_model.specs.Changes.{given_back}
 use Rattle.gh_model.specs.Memory.{HoldsRun, is_serial}
-use Rattle.gh_model.specs.QueueCalls.{one_if}
 use Rattle.gh_state.proofs.FoundRows.{not_true, unplaced_none}
 use Rattle.gh_state.proofs.Options.{some_same}
 

@@ -7,7 +7,6 @@ use Rattle.gh_base.specs.declared.ids.Serial.{Serial}
 use Rattle.gh_addrspace.specs.Space.{IsEmptySpace, IsNamed, Shows, Space}
 use Rattle.gh_addrspace.specs.declared.mapping.Mapping.{Mapping}
 use Rattle.gh_model.specs.Memory.{access_of, covering_access, row_covers, span_access}
-use Rattle.gh_model.specs.declared.memory.MapRow.{MapRow}
 use Rattle.gh_model.specs.declared.memory.Span.{Span}
 
 -- the span of a row's extent is there still

@@ -1,6 +1,6 @@
 -- The parts stand for the rows once an object is made in a partition.
-use Rattle.std.proofs.Common.{◌≡◌, ◌≢◌, ◌<◌, ◌≤◌, ◌+◌, ◌-◌, ◌∙◌, ◌∷◌, ◌++◌, ◌==◌, ◌/◌, ◌*◌, ℕ, Bool, true, false, List, [], Option, Some, None, refl, sym, ap, subst}
-use Rattle.std.proofs.Common.{arith, find, is_some, length, get_or, if◌then◌else◌}
+use Rattle.std.proofs.Common.{◌≡◌, ◌≢◌, ◌<◌, ◌≤◌, ◌+◌, ◌-◌, ◌∙◌, ◌∷◌, ◌==◌, ℕ, true, false, List, [], Option, Some, None, refl, sym, ap, subst}
+use Rattle.std.proofs.Common.{arith, find, is_some, length, get_or}
 use Rattle.std.specs.Prelude.{◌^◌, count_by}
 use Rattle.std.specs.Option.{option_map}
 use Rattle.std.proofs.lemmas.Bool.{both_ways, ne_eqb}
@@ -20,13 +20,11 @@ use Rattle.gh_invariant.specs.Premises.{MayAdd}
 use Rattle.gh_invariant.specs.Valid.{IsValidWithin}
 use Rattle.gh_model.specs.Boot.{is_of_kind}
 use Rattle.gh_model.specs.Changes.{add_object}
-use Rattle.gh_model.specs.QueueCalls.{one_if}
 use Rattle.gh_model.specs.References.{references}
 use Rattle.gh_model.specs.Rows.{change_row, is_object, is_partition as is_partition_row}
 use Rattle.gh_model.specs.Units.{given_by, row_quota, used_by}
 use Rattle.gh_model.specs.declared.change.Change.TheVariants.{AddObject}
 use Rattle.gh_model.specs.declared.rows.ObjectRow.{ObjectRow}
-use Rattle.gh_model.specs.declared.rows.PartitionRow.{PartitionRow}
 use Rattle.gh_model.specs.declared.state.State.{State}
 use Rattle.gh_objects.specs.Counts.{with_reference}
 use Rattle.gh_objects.specs.Headers.{HasIndex, header_at, header_inserted, headers_in, is_partition, is_partition_kind, new_index, new_place, place_of}

@@ -1,5 +1,5 @@
 -- The parts stand for the rows once a boot partition is made.
-use Rattle.std.proofs.Common.{◌≡◌, ◌≢◌, ◌<◌, ◌≤◌, ◌+◌, ◌∙◌, ◌∷◌, ◌++◌, ℕ, List, [], Option, Some, None, refl, sym, ap, subst, arith, find, is_some, length, set, ◌==◌}
+use Rattle.std.proofs.Common.{◌≡◌, ◌<◌, ◌≤◌, ◌+◌, ◌∙◌, ◌∷◌, ℕ, List, [], Option, Some, None, refl, sym, ap, subst, arith, find, is_some, length, set, ◌==◌}
 use Rattle.std.specs.Prelude.{count_by, is_none}
 use Rattle.std.specs.List.{position_or_len}
 use Rattle.std.specs.Option.{option_map}
@@ -9,7 +9,7 @@ use Rattle.gh_base.specs.declared.ids.ObjIndex.{ObjIndex}
 use Rattle.gh_base.specs.declared.ids.Serial.{Serial}
 use Rattle.gh_base.specs.declared.kind.Kind.TheVariants as kind
 use Rattle.gh_base.specs.declared.kind.Stage.TheVariants.{Active}
-use Rattle.gh_base.specs.declared.limits.TheConstants.{OBJECT_INDICES, PARTITION_PLACES, PARTITIONS}
+use Rattle.gh_base.specs.declared.limits.TheConstants.{OBJECT_INDICES, PARTITIONS}
 use Rattle.gh_invariant.proofs.Counting.{one_true, unfound}
 use Rattle.gh_invariant.proofs.NotLiving.{not_living}
 use Rattle.gh_invariant.proofs.ReferencesLaw.{moves}
@@ -18,7 +18,6 @@ use Rattle.gh_invariant.specs.Effects.{times}
 use Rattle.gh_invariant.specs.Premises.{MayAddPartition}
 use Rattle.gh_invariant.specs.Valid.{IsValidWithin}
 use Rattle.gh_model.specs.Changes.{add_partition, boot_object, serial_of}
-use Rattle.gh_model.specs.QueueCalls.{one_if}
 use Rattle.gh_model.specs.References.{references}
 use Rattle.gh_model.specs.Rows.{is_object, is_partition as is_partition_row}
 use Rattle.gh_model.specs.Units.{given_by, row_quota, used_by}
@@ -27,7 +26,7 @@ use Rattle.gh_model.specs.declared.rows.BellRow.{BellRow}
 use Rattle.gh_model.specs.declared.rows.ObjectRow.{ObjectRow}
 use Rattle.gh_model.specs.declared.rows.QueueRow.{QueueRow}
 use Rattle.gh_model.specs.declared.state.State.{State}
-use Rattle.gh_objects.specs.Headers.{HasIndex, HeaderTable, boot_index, header_at, header_inserted, is_partition, new_index, with_header}
+use Rattle.gh_objects.specs.Headers.{HasIndex, HeaderTable, boot_index, header_at, header_inserted, is_partition, with_header}
 use Rattle.gh_objects.specs.declared.header.Header.{Header}
 use Rattle.gh_state.specs.Index.{index_of}
 use Rattle.gh_state.specs.ObjectChanges.{booted, entered, entered_at, new_header}

@@ -1,5 +1,5 @@
 -- The parts stand for the rows once an object is reclaimed.
-use Rattle.std.proofs.Common.{◌≡◌, ◌≢◌, ◌<◌, ◌≤◌, ◌+◌, ◌∙◌, ◌∷◌, ◌++◌, ◌==◌, not, ℕ, Bool, true, false, List, [], Option, Some, None, refl, sym, ap, subst, arith, find, map, length, IsTrue}
+use Rattle.std.proofs.Common.{◌≡◌, ◌≢◌, ◌<◌, ◌≤◌, ◌+◌, ◌∙◌, ◌∷◌, ◌++◌, not, ℕ, Bool, true, false, List, [], Option, Some, None, refl, sym, ap, subst, arith, find, map, length, IsTrue}
 use Rattle.std.specs.Prelude.{IfSome, count_by, if◌then◌else◌}
 use Rattle.std.specs.List.{list_all, list_any}
 use Rattle.std.specs.Option.{option_map, option_map_or, option_to_list, unwrap_or}
@@ -20,26 +20,22 @@ use Rattle.gh_model.specs.declared.change.Change.TheVariants.{Reclaim}
 use Rattle.gh_model.specs.declared.rows.ExtentRow.{ExtentRow}
 use Rattle.gh_model.specs.declared.rows.ObjectRow.{ObjectRow}
 use Rattle.gh_model.specs.declared.state.State.{State}
-use Rattle.gh_objects.specs.Counts.{without_reference}
 use Rattle.gh_objects.specs.Headers.{header_at}
 use Rattle.gh_objects.specs.declared.header.Header.{Header}
-use Rattle.gh_state.specs.Blocks.{BlocksStand}
 use Rattle.gh_state.specs.Follows.{GivesBack, MayReturn, SharesFollow, parent_in}
 use Rattle.gh_state.specs.Index.{found_index, index_of, partition_in, serial_at}
-use Rattle.gh_state.specs.Owing.{HasCount, recounted, settled}
+use Rattle.gh_state.specs.Owing.{HasCount, settled}
 use Rattle.gh_state.specs.Reclaims.{HasUnits, closed, freed, quota_of, removed, row_parent}
 use Rattle.gh_state.specs.Shares.{place_at}
 use Rattle.gh_state.specs.Slots.{no_serial}
-use Rattle.gh_state.specs.Stands.{Stands, StandsOwing, extent_rows, header_of, is_account, page_holders}
-use Rattle.gh_state.specs.declared.journal.Account.{Account}
+use Rattle.gh_state.specs.Stands.{Stands, StandsOwing, extent_rows, is_account, page_holders}
 use Rattle.gh_state.specs.declared.parts.Parts.{Parts}
-use Rattle.gh_state.specs.declared.shares.Place.{Place}
 use Rattle.gh_state.proofs.FoundRows.{found_fails, not_true}
 use Rattle.gh_state.proofs.HeaderRows.{RowAt, home_row, row_at}
 use Rattle.gh_state.proofs.IndexLemmas.{found_at, one_serial, unfound_past}
-use Rattle.gh_state.proofs.Leaving.{Leaves, home_elsewhere, leaves_below, leaves_within}
+use Rattle.gh_state.proofs.Leaving.{Leaves, home_elsewhere, leaves_within}
 use Rattle.gh_state.proofs.LeavingHome.{home_other}
-use Rattle.gh_state.proofs.Living.{There, index_below, object_some}
+use Rattle.gh_state.proofs.Living.{There, object_some}
 use Rattle.gh_state.proofs.RemovedBlocks.{blocks_left}
 use Rattle.gh_state.proofs.RemovedBodies.{bells_left, kinds_left, queues_left, spaces_left, spans_left}
 use Rattle.gh_state.proofs.RemovedObjects.{objects_now, references_left}

@@ -1,6 +1,5 @@
 -- A live partition's account tells its units, and no other serial has one.
 use Rattle.std.proofs.Common.{◌≡◌, ◌-◌, ◌≤◌, ◌∙◌, ℕ, Bool, true, false, Option, Some, None, refl, sym, ap, arith, find, if◌then◌else◌}
-use Rattle.std.specs.Prelude.{count_by}
 use Rattle.std.specs.Option.{option_map}
 use Rattle.std.proofs.lemmas.Bool.{eqb-true}
 use Rattle.gh_base.specs.declared.kind.Kind.TheVariants as kind

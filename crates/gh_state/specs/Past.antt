@@ -1,5 +1,5 @@
--- The state as callers see it: a boot file, the history since, and how many entries more the log has
--- room for. Its rows are those that the history makes of the boot file's.
+-- The state as callers see it: a boot file, the history since, and how many entries more the log
+-- has room for. Its rows are those that the history makes of the boot file's.
 use Rattle.std.specs.Prelude.{◌-◌, ◌*◌, ◌≤◌, ◌++◌, ◌∷◌, ℕ, List, [], length, map, IsTrue}
 use Rattle.gh_base.specs.declared.limits.TheConstants.{CPUS, CSPACES, CSPACE_SLOTS}
 use Rattle.gh_invariant.specs.Valid.{IsValid}

@@ -1,7 +1,7 @@
 -- The parts without an object: its slots and its account are closed, its units come back to its
 -- partition, and its header goes with all that stands at its index.
-use Rattle.std.specs.Prelude.{◌-◌, ◌≤◌, ℕ, List, Option, None, slice_set}
-use Rattle.std.specs.Option.{option_map, option_map_or}
+use Rattle.std.specs.Prelude.{◌-◌, ◌≤◌, ℕ, Option, None, slice_set}
+use Rattle.std.specs.Option.{option_map_or}
 use Rattle.gh_base.specs.declared.ids.Serial.{Serial}
 use Rattle.gh_model.specs.Changes.{without}
 use Rattle.gh_model.specs.Rows.{change_row}

@@ -2,7 +2,8 @@
 
 ghost use Rattle.std.specs.Prelude.{◌≡◌, ◌<◌, ◌&&◌, [], if◌then◌else◌};
 ghost use Rattle.gh_model.specs.Act.{counted};
-ghost use Rattle.gh_model.specs.History.{is_retired as is_retired_of, is_unretired as is_unretired_of};
+ghost use Rattle.gh_model.specs.History.{is_retired as is_retired_of};
+ghost use Rattle.gh_model.specs.History.{is_unretired as is_unretired_of};
 ghost use Rattle.gh_model.specs.History.{reclaimed, retired};
 ghost use Rattle.gh_model.specs.References.{is_doomed};
 ghost use Rattle.gh_model.specs.Rows.{object_row};

@@ -1,5 +1,4 @@
 -- Pages have gone to the parent alone; fewer of them are left each time.
-use Rattle.std.proofs.Common.{ℕ}
 use Rattle.std.specs.Prelude.{count_by}
 use Rattle.gh_model.specs.Memory.{is_serial}
 use Rattle.gh_state.proofs.ReturnLemmas.{Returning}

@@ -1,5 +1,5 @@
 -- The partition's account alone is another.
-use Rattle.std.proofs.Common.{◌≡◌, ◌∙◌, List, Option, Some, ap, get_or, position, subst, sym}
+use Rattle.std.proofs.Common.{◌≡◌, List, Option, Some, ap, get_or, position, subst, sym}
 use Rattle.std.specs.Prelude.{IfSome}
 use Rattle.gh_model.proofs.RowLemmas.{row_changed}
 use Rattle.gh_state.specs.Reclaims.{HasUnits, freeing}

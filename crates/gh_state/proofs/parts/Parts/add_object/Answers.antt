@@ -1,5 +1,4 @@
 -- The partition's reference and units are taken, and then the object is entered.
-use Rattle.std.proofs.Common.{sym}
 use Rattle.gh_state.proofs.StandsAdded.{adding_counts, adding_found, adding_index, adding_place, adding_stands}
 use Rattle.gh_state.proofs.parts.Parts.add_object.Goals as goal
 

@@ -1,7 +1,6 @@
 -- The span of an extent line that comes next lies in the machine.
-use Rattle.std.proofs.Common.{◌≤◌, ◌+◌, IsTrue, refl}
+use Rattle.std.proofs.Common.{refl}
 use Rattle.gh_model.proofs.FittingLemmas.{extent_span}
-use Rattle.gh_model.specs.Boot.{line_fits}
 use Rattle.gh_model.specs.declared.boot_line.BootLine.TheVariants.{Extent}
 use Rattle.gh_state.specs.BootLines.{ComesNext}
 use Rattle.gh_state.proofs.BootParts.{held_within}

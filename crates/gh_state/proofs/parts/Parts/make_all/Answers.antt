@@ -1,6 +1,5 @@
 -- Without memory the change of stage is taken back.
-use Rattle.std.proofs.Common.{◌∙◌, Option, ap, subst}
-use Rattle.gh_base.specs.declared.kind.Stage.{Stage}
+use Rattle.std.proofs.Common.{◌∙◌, ap, subst}
 use Rattle.gh_state.specs.MakingAll.{MadeBefore, restored, staged}
 use Rattle.gh_state.specs.Stands.{Stands}
 use Rattle.gh_state.proofs.MakingLemmas.{at_err}

@@ -1,7 +1,6 @@
 -- The next change is made in the state that those before it made.
-use Rattle.std.proofs.Common.{◌≡◌, subst, sym, take}
+use Rattle.std.proofs.Common.{subst, sym, take}
 use Rattle.gh_model.specs.Changes.{changed, changed_all}
-use Rattle.gh_model.specs.declared.state.State.{State}
 use Rattle.gh_state.specs.MakingAll.{MadeBefore}
 use Rattle.gh_state.specs.Stands.{Stands}
 use Rattle.gh_state.specs.declared.parts.Parts.{Parts}
