@@ -20,7 +20,7 @@ const OLD: CapWord = CapWord(VALID + OF_PARTITION + RIGHTS);
 const OWN: CapWord = CapWord(VALID + OF_CSPACE + INDEX + 15 * RIGHTS);
 
 /// The master capability of the partition that the first entry makes.
-const NEW: CapWord = CapWord(VALID + OF_PARTITION + MASTER + 128 * INDEX + 0x101 * RIGHTS + 1);
+const NEW: CapWord = CapWord(VALID + OF_PARTITION + MASTER + 5 * INDEX + 0x101 * RIGHTS + 1);
 
 /// The partition can't be activated before it is configured. The third doorbell finds no unit.
 const ROWS: &[Row] = &[
@@ -31,7 +31,7 @@ const ROWS: &[Row] = &[
     Makes(ONE, (Reads(2), 0, 0)),
     Makes(ONE, (Acts(2), 0, 0)),
     Makes(ONE, (Rests, 1, 1)),
-    Has(LiesAt(Serial(6), ObjIndex(128))),
+    Has(LiesAt(Serial(6), ObjIndex(5))),
     Begins(ONE, [ACTIVATE, 3, 0, 0], (Reads(0), 1, 1)),
     Makes(ONE, (Looked(1), 1, 1)),
     Makes(ONE, (Reads(1), 1, 1)),
@@ -55,7 +55,7 @@ const ROWS: &[Row] = &[
     Makes(ONE, (Reads(2), 3, 4)),
     Makes(ONE, (Acts(2), 3, 4)),
     Makes(ONE, (Rests, 4, 5)),
-    Has(LiesAt(Serial(7), ObjIndex(129))),
+    Has(LiesAt(Serial(7), ObjIndex(128))),
     Begins(ONE, [CREATE, 3, 2, DOORBELL], (Reads(0), 4, 5)),
     Makes(ONE, (Looked(1), 4, 5)),
     Makes(ONE, (Reads(1), 4, 5)),
@@ -63,7 +63,7 @@ const ROWS: &[Row] = &[
     Makes(ONE, (Reads(2), 4, 5)),
     Makes(ONE, (Acts(2), 4, 5)),
     Makes(ONE, (Rests, 5, 6)),
-    Has(LiesAt(Serial(8), ObjIndex(130))),
+    Has(LiesAt(Serial(8), ObjIndex(129))),
     Begins(ONE, [CREATE, 3, 2, DOORBELL], (Reads(0), 5, 6)),
     Makes(ONE, (Looked(1), 5, 6)),
     Makes(ONE, (Reads(1), 5, 6)),
