@@ -13,7 +13,8 @@ use Rattle.worked_items.specs.declared.row.Row.TheVariants.{Begins, Makes, Has}
 -- the frame with these registers x0 to x3, without bytes
 abbrev pub frame_of : List ℕ → Frame
 frame_of x = record {
-  x = slice_index x 0 ∷ slice_index x 1 ∷ slice_index x 2 ∷ slice_index x 3 ∷ 0 ∷ 0 ∷ 0 ∷ 0 ∷ 0 ∷ [];
+  x = slice_index x 0 ∷ slice_index x 1 ∷ slice_index x 2 ∷ slice_index x 3
+      ∷ 0 ∷ 0 ∷ 0 ∷ 0 ∷ 0 ∷ [];
   bytes = [];
 }
 

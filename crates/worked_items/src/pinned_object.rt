@@ -1,5 +1,5 @@
-//! A call that waits for its act holds the object that it was granted, and so a create that wants the
-//! object's unit.
+//! A call that waits for its act holds the object that it was granted, and so a create that wants
+//! the object's unit.
 
 use crate::boots::FULL_PARTITION;
 use crate::entries::Entered::{self, Act, Reclaim, Retire};
@@ -28,8 +28,8 @@ const OTHERS: CapWord = CapWord(VALID + OF_CSPACE + 2 * INDEX + 15 * RIGHTS);
 /// The counters of the doorbell's retirement and of its reclaim: nobody reads.
 const SEEN: [u64; 9] = [0, 6, 2, 0, 0, 0, 0, 0, 0];
 
-/// VM 2 pins the doorbell, VM 1 deletes its capability, and VM 1's create falls short. VM 2's act is
-/// refused, as nothing refers to the doorbell. VM 1's next create retires and reclaims it.
+/// VM 2 pins the doorbell, VM 1 deletes its capability, and VM 1's create falls short. VM 2's act
+/// is refused, as nothing refers to the doorbell. VM 1's next create retires and reclaims it.
 const ROWS: &[Row] = &[
     Begins(TWO, [BELL_SEND, 7, 1, 0], (Reads(0), 0, 0)),
     Makes(TWO, (Looked(1), 0, 0)),

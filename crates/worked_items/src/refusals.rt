@@ -1,4 +1,4 @@
-//! Calls of one VM that are refused at the frame, at a look and at the act, and calls without looks.
+//! Calls of one VM that are refused at the frame, a look and the act, and calls without looks.
 
 use crate::boots::OWN_DOORBELL;
 use crate::entries::Entered::{self, Act};
