@@ -4,8 +4,8 @@ ghost use Rattle.std.specs.Prelude.{◌≡◌, ◌<◌, IfOk, count_by, map, sli
 ghost use Rattle.std.specs.List.{position};
 ghost use Rattle.gh_base.specs.declared.limits.TheConstants.{OBJECT_INDICES};
 ghost use Rattle.gh_events.specs.Config.{object_at};
-ghost use Rattle.gh_schedules.specs.Indices.{boot_index, is_earlier_in, is_earlier_partition};
-ghost use Rattle.gh_schedules.specs.Indices.{is_partition_kind, row_index};
+ghost use Rattle.gh_schedules.specs.Indices.{boot_index, is_earlier_in, row_index};
+ghost use Rattle.gh_schedules.specs.Places.{is_earlier_partition, is_partition_kind};
 ghost use Rattle.gh_words.specs.Booting.{HasIndices, is_number, row_number};
 
 use gh_base::{Kind, NoMemory, PARTITION_PLACES, Sequence, Serial};
