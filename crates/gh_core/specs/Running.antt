@@ -6,7 +6,6 @@ use Rattle.gh_base.specs.declared.ids.Serial.{Serial}
 use Rattle.gh_base.specs.declared.limits.TheConstants.{CPUS, OBJECT_INDICES}
 use Rattle.gh_base.specs.declared.mark.Held.{Held}
 use Rattle.gh_base.specs.declared.mark.Held.TheVariants as held
-use Rattle.gh_model.specs.Boot.{boot_state}
 use Rattle.gh_model.specs.Decide.{judge}
 use Rattle.gh_model.specs.Held.{is_held}
 use Rattle.gh_model.specs.History as history
@@ -20,7 +19,7 @@ use Rattle.gh_model.specs.declared.rows.ObjectRow.{ObjectRow}
 use Rattle.gh_model.specs.declared.state.State.{State}
 use Rattle.gh_events.specs.Config as machine
 use Rattle.gh_events.specs.HolderEvents.{is_done, with_failed, with_turn, without_scans}
-use Rattle.gh_events.specs.Start.{AreIndices, boot_cap, boot_dead, new_cpu, start}
+use Rattle.gh_events.specs.Start.{boot_cap, boot_dead, new_cpu}
 use Rattle.gh_events.specs.CallEvents.{begun, end_of_looks, finished, found, reply_of_looks, with_call, with_end, with_look, without_pin}
 use Rattle.gh_events.specs.Config.{put, references_at}
 use Rattle.gh_core.specs.Tests.{is_at_act, is_before_act}
@@ -145,19 +144,6 @@ stands_for running = record {
   turn = option_map holder_of running.turn;
   cpu = cpus running.seats;
 }
-
--- the begin
-
--- the index of an object of the boot: the number before its serial
-abbrev pub placed : ObjectRow → Written
-placed row = record { at = row.serial.0; value = row.serial.0 - 1 }
-
--- the configuration is that of a boot file before any event, whose objects have indices, each its
--- own
-pub record IsBooted (lines : List BootLine) (conf : machine.Config) : Type 0 where
-  pub index : ℕ → ℕ
-  pub indices : AreIndices (boot_state lines) index
-  pub is : conf ≡ start (boot_state lines) index
 
 -- a slot that a change sets
 abbrev pub slot_of : SlotSet → ℕ × ℕ

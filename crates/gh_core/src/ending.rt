@@ -123,7 +123,8 @@ fn reading(turn: &Turn, serial: Serial, counters: Counters) -> Option<Held>
     }
 }
 
-/// What holds an object: a CPU that was reading at its retirement, or else the pins that a kill saw.
+/// What holds an object: a CPU that was reading at its retirement, or else the pins that a kill
+/// saw.
 fn cause(turn: &Turn, row: &ObjectRow) -> Option<Held>
     ensures { result ≡ cause_of (holder_of turn.now) row.now }
 {

@@ -44,7 +44,8 @@ fn is_next_number(calls: usize, number: u32) -> bool
     number as u128 == calls as u128 + 1 && number <= CALL_NUMBERS
 }
 
-/// Whether the CPU is between calls, has no next call and made no exit call, and the number is next.
+/// Whether the CPU is between calls, has no next call and made no exit call, and the number is
+/// next.
 fn follows(seat: &Seat, number: u32) -> bool
     ensures { result ≡ follows_of number (cpu_of seat.now) }
 {

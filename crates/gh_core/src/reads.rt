@@ -17,7 +17,8 @@ use gh_base::{CapWord, CpuNo, NoMemory, ObjIndex, Serial};
 use gh_model::{Plain, State, StateReads, Word};
 use std::alloc::Global;
 
-/// A count in 64 bits. One beyond them, of more rows than memory has, is answered as want of memory.
+/// A count in 64 bits. One beyond them, of more rows than memory has, is answered as want of
+/// memory.
 pub(crate) fn narrow(count: u128) -> Result<u64, NoMemory>
     ensures { IfOk result (λ narrowed. narrowed ≡ count) }
 {

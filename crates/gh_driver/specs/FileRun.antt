@@ -1,6 +1,6 @@
--- The run of call files by a schedule: each CPU's program makes the lines of its VM's file. The CPUs
--- advance by one item each as the schedule says; then, in rising order, they make one whole call each,
--- round after round.
+-- The run of call files by a schedule: each CPU's program makes the lines of its VM's file. The
+-- CPUs advance by one item each as the schedule says; then, in rising order, they make one whole
+-- call each, round after round.
 use Rattle.std.specs.Prelude.{ℕ, List, map}
 use Rattle.gh_base.specs.declared.ids.CpuNo.{CpuNo}
 use Rattle.gh_base.specs.declared.mark.Mark.{Mark}

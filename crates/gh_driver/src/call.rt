@@ -38,8 +38,8 @@ fn has_call(progress: &Progress, at: usize) -> bool
     }
 }
 
-/// The next item of the CPU's call. A CPU without a call does nothing. So many were made before: they
-/// say from which course it goes on.
+/// The next item of the CPU's call. A CPU without a call does nothing. So many were made before:
+/// they say from which course it goes on.
 fn item<P: Program>(
     run: &mut Running<P>,
     alloc: Global,
@@ -95,8 +95,8 @@ fn begin<P: Program>(
     begin_call(progress, alloc, cpu, frame)
 }
 
-/// A CPU that goes on is advanced by one item: of the call in progress, or else of its program's next
-/// one.
+/// A CPU that goes on is advanced by one item: of the call in progress, or else of its program's
+/// next one.
 fn advance_program<P: Program>(
     progress: &mut Progress,
     alloc: Global,
@@ -146,8 +146,8 @@ pub(crate) fn advance<P: Program>(
     }
 }
 
-/// The turn of a CPU: the call in progress comes to its end, or else it makes one whole call. One that
-/// has ended does nothing.
+/// The turn of a CPU: the call in progress comes to its end, or else it makes one whole call. One
+/// that has ended does nothing.
 pub(crate) fn call<P: Program>(
     run: &mut Running<P>,
     alloc: Global,

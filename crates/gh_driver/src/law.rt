@@ -9,7 +9,8 @@ use gh_base::{CpuNo, Sequence};
 use gh_model::{Boot, Line};
 
 /// The run of a boot file without a resource manager, by whatever schedule, is a legal history,
-/// graced, and each CPU's calls are those of its VM's call file. The function does nothing; its clause is the law.
+/// graced, and each CPU's calls are those of its VM's call file. The function does nothing; its
+/// clause is the law.
 pub fn file_run_is_legal(boot: &Boot, schedule: &[CpuNo], files: &[Sequence<Line>])
     ensures { has_manager boot.now ≡ false
         → IsRun boot.now (file_frames files.now)

@@ -181,9 +181,9 @@ fn run_programs(
     Ok(run)
 }
 
-/// Runs the programs of the call files: the CPUs advance by one item each as the schedule says; then
-/// they make one whole call each in rising order, round after round, until all have ended. Each CPU of
-/// the schedule is one of the boot file.
+/// Runs the programs of the call files: the CPUs advance by one item each as the schedule says;
+/// then they make one whole call each in rising order, round after round, until all have ended.
+/// Each CPU of the schedule is one of the boot file.
 pub fn run_step(
     alloc: Global,
     boot: &Boot,

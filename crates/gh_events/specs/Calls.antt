@@ -1,5 +1,5 @@
--- Sound calls: the finished calls, the looks of those in progress and the entries of the history are
--- legal so far.
+-- Sound calls: the finished calls, the looks of those in progress and the entries of the history
+-- are legal so far.
 use Rattle.std.specs.Prelude.{◌≡◌, ◌≢◌, ◌==◌, ◌&&◌, ◌+◌, ◌*◌, ◌-◌, ◌⊎◌, not, ℕ, Bool, true, false, List, [], ◌∷◌, ◌++◌, length, take, Option, Some, None, Ok, count_by, map, is_some, nat_lt, slice_get, if◌then◌else◌}
 use Rattle.std.specs.List.{last_or, list_any}
 use Rattle.gh_base.specs.declared.mark.End.TheVariants as ends

@@ -51,8 +51,8 @@ pub fn look_keeps_calls()
         → HasCalls (after conf (Look cpu slot)) }
 {}
 
-/// So does a pin of a call, where the references are sound and the present state is valid: on a dead
-/// word, what the look granted is retired behind the look, or killed.
+/// So does a pin of a call, where the references are sound and the present state is valid: on a
+/// dead word, what the look granted is retired behind the look, or killed.
 pub fn pin_keeps_calls()
     ensures { (conf : Config) (cpu : CpuNo) (object : ObjIndex) → HasCalls conf
         → HasReferences conf → HasValid conf → Possible conf (Pin cpu object false)
@@ -83,9 +83,9 @@ pub fn quit_keeps_calls()
         → HasCalls (after conf (Free cpu false)) }
 {}
 
-/// So does a turn that is given back behind its act, with the call's end, where references are sound,
-/// the present state is valid and failed kills saw pins: a call that ends for want of units names what
-/// is without references or retired, each with what holds it.
+/// So does a turn that is given back behind its act, with the call's end, where references are
+/// sound, the present state is valid and failed kills saw pins: a call that ends for want of units
+/// names what is without references or retired, each with what holds it.
 pub fn free_keeps_calls()
     ensures { (conf : Config) (cpu : CpuNo) → HasCalls conf → HasReferences conf → HasValid conf
         → SawPins conf.turn → Possible conf (Free cpu true)
@@ -107,8 +107,8 @@ pub fn words_keep_calls()
 {}
 
 /// So does an entry that sets no slot, where references and grace are sound, the present state is
-/// valid and objects live where they should: an act's entry ends the holder's call, a part waits for
-/// the next entry, and an object that a dead call was granted stays killed or is retired.
+/// valid and objects live where they should: an act's entry ends the holder's call, a part waits
+/// for the next entry, and an object that a dead call was granted stays killed or is retired.
 pub fn commit_keeps_calls()
     ensures { (conf : Config) (cpu : CpuNo) (entry : Entry) → HasCalls conf → HasReferences conf
         → HasGrace conf → HasState conf → HasValid conf → Possible conf (Commit cpu entry)

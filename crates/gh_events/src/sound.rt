@@ -94,8 +94,8 @@ pub fn histories_are_short()
         → length (after_steps (start (boot_state lines) index) steps).history < too_long }
 {}
 
-/// A CPU's last place is never above the history, and never falls: neither by an event, nor by a call
-/// that a CPU is given.
+/// A CPU's last place is never above the history, and never falls: neither by an event, nor by a
+/// call that a CPU is given.
 pub fn last_places_rise()
     ensures within { (conf : Config) (cpu : ℕ) → IsSound conf
         → place_now (conf.cpu cpu) ≤ length conf.history }
@@ -206,11 +206,11 @@ pub fn rest_is_legal()
         → IsLegal conf.boot conf.history (made_by conf) }
 {}
 
-/// And they are graced: what an entry retires or reclaims has no references just before it, every CPU
-/// that was reading at an object's retirement has left when it is reclaimed, and no counter of a CPU
-/// falls from an entry to a later one. Each is above the sections of the calls that were granted what
-/// the entry reclaims and of those that ended before it, and below those of the calls behind one that
-/// saw it.
+/// And they are graced: what an entry retires or reclaims has no references just before it, every
+/// CPU that was reading at an object's retirement has left when it is reclaimed, and no counter of
+/// a CPU falls from an entry to a later one. Each is above the sections of the calls that were
+/// granted what the entry reclaims and of those that ended before it, and below those of the calls
+/// behind one that saw it.
 pub fn rest_is_graced()
     ensures { (conf : Config) → IsSound conf → IsAtRest conf
         → IsGraced conf.boot conf.history (made_by conf) }

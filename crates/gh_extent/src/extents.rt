@@ -284,8 +284,8 @@ impl Extents {
         self.holders.run_at(page.0, most)
     }
 
-    /// Whether the extent holds each page of a run of the machine's pages. It finds the first page's
-    /// run by a binary search.
+    /// Whether the extent holds each page of a run of the machine's pages. It finds the first
+    /// page's run by a binary search.
     pub fn holds_run(&self, extent: Serial, first: u128, count: u128) -> bool
         ensures { result ≡ holds_run self.now.holders extent first count }
     {

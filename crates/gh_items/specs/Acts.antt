@@ -49,7 +49,8 @@ abbrev pub after_judged : Config → ℕ → Config
 after_judged conf at =
     after_all conf (and_then (acting at) (and_then (freeing at) (unpins at)) conf)
 
--- the configuration in which the act is judged: the turn is taken, and the sweep or the parts are made
+-- the configuration in which the act is judged: the turn is taken, and the sweep or the parts are
+-- made
 abbrev pub judged_in : Config → ℕ → Config
 judged_in conf at = after_all conf (and_then (taking at) (preparing at) conf)
 

@@ -1,5 +1,5 @@
--- The index of a new object and the place that it is noted with, as they are searched for: the least
--- number of a range that passes a test.
+-- The index of a new object and the place that it is noted with, as they are searched for: the
+-- least number of a range that passes a test.
 use Rattle.std.specs.Prelude.{ℕ, Bool, List, Option, find, option_map}
 use Rattle.std.specs.List.{range_with_len}
 use Rattle.std.specs.Option.{unwrap_or}

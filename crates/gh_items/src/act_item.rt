@@ -55,8 +55,8 @@ fn end_judged(
     }
 }
 
-/// Behind its parts, the act is judged, and the call ends. It is one that doesn't sweep, and so makes
-/// no object.
+/// Behind its parts, the act is judged, and the call ends. It is one that doesn't sweep, and so
+/// makes no object.
 fn judged_act(
     progress: &mut Progress,
     alloc: Global,

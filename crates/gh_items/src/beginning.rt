@@ -129,8 +129,8 @@ fn no_calls(alloc: Global) -> Result<Sequence<Option<CurrentCall>>, NoMemory>
     Ok(calls)
 }
 
-/// The progress of a run before its first call. Each object of the boot has its index in the block of
-/// its partition.
+/// The progress of a run before its first call. Each object of the boot has its index in the block
+/// of its partition.
 pub fn begin_run(alloc: Global, boot: &Boot) -> Result<Progress, NoMemory>
     ensures stands { IfOk result (λ progress. Stands progress
         (start (boot_state boot.now) (boot_index (boot_state boot.now)))) }

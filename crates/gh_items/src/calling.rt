@@ -56,8 +56,8 @@ fn begin_given(
     }
 }
 
-/// The CPU, which is between calls, is given the call that makes this frame, with its next number, and
-/// makes the call's first item. One whose frame is refused ends with that; one that looks up no
+/// The CPU, which is between calls, is given the call that makes this frame, with its next number,
+/// and makes the call's first item. One whose frame is refused ends with that; one that looks up no
 /// capability makes its act.
 pub fn begin_call(
     progress: &mut Progress,

@@ -16,8 +16,8 @@ use crate::progress::{Progress, seat_of};
 use gh_base::{CpuNo, End, NoMemory, Reply};
 use gh_core::CurrentCall;
 
-/// The call, which was refused or whose pin came too late, leaves its section. That ends it, and its
-/// pins are dropped.
+/// The call, which was refused or whose pin came too late, leaves its section. That ends it, and
+/// its pins are dropped.
 pub(crate) fn leave_ended(
     progress: &mut Progress,
     cpu: CpuNo,

@@ -1,5 +1,6 @@
 -- How headers and counts lie: a bit for each index that is taken, a name for each live object, how
--- many objects of each kind there are, and two lists of serials. No public clause cites this module.
+-- many objects of each kind there are, and two lists of serials. No public clause cites this
+-- module.
 use Rattle.std.specs.Prelude.{◌≡◌, ◌==◌, ℕ, ◌/◌, ◌%◌, ◌<◌}
 use Rattle.std.specs.Prelude.{List, Option, length, is_none, slice_index}
 use Rattle.std.specs.Int.{bit_at}

@@ -128,8 +128,8 @@ module _ {P : Type 0} (answer : P → Option Reply → program.Step)
   IsInterleaving course (step ∷ steps) =
       MayCome course step × IsInterleaving (behind_step course step) steps
 
--- the course is an interleaving of its programs from the start on, and what its steps lead to one by
--- one. Its configuration is steady, and of each CPU's calls it has the marks in order
+-- the course is an interleaving of its programs from the start on, and what its steps lead to one
+-- by one. Its configuration is steady, and of each CPU's calls it has the marks in order
 pub record IsCourse {P : Type 0} (answer : P → Option Reply → program.Step)
     (after : P → Option Reply → P) (begin_conf : Config) (programs : ℕ → P) (course : Course P)
     : Type 0 where

@@ -170,8 +170,8 @@ item_of at conf (Some call) = item_in at conf call call.stage
 unfoldable pub item : Config → ℕ → List Event
 item conf at = item_of at conf (conf.cpu at).current
 
--- a configuration between items: it is sound, each entry that keeps counters keeps nine, objects lie
--- in the blocks of their partitions, and the turn is free
+-- a configuration between items: it is sound, each entry that keeps counters keeps nine, objects
+-- lie in the blocks of their partitions, and the turn is free
 pub record IsSteady (conf : Config) : Type 0 where
   pub sound : IsSound conf
   pub nine : KeepsNine conf.history

@@ -1,6 +1,7 @@
--- Places of partitions. Each of them numbers a block of 128 indices, where the objects of one partition
--- lie; its own index lies in the block of the partition that it lives in. An object is noted with the
--- least place that no partition had as it was made, and a partition has the place that it was noted with.
+-- Places of partitions. Each of them numbers a block of 128 indices, where the objects of one
+-- partition lie; its own index lies in the block of the partition that it lives in. An object is
+-- noted with the least place that no partition had as it was made, and a partition has the place
+-- that it was noted with.
 use Rattle.std.specs.Prelude.{◌==◌, ◌&&◌, not, ℕ, Bool, true, false, List, [], ◌∷◌, Option, Some}
 use Rattle.std.specs.Prelude.{None, count_by, find, nat_lt}
 use Rattle.std.specs.List.{list_any, range_with_len}

@@ -111,8 +111,8 @@ retired_objects s = map serial_of (filter is_retired_row s.objects)
 abbrev pub doomed_objects : State → List Serial
 doomed_objects s = map serial_of (filter (is_doomed_row s) s.objects)
 
--- one round: with the counters scanned once, each object is tried that is retired at its begin; then
--- each is that is without references by then
+-- one round: with the counters scanned once, each object is tried that is retired at its begin;
+-- then each is that is without references by then
 unfoldable pub reclaims_all : ℕ → Config → List Event
 reclaims_all at conf = for_each (reclaiming at) (retired_objects (present conf)) conf
 
@@ -143,8 +143,8 @@ abbrev pub KeepsNine : List history.Event → Type 0
 KeepsNine events = (n : ℕ) (event : history.Event) (seen : List ℕ) → slice_get events n ≡ Some event
     → history.counters event.entry ≡ Some seen → length seen ≡ CPUS
 
--- the CPU has the turn, its call is at its act, and nothing of the act was committed: the holder owes
--- nothing and revived no index, and no object is killed and not retired
+-- the CPU has the turn, its call is at its act, and nothing of the act was committed: the holder
+-- owes nothing and revived no index, and no object is killed and not retired
 pub record HasNotBegun (conf : Config) (at : ℕ) : Type 0 where
   pub holder : Holder
   pub call : Current

@@ -53,10 +53,10 @@ pub fn courses_are_runs<P: Program>()
         (present (course_of P.answer P.after boot programs schedule).conf) }
 {}
 
-/// And so is every interleaving of programs: where CPUs are given their programs' calls in turn, and
-/// possible events come as they may, the configuration is sound, and the marks of each CPU's calls
-/// are in order; and once all is at rest and each CPU of the boot has made its exit call, it is a
-/// run. Until then a CPU between calls may be given its program's next one.
+/// And so is every interleaving of programs: where CPUs are given their programs' calls in turn,
+/// and possible events come as they may, the configuration is sound, and the marks of each CPU's
+/// calls are in order; and once all is at rest and each CPU of the boot has made its exit call, it
+/// is a run. Until then a CPU between calls may be given its program's next one.
 pub fn interleavings_are_runs<P: Program>()
     ensures sound { (boot : List BootLine) (index : ℕ → ℕ) (programs : ℕ → P) (steps : List Step)
         → IsTrue (boot_fits boot) → AreIndices (boot_state boot) index

@@ -39,10 +39,10 @@ pub fn call_items_are_possible()
 {}
 
 /// In a sound configuration whose objects lie in the blocks of their partitions, the holder of the
-/// turn can sweep before its act, and the act may begin behind the sweep. Each object that is retired
-/// or without references then has what holds it: the count that a failed kill saw, or the first CPU
-/// that still has its odd counter of the retirement. These are the counts and the counters that there
-/// are behind the sweep.
+/// turn can sweep before its act, and the act may begin behind the sweep. Each object that is
+/// retired or without references then has what holds it: the count that a failed kill saw, or the
+/// first CPU that still has its odd counter of the retirement. These are the counts and the
+/// counters that there are behind the sweep.
 pub fn sweeps_are_possible()
     ensures possible { (conf : Config) (at : ℕ) → IsSound conf → at < CPUS → HasBlocks conf
         → HasNotBegun conf at → AreDone conf (sweep at conf) }
@@ -61,10 +61,10 @@ pub fn sweeps_are_possible()
         ≡ causes_now (after_all conf (sweep at conf)) }
 {}
 
-/// Where the turn is free, the whole act of a call that is at its act is possible: the turn is taken,
-/// the sweep or the parts are made, the act's entry is committed where the act is done, the turn is
-/// given back with the call's end and the pins are dropped. The CPU is between calls then, and the
-/// turn is free again.
+/// Where the turn is free, the whole act of a call that is at its act is possible: the turn is
+/// taken, the sweep or the parts are made, the act's entry is committed where the act is done, the
+/// turn is given back with the call's end and the pins are dropped. The CPU is between calls then,
+/// and the turn is free again.
 pub fn acts_are_possible()
     ensures possible { (conf : Config) (at : ℕ) (call : Current) → IsSteady conf → at < CPUS
         → ready (conf.cpu at) ≡ Some call → AreDone conf (act at conf) }
@@ -74,8 +74,8 @@ pub fn acts_are_possible()
         → ready (conf.cpu at) ≡ Some call → (after_all conf (act at conf)).turn ≡ None }
 {}
 
-/// So the next item of every CPU is possible in a steady configuration, and leaves a steady one. The
-/// other CPUs are as they were.
+/// So the next item of every CPU is possible in a steady configuration, and leaves a steady one.
+/// The other CPUs are as they were.
 pub fn items_are_possible()
     ensures possible { (conf : Config) (at : ℕ) → IsSteady conf → at < CPUS
         → AreDone conf (item conf at) }
@@ -85,8 +85,8 @@ pub fn items_are_possible()
         → (after_all conf (item conf at)).cpu cpu ≡ conf.cpu cpu }
 {}
 
-/// And it is an item of the CPU's call, where the CPU has one: behind it the call goes on with fewer
-/// items left, or has ended as the last of its finished calls, with its pins dropped.
+/// And it is an item of the CPU's call, where the CPU has one: behind it the call goes on with
+/// fewer items left, or has ended as the last of its finished calls, with its pins dropped.
 pub fn items_are_items()
     ensures { (conf : Config) (at : ℕ) (given : Given) → at < CPUS → IsSteady conf
         → call_of_cpu (conf.cpu at) ≡ Some given → IsItem conf at given (item conf at) }

@@ -1,5 +1,5 @@
-//! Schedules of the machine's events: the items of a call, each a list of events that is possible where
-//! its turn comes, and the runs that programs make.
+//! Schedules of the machine's events: the items of a call, each a list of events that is possible
+//! where its turn comes, and the runs that programs make.
 #![tactic(auto)]
 
 mod course;

@@ -1,4 +1,5 @@
--- The parts with an object more: its header, what stands beside that, and what the journal has of it.
+-- The parts with an object more: its header, what stands beside that, and what the journal has of
+-- it.
 use Rattle.std.specs.Prelude.{◌≡◌, ◌+◌, ◌++◌, ◌∷◌, ℕ, List, [], None, Some, false, IsSomeAnd}
 use Rattle.std.specs.Prelude.{slice_set}
 use Rattle.gh_addrspace.specs.Space.{IsEmptySpace}
@@ -19,8 +20,8 @@ use Rattle.gh_state.specs.declared.journal.Account.{Account}
 use Rattle.gh_state.specs.declared.parts.Parts.{Parts}
 use Rattle.gh_state.specs.declared.slots.Slots.{Slots}
 
--- the body of a new object: a bell's words are those of a new one, a queue has no room, an extent no
--- span and an address space no row
+-- the body of a new object: a bell's words are those of a new one, a queue has no room, an extent
+-- no span and an address space no row
 abbrev pub IsNewBody : Kind → Body → Type 0
 IsNewBody kind.Partition body = body ≡ Nothing
 IsNewBody kind.Cspace body = body ≡ Nothing

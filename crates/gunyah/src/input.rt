@@ -17,8 +17,8 @@ use gh_callfile::{read_calls, read_schedule};
 use gh_model::{Boot, BootLine, FileErr, Line};
 use std::alloc::Global;
 
-/// What the files of a step hold: a boot file, a schedule of its CPUs, and for each VM of it from the
-/// first on the lines of its call file. A VM behind the last file has none.
+/// What the files of a step hold: a boot file, a schedule of its CPUs, and for each VM of it from
+/// the first on the lines of its call file. A VM behind the last file has none.
 #[derive(Drop)]
 pub struct StepInput {
     pub boot: Boot,

@@ -112,8 +112,8 @@ fn a_put_that_fails_is_told_and_leaves_a_front_part(rt: HostRuntime) -> Result<(
     Ok(())
 }
 
-/// Whether these words end so and nothing is written, after just these files were asked for, each with
-/// its limit and one byte more. There are the files of `step`, and one of a byte too many.
+/// Whether these words end so and nothing is written, after just these files were asked for, each
+/// with its limit and one byte more. There are the files of `step`, and one of a byte too many.
 fn asks<R: Threads + Wait + Sync>(
     rt: &R,
     alloc: Global,

@@ -1,5 +1,5 @@
-//! Calls of every kind on the slow machine: the parts of a revoke, and a long walk after each call of
-//! which all sums are taken anew.
+//! Calls of every kind on the slow machine: the parts of a revoke, and a long walk after each call
+//! of which all sums are taken anew.
 #![tactic(auto)]
 
 #[cfg(test)]

@@ -17,7 +17,8 @@ pub(crate) enum Ended {
     Entry(u32),
 }
 
-/// A finished call: its section, its first and second look, its end, and the registers of its reply.
+/// A finished call: its section, its first and second look, its end, and the registers of its
+/// reply.
 pub(crate) type Line = (u64, Seen, Seen, Ended, [u64; 4]);
 
 fn seen(looks: &[Look], at: usize) -> Seen {

@@ -1,5 +1,5 @@
-//! A VM copies its capability of a doorbell, and the doorbell's other capabilities are revoked, part
-//! by part, between the looks and the act of its next copy.
+//! A VM copies its capability of a doorbell, and the doorbell's other capabilities are revoked,
+//! part by part, between the looks and the act of its next copy.
 
 use crate::boots::SHARED_DOORBELL;
 use crate::entries::Entered::{self, Act, Part};

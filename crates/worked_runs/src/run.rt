@@ -1,4 +1,5 @@
-//! Runs under `step`: boot files with call files, the history text that is written, and the replies.
+//! Runs under `step`: boot files with call files, the history text that is written, and the
+//! replies.
 
 use gh_base::{CALL_FILE_CALLS, Sequence};
 use gh_bootfile::read_boot;
