@@ -1,0 +1,70 @@
+-- The log with an entry more is that of the rows behind the entry.
+use Rattle.std.proofs.Common.{◌≡◌, ◌∙◌, ◌∷◌, ◌++◌, [], Bool, true, false, List, map, refl, sym, ap, subst, if◌then◌else◌}
+use Rattle.std.proofs.lemmas.List.{map-append}
+use Rattle.std.proofs.lemmas.List.Sums.{fold-append}
+use Rattle.gh_invariant.specs.Valid.{IsValid}
+use Rattle.gh_model.specs.Boot.{boot_state}
+use Rattle.gh_model.specs.History.{Event, after_event, replay}
+use Rattle.gh_model.specs.Small.{IsKept}
+use Rattle.gh_model.specs.declared.boot_line.BootLine.{BootLine}
+use Rattle.gh_model.specs.declared.state.State.{State}
+use Rattle.gh_parts.specs.Entries.{Entries, with_logged}
+use Rattle.gh_parts.specs.Past.{HasFewSeats, IsPresent, event_of, past_of, rows_of, with_event}
+use Rattle.gh_parts.specs.Stands.{Stands}
+use Rattle.gh_parts.specs.declared.log.Logged.{Logged}
+use Rattle.gh_parts.specs.declared.parts.Parts.{Parts}
+
+-- the CPUs and links are few behind an entry, allowed or not
+pub if_seats : (after other : State) (test : Bool) → HasFewSeats after → HasFewSeats other
+    → HasFewSeats (if test then after else other)
+if_seats after other true few also = few
+if_seats after other false few also = also
+
+events_more : (logged : List Logged) (more : Logged)
+    → map event_of (logged ++ more ∷ []) ≡ map event_of logged ++ event_of more ∷ []
+events_more logged more = map-append event_of logged (more ∷ [])
+
+-- what is seen has one event more
+pub logged_past : (boot : List BootLine) (log : Entries) (logged : Logged) (may : Bool)
+    → past_of boot (if may then with_logged logged log else log)
+    ≡ (if may then with_event (event_of logged) (past_of boot log) else past_of boot log)
+logged_past boot log logged true =
+    ap (λ (events : List Event). record (past_of boot (with_logged logged log)) { history = events })
+    (events_more log.logged logged)
+logged_past boot log logged false = refl
+
+module _ (boot : List BootLine) (log : Entries) (before parts : Parts) (logged : Logged)
+    (present : IsPresent (past_of boot log) before) (valid : IsValid (after_event (rows_of (past_of boot log)) (event_of logged)))
+    (kept : IsKept (after_event (rows_of (past_of boot log)) (event_of logged)))
+    (seats : HasFewSeats (after_event (rows_of (past_of boot log)) (event_of logged))) where
+  grown : after_event (rows_of (past_of boot log)) (event_of logged) ≡ rows_of (past_of boot (with_logged logged log))
+  grown =
+      sym (ap (replay (boot_state boot)) (events_more log.logged logged)
+      ∙ fold-append after_event (boot_state boot) (map event_of log.logged) (event_of logged ∷ []))
+
+  present_by : (may : Bool)
+      → Stands parts (if may then after_event (rows_of (past_of boot log)) (event_of logged) else rows_of (past_of boot log))
+      → IsPresent (past_of boot (if may then with_logged logged log else log)) parts
+  present_by true stands = record {
+    boot = present.boot;
+    stands = subst (λ (s : State). Stands parts s) grown stands;
+    valid = subst (λ (s : State). IsValid s) grown valid;
+    kept = subst (λ (s : State). IsKept s) grown kept;
+    seats = subst (λ (s : State). HasFewSeats s) grown seats;
+  }
+  present_by false stands = record {
+    boot = present.boot;
+    stands = stands;
+    valid = present.valid;
+    kept = present.kept;
+    seats = present.seats;
+  }
+
+  -- the parts are those of the rows by now
+  pub present_after : (now_boot : List BootLine) (now : Entries) (may : Bool) → now_boot ≡ boot
+      → now ≡ (if may then with_logged logged log else log)
+      → Stands parts (if may then after_event (rows_of (past_of boot log)) (event_of logged) else rows_of (past_of boot log))
+      → IsPresent (past_of now_boot now) parts
+  present_after now_boot now may same is stands =
+      subst (λ (one : List BootLine). IsPresent (past_of one now) parts) (sym same)
+      (subst (λ (entries : Entries). IsPresent (past_of boot entries) parts) (sym is) (present_by may stands))

@@ -1,0 +1,16 @@
+-- The object's count is changed.
+use Rattle.std.proofs.Common.{ℕ, ◌≤◌, sym}
+use Rattle.gh_objects.specs.Counts.{without_reference}
+use Rattle.gh_parts.proofs.StandsOwed.{count_found, found_recounted, unfound_recounted}
+use Rattle.gh_parts.proofs.parts.Parts.settle.Goals as goal
+
+pub lower-requires-clause-some : goal.lower-requires-clause-some
+lower-requires-clause-some c =
+    count_found c.args.self.now c.args.object.0 c.in-Some.index (λ (n : ℕ). 1 ≤ n) c.requires c.in-Some.ensures.found
+
+pub returns-in-Some : goal.returns-in-Some
+returns-in-Some c =
+    sym (found_recounted c.args.self.now c.args.object.0 without_reference c.in-Some.index _ c.in-Some.ensures.found c.lower.ensures)
+
+pub returns-in_default : goal.returns-in_default
+returns-in_default c = sym (unfound_recounted c.args.self.now c.args.object.0 without_reference c.requires.bare c.in_default.ensures.found)

@@ -1,0 +1,15 @@
+-- The slots at the place that is found are the capability space's.
+use Rattle.std.proofs.Common.{◌≡◌, ◌∙◌, Some, None, position, ap}
+use Rattle.gh_parts.specs.Slots.{set_at_in, is_home}
+use Rattle.gh_parts.proofs.SlotLemmas.{set_at_home, set_at_none}
+use Rattle.gh_parts.proofs.slots.set_at.Goals as goal
+
+pub returns-in-None : goal.returns-in-None
+returns-in-None c =
+    let none : position (is_home c.args.cspace.0) c.args.all.now ≡ None = cc in
+    set_at_none c.args.all.now c.args.cspace.0 c.args.slot none
+
+pub returns-in-Some : goal.returns-in-Some
+returns-in-Some c =
+    let found : position (is_home c.args.cspace.0) c.args.all.now ≡ Some c.in-Some.at = cc in
+    c.set_at.ensures ∙ ap (set_at_in c.args.slot) c.index-all-at.is ∙ set_at_home c.args.all.now c.args.cspace.0 c.args.slot c.in-Some.at c.index-all-at.result found

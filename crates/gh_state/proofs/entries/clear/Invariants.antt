@@ -1,6 +1,0 @@
--- One less is taken each time.
-use Rattle.std.proofs.Common.{length}
-use Rattle.gh_state.proofs.entries.clear.Given as goal
-
-abbrev pub decreases-loop : goal.decreases-loop
-decreases-loop l = length l.taken

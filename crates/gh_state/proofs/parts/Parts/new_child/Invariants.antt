@@ -1,8 +1,0 @@
--- The rows are those that the parts stand for.
-use Rattle.gh_state.proofs.parts.Parts.new_child.Given as goal
-
-abbrev pub ghost-boot_object : goal.ghost-boot_object
-ghost-boot_object g a = g.s
-
-abbrev pub ghost-child_span : goal.ghost-child_span
-ghost-child_span g a = g.s

@@ -1,5 +1,0 @@
--- The rows are those that the parts stand for.
-use Rattle.gh_state.proofs.parts.Parts.new_manager.Given as goal
-
-abbrev pub ghost-plain_capability : goal.ghost-plain_capability
-ghost-plain_capability g a = g.s

@@ -1,5 +1,0 @@
--- The rows are those that the parts stand for.
-use Rattle.gh_state.proofs.present.Present.reclaim.Given as goal
-
-abbrev pub ghost-reclaim_retired : goal.ghost-reclaim_retired
-ghost-reclaim_retired g a = g.s

@@ -1,8 +1,0 @@
--- The shares so far have changed.
-use Rattle.std.proofs.Common.{[]}
-use Rattle.gh_state.specs.PageMoves.{Follows, ShareChanges}
-use Rattle.gh_state.proofs.Pointwise.{ChangedTo}
-use Rattle.gh_state.proofs.shares.follow_shares.Given as goal
-
-abbrev pub invariant-loop-at : goal.invariant-loop-at
-invariant-loop-at l = ChangedTo (ShareChanges (Follows l.fn.from.0 l.fn.to l.fn.first l.fn.count)) [] l.fn.shares l.shares l.at

@@ -1,6 +1,0 @@
--- The rows are those of the boot file and the log.
-use Rattle.gh_state.specs.Past.{past_of, rows_of}
-use Rattle.gh_state.proofs.state.State.reclaim.Given as goal
-
-abbrev pub ghost-reclaim : goal.ghost-reclaim
-ghost-reclaim a = rows_of (past_of a.self.now.boot a.self.now.log)

@@ -1,6 +1,0 @@
--- The rows are those of the boot file and the log.
-use Rattle.gh_state.specs.Past.{past_of, rows_of}
-use Rattle.gh_state.proofs.state.State.retire.Given as goal
-
-abbrev pub ghost-retire : goal.ghost-retire
-ghost-retire a = rows_of (past_of a.self.now.boot a.self.now.log)
