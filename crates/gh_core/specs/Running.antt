@@ -6,6 +6,7 @@ use Rattle.gh_base.specs.declared.ids.Serial.{Serial}
 use Rattle.gh_base.specs.declared.limits.TheConstants.{CPUS, OBJECT_INDICES}
 use Rattle.gh_base.specs.declared.mark.Held.{Held}
 use Rattle.gh_base.specs.declared.mark.Held.TheVariants as held
+use Rattle.gh_model.specs.Boot.{boot_state}
 use Rattle.gh_model.specs.Decide.{judge}
 use Rattle.gh_model.specs.Held.{is_held}
 use Rattle.gh_model.specs.History as history
