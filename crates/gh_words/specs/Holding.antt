@@ -53,10 +53,11 @@ pub record HasScans (conf : Config) (seen : List ℕ) : Type 0 where
   pub scans : AreScans holder seen
 
 -- all scans were made, and give these counters
-abbrev pub ScansAll : (Config → Type 0) → (Config → Type 0) → List ℕ → Type 0
-ScansAll before behind seen = (conf : Config) (cpu : CpuNo) → before conf
+abbrev pub ScansAll : (List Event → Type 0) → (Config → Type 0) → (Config → Type 0) → List ℕ
+    → Type 0
+ScansAll between before behind seen = (conf : Config) (cpu : CpuNo) → before conf
     → Possible conf (scan_first cpu)
-    → MovedAll (λ later. behind later × HasScans later seen) conf (scanning cpu)
+    → MovedAll between (λ later. behind later × HasScans later seen) conf (scanning cpu)
 
 -- this is the number of rings of a history that is shown
 pub record IsRung (shown : Config → Type 0) (rings : ℕ) : Type 0 where

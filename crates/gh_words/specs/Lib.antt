@@ -1,6 +1,7 @@
 pub mod Booting
 pub mod Calls
 pub mod Holding
+pub mod Interleaved
 pub mod Kept
 pub mod Moved
 pub mod Shows

@@ -17,16 +17,17 @@ ghost use Rattle.gh_words.specs.declared.plain_words.PlainWords.{PlainWords};
 use crate::words::Words;
 
 /// A step before which no other CPU makes one is the event: it was possible, and the words show the
-/// configuration behind it. And such an event is such a step.
+/// configuration behind it. And such an event is such a step, where others may also make none.
 pub fn lone_steps_are_events<W: Words>()
     ensures possible { (words : W) (conf : Config) (event : Event)
-        (moved : Moved (λ _. ⊤) (W.shows words) conf event) → moved.others ≡ []
-        → Possible conf event }
+        (moved : Moved W.between (λ _. ⊤) (W.shows words) conf event)
+        → moved.others ≡ [] → Possible conf event }
     ensures shown { (words : W) (conf : Config) (event : Event)
-        (moved : Moved (λ _. ⊤) (W.shows words) conf event) → moved.others ≡ []
-        → W.shows words (after conf event) }
+        (moved : Moved W.between (λ _. ⊤) (W.shows words) conf event)
+        → moved.others ≡ [] → W.shows words (after conf event) }
     ensures made { (words : W) (conf : Config) (event : Event) → Possible conf event
-        → W.shows words (after conf event) → Moved (λ _. ⊤) (W.shows words) conf event }
+        → W.between [] → W.shows words (after conf event)
+        → Moved W.between (λ _. ⊤) (W.shows words) conf event }
 {}
 
 /// A call that a CPU is given leaves the configuration shown.
