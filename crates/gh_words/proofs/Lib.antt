@@ -1,4 +1,5 @@
 pub mod Alone
+pub mod InterleavedAlone
 pub mod BootLemmas
 pub mod BootShown
 pub mod CallShown

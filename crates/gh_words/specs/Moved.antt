@@ -70,3 +70,7 @@ Makes between before behind event = MakesFinding between before behind event (λ
 -- no other CPU makes an event between
 abbrev pub IsAlone : List Event → Type 0
 IsAlone others = others ≡ []
+
+-- and no other may come between
+abbrev pub OnlyAlone : (List Event → Type 0) → Type 0
+OnlyAlone between = (others : List Event) → between others → IsAlone others

@@ -9,8 +9,12 @@ ghost use Rattle.gh_events.specs.Grace.{AreAtMost};
 ghost use Rattle.gh_events.specs.Sound.{IsSound};
 ghost use Rattle.gh_events.specs.Start.{MayGive, given};
 ghost use Rattle.gh_events.specs.declared.event.Event.{Event};
+ghost use Rattle.gh_schedules.specs.Items.{acting, preparing};
+ghost use Rattle.gh_schedules.specs.Sweep.{sweep};
+ghost use Rattle.gh_schedules.specs.Trace.{AreDone, after_all, and_then};
 ghost use Rattle.gh_words.specs.Holding.{HasScans};
-ghost use Rattle.gh_words.specs.Moved.{Moved};
+ghost use Rattle.gh_words.specs.Interleaved.{Acts, Sweeps};
+ghost use Rattle.gh_words.specs.Moved.{Moved, OnlyAlone};
 ghost use Rattle.gh_words.specs.Shows.{Shows};
 ghost use Rattle.gh_words.specs.declared.plain_words.PlainWords.{PlainWords};
 
@@ -43,4 +47,21 @@ pub fn scans_are_latest()
     ensures { (conf : Config) (seen : List ℕ) (cpu counter : ℕ) → IsSound conf
         → HasScans conf seen → cpu < CPUS → slice_get seen cpu ≡ Some counter
         → AreAtMost conf.history cpu counter }
+{}
+
+/// Where no other CPU may make an event between, the sweep and the act are the plans of their CPU
+/// alone: each event is possible where it comes, and the words that are said to show what comes
+/// behind show the configuration that the plan leads to.
+pub fn lone_acts_are_planned<W: Words>()
+    ensures swept { (words : W) (at : ℕ) (conf : Config) → OnlyAlone W.between
+        → Sweeps W.between at (W.shows words) conf
+        → W.shows words (after_all conf (sweep at conf)) }
+    ensures possible { (words : W) (at : ℕ) (conf : Config) → OnlyAlone W.between
+        → Sweeps W.between at (W.shows words) conf → AreDone conf (sweep at conf) }
+    ensures acted { (words : W) (at : ℕ) (conf : Config) → OnlyAlone W.between
+        → Acts W.between at (W.shows words) conf
+        → W.shows words (after_all conf (and_then (preparing at) (acting at) conf)) }
+    ensures done { (words : W) (at : ℕ) (conf : Config) → OnlyAlone W.between
+        → Acts W.between at (W.shows words) conf
+        → AreDone conf (and_then (preparing at) (acting at) conf) }
 {}
