@@ -1,5 +1,6 @@
 pub mod Alone
 pub mod InterleavedAlone
+pub mod InterleavedSteps
 pub mod BootLemmas
 pub mod BootShown
 pub mod CallShown

@@ -5,5 +5,6 @@ pub mod Interleaved
 pub mod Kept
 pub mod Moved
 pub mod Shows
+pub mod Steps
 pub mod Tables
 pub mod Turns

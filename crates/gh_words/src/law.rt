@@ -16,6 +16,7 @@ ghost use Rattle.gh_words.specs.Holding.{HasScans};
 ghost use Rattle.gh_words.specs.Interleaved.{Acts, Sweeps};
 ghost use Rattle.gh_words.specs.Moved.{Moved, OnlyAlone};
 ghost use Rattle.gh_words.specs.Shows.{Shows};
+ghost use Rattle.gh_words.specs.Steps.{LeadsBySteps};
 ghost use Rattle.gh_words.specs.declared.plain_words.PlainWords.{PlainWords};
 
 use crate::words::Words;
@@ -64,4 +65,15 @@ pub fn lone_acts_are_planned<W: Words>()
     ensures done { (words : W) (at : ℕ) (conf : Config) → OnlyAlone W.between
         → Acts W.between at (W.shows words) conf
         → AreDone conf (and_then (preparing at) (acting at) conf) }
+{}
+
+/// While others move, the sweep and the act are a list of events: steps of the holder, each behind
+/// events of other CPUs that may come between. Each event is possible where it comes.
+pub fn acts_are_steps<W: Words>()
+    ensures swept { (words : W) (at : ℕ) (conf : Config)
+        → Sweeps W.between at (W.shows words) conf
+        → LeadsBySteps W.between at (W.shows words) conf }
+    ensures acted { (words : W) (at : ℕ) (conf : Config)
+        → Acts W.between at (W.shows words) conf
+        → LeadsBySteps W.between at (W.shows words) conf }
 {}

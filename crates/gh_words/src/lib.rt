@@ -16,7 +16,8 @@ mod words;
 
 pub use calls::Dead;
 pub use law::{
-    given_calls_stay_shown, lone_acts_are_planned, lone_steps_are_events, scans_are_latest,
+    acts_are_steps, given_calls_stay_shown, lone_acts_are_planned, lone_steps_are_events,
+    scans_are_latest,
 };
 pub use log::Log;
 pub use plain_words::{CAP_WORDS, PlainWords, ReferenceWord, SLOT_WORDS, Turn};

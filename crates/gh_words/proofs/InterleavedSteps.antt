@@ -1,0 +1,229 @@
+-- What is said of the sweep, the parts and the act while other CPUs move is said of lists of events.
+use Rattle.std.proofs.Common.{◌≡◌, ◌+◌, ◌*◌, ◌++◌, ℕ, zero, suc, Bool, true, false, List, [], ◌∷◌, filter, flat_map, length, map, refl, subst, sym, Option, Some, None, nat_lt, if◌then◌else◌}
+use Rattle.std.specs.List.{AllByRecursion, list_all}
+use Rattle.std.proofs.lemmas.List.Elements.{All-cons, All-nil}
+use Rattle.gh_base.specs.declared.ids.CpuNo.{CpuNo}
+use Rattle.gh_base.specs.declared.ids.Serial.{Serial}
+use Rattle.gh_events.specs.Config.{Config, Current, entries, judged, present}
+use Rattle.gh_events.specs.Entries.{logged, next_state, slot_set}
+use Rattle.gh_events.specs.HolderEvents.{is_done}
+use Rattle.gh_events.specs.declared.event.Event.{Event}
+use Rattle.gh_invariant.specs.Effects.{gained, lost}
+use Rattle.gh_invariant.specs.Events.{changes_of}
+use Rattle.gh_model.specs.Legal.{is_revoke}
+use Rattle.gh_model.specs.declared.change.Change.{Change}
+use Rattle.gh_model.specs.declared.entry.Entry.{Entry}
+use Rattle.gh_model.specs.declared.rows.CapabilityRow.{CapabilityRow}
+use Rattle.gh_model.specs.declared.rows.ObjectRow.{ObjectRow}
+use Rattle.gh_model.specs.declared.state.State.{State}
+use Rattle.gh_schedules.specs.Committing.{commits, commits_of, committing, cpu_no, entry_event, gains_owed, is_made, owe, revives, settle, with_new}
+use Rattle.gh_schedules.specs.Items.{acting, acts, goes_on, next_part, object_revoked, part, part_at, part_by, part_of, parts, plain_caps, sweeps}
+use Rattle.gh_schedules.specs.Places.{added, places_of}
+use Rattle.gh_schedules.specs.Sweep.{all_cpus, counters, doomed_objects, kill, may_kill, may_reclaim, reclaiming, reclaims_all, retired_now, retired_objects, scan, scans}
+use Rattle.gh_schedules.specs.Trace.{AreDone, after_all, and_then, for_each}
+use Rattle.gh_words.specs.Interleaved.{Acts, IfTrue, Kills, Prepares, Retires, Round, Rounds, Sweeps, TriesKills}
+use Rattle.gh_words.specs.Moved.{Moved, MovedAll, is_other, made_on}
+use Rattle.gh_words.specs.Steps.{IsStepOf, LeadsBySteps, Step, events_of}
+use Rattle.gh_schedules.proofs.TraceLaws.{after_append, done_append}
+
+-- plans whose events are all of one CPU
+
+module _ (at : ℕ) where
+  abbrev AreOwn : List Event → Type 0
+  AreOwn events = AllByRecursion (λ (event : Event). made_on event ≡ cpu_no at) events
+
+  abbrev IsOwn : (Config → List Event) → Type 0
+  IsOwn plan = (conf : Config) → AreOwn (plan conf)
+
+  joined : (events more : List Event) → AreOwn events → AreOwn more → AreOwn (events ++ more)
+  joined [] more own also = also
+  joined (event ∷ events) more own also = (own.0, joined events more own.1 also)
+
+  mapped : {X : Type 0} (event : X → Event) → ((x : X) → made_on (event x) ≡ cpu_no at) → (xs : List X) → AreOwn (map event xs)
+  mapped event is [] = tt
+  mapped event is (x ∷ xs) = (is x, mapped event is xs)
+
+  then_own : (first second : Config → List Event) → IsOwn first → IsOwn second → IsOwn (and_then first second)
+  unfolding and_then
+  then_own first second own also conf = joined (first conf) (second (after_all conf (first conf))) (own conf) (also (after_all conf (first conf)))
+
+  each_own : {X : Type 0} (plan : X → Config → List Event) → ((x : X) → IsOwn (plan x)) → (xs : List X) → IsOwn (for_each plan xs)
+  unfolding for_each
+  each_own plan own [] conf = tt
+  each_own plan own (x ∷ xs) conf = then_own (plan x) (for_each plan xs) (own x) (each_own plan own xs) conf
+
+  by_test : (test : Bool) (events : List Event) → AreOwn events → AreOwn (if test then events else [])
+  by_test true events own = own
+  by_test false events own = tt
+
+  -- an entry
+  revives_own : (s : State) (places index : ℕ → ℕ) (gains : List Serial) (row : Option ObjectRow) → AreOwn (revives at s places index gains row)
+  revives_own s places index gains None = tt
+  revives_own s places index gains (Some row) = (refl, tt)
+
+  entry_own : (entry : Entry) (new : State) (index later : ℕ → ℕ) (place : Option (ℕ × ℕ))
+      → made_on (entry_event at entry new index later place) ≡ cpu_no at
+  entry_own entry new index later None = refl
+  entry_own entry new index later (Some place) = refl
+
+  commits_own : (entry : Entry) (s new : State) (places index : ℕ → ℕ) (changes : List Change) → AreOwn (commits at entry s new places index changes)
+  commits_own entry s new places index changes =
+      joined (gains_owed at s index (gained s changes)) _ (mapped (owe at index) (λ serial. refl) (filter (is_made s.next_serial) (gained s changes)))
+      (joined (revives at s places index (gained s changes) (added changes)) _ (revives_own s places index (gained s changes) (added changes)) (
+        entry_own entry new index (with_new s places index (added changes)) (slot_set changes),
+        mapped (settle at index) (λ serial. refl) (lost s changes),
+      ))
+
+  commits_by : (entry : Entry) (conf : Config) (call : Option Current) → AreOwn (commits_of at entry conf call)
+  commits_by entry conf None = tt
+  commits_by entry conf (Some call) =
+      commits_own entry (present conf) (next_state conf call entry) (places_of conf) conf.index (changes_of (present conf) (logged entry call))
+
+  committing_own : (entry : Entry) → IsOwn (committing at entry)
+  unfolding committing
+  committing_own entry conf = commits_by entry conf (conf.cpu at).current
+
+  -- the steps of a sweep
+  scans_own : IsOwn (scans at)
+  unfolding scans
+  scans_own conf = mapped (scan at) (λ of. refl) all_cpus
+
+  reclaiming_own : (serial : Serial) → IsOwn (reclaiming at serial)
+  unfolding reclaiming
+  reclaiming_own serial conf = by_test (may_reclaim (present conf) serial (counters conf)) _ (committing_own _ conf)
+
+  retired_own : (serial : Serial) → IsOwn (retired_now at serial)
+  unfolding retired_now
+  retired_own serial conf = committing_own _ conf
+
+  reclaims_own : IsOwn (reclaims_all at)
+  unfolding reclaims_all
+  reclaims_own conf = each_own (reclaiming at) reclaiming_own (retired_objects (present conf)) conf
+
+  -- the parts and the act
+  part_there : (conf : Config) (call : Current) (row : Option CapabilityRow) → AreOwn (part_at at conf call row)
+  part_there conf call None = tt
+  part_there conf call (Some row) = committing_own (part_of at call row) conf
+
+  part_owned : (conf : Config) (call : Option Current) → AreOwn (part_by at conf call)
+  part_owned conf None = tt
+  part_owned conf (Some call) =
+      by_test (goes_on (judged (present conf) at call)) _ (part_there conf call (next_part (present conf) (object_revoked call)))
+
+  part_own : IsOwn (part at)
+  unfolding part
+  part_own conf = part_owned conf (conf.cpu at).current
+
+  parts_own : (most : ℕ) → IsOwn (parts at most)
+  unfolding parts
+  parts_own zero conf = tt
+  parts_own (suc more) conf = then_own (part at) (parts at more) part_own (parts_own more) conf
+
+  acts_own : (conf : Config) (call : Option Current) → AreOwn (acts at conf call)
+  acts_own conf None = tt
+  acts_own conf (Some call) = by_test (is_done (judged (present conf) at call)) _ (committing_own _ conf)
+
+  acting_own : IsOwn (acting at)
+  unfolding acting
+  acting_own conf = acts_own conf (conf.cpu at).current
+
+-- one step, and others behind it
+module _ (between : List Event → Type 0) (at : ℕ) (so : Config → Type 0) where
+  abbrev BySteps : Config → Type 0
+  BySteps = LeadsBySteps between at so
+
+  no_step : (conf : Config) → so conf → BySteps conf
+  no_step conf here = record { steps = []; each = All-nil (IsStepOf between at); done = tt; leaves = here }
+
+  more_steps : (conf : Config) (step : Step) → IsStepOf between at step → AreDone conf (events_of step)
+      → BySteps (after_all conf (events_of step)) → BySteps conf
+  more_steps conf step is done rest = record {
+    steps = step ∷ rest.steps;
+    each = All-cons (IsStepOf between at) step rest.steps is rest.each;
+    done = done_append conf (events_of step) (flat_map events_of rest.steps) done rest.done;
+    leaves = subst so (sym (after_append conf (events_of step) (flat_map events_of rest.steps))) rest.leaves;
+  }
+
+  one_step : (found behind : Config → Type 0) (conf : Config) (event : Event) → made_on event ≡ cpu_no at
+      → Moved between found behind conf event → ((later : Config) → behind later → BySteps later) → BySteps conf
+  one_step found behind conf event own moved on =
+      more_steps conf (record { others = moved.others; own = event })
+      (record {
+        allowed = moved.allowed;
+        foreign = subst (λ (cpu : CpuNo). list_all (is_other cpu) moved.others ≡ true) own moved.foreign;
+        is_own = own;
+      })
+      moved.done (on (after_all conf (moved.others ++ event ∷ [])) moved.leaves)
+
+  all_steps : (behind : Config → Type 0) (conf : Config) (events : List Event) → AreOwn at events → MovedAll between behind conf events
+      → ((later : Config) → behind later → BySteps later) → BySteps conf
+  all_steps behind conf [] own moved on = on conf moved
+  all_steps behind conf (event ∷ events) own moved on =
+      one_step (λ _. Unit {0}) (λ (later : Config). MovedAll between behind later events) conf event own.0 moved
+      (λ later more. all_steps behind later events own.1 more on)
+
+  by_either : (test : Bool) (on_true on_false : Type 0) (conf : Config) → (on_true → BySteps conf) → (on_false → BySteps conf)
+      → IfTrue test on_true on_false → BySteps conf
+  by_either true on_true on_false conf on off holds = on holds
+  by_either false on_true on_false conf on off holds = off holds
+
+  retires_steps : (serial : Serial) (behind : Config → Type 0) → ((later : Config) → behind later → BySteps later)
+      → (conf : Config) → Retires between at serial behind conf → BySteps conf
+  retires_steps serial behind on conf moved =
+      all_steps _ conf (scans at conf) (scans_own at conf) moved
+      (λ later moved. all_steps _ later (retired_now at serial later) (retired_own at serial later) moved
+      (λ later moved. all_steps _ later (scans at later) (scans_own at later) moved
+      (λ later moved. all_steps behind later (reclaiming at serial later) (reclaiming_own at serial later) moved on)))
+
+  kills_steps : (serial : Serial) (behind : Config → Type 0) → ((later : Config) → behind later → BySteps later)
+      → (conf : Config) → Kills between at serial behind conf → BySteps conf
+  kills_steps serial behind on conf moved =
+      one_step (λ _. Unit {0}) _ conf (kill at conf.index serial) refl moved
+      (λ later. by_either (later.dead (conf.index serial.0)) _ _ later (retires_steps serial behind on later) (on later))
+
+  tries_steps : (serials : List Serial) (behind : Config → Type 0) → ((later : Config) → behind later → BySteps later)
+      → (conf : Config) → TriesKills between at serials behind conf → BySteps conf
+  tries_steps [] behind on conf moved = on conf moved
+  tries_steps (serial ∷ serials) behind on conf moved =
+      by_either (may_kill (present conf) serial) _ _ conf
+      (kills_steps serial (TriesKills between at serials behind) (tries_steps serials behind on) conf)
+      (tries_steps serials behind on conf) moved
+
+  round_steps : (behind : Config → Type 0) → ((later : Config) → behind later → BySteps later)
+      → (conf : Config) → Round between at behind conf → BySteps conf
+  round_steps behind on conf moved =
+      all_steps _ conf (scans at conf) (scans_own at conf) moved
+      (λ later moved. all_steps _ later (reclaims_all at later) (reclaims_own at later) moved
+      (λ later moved. tries_steps (doomed_objects (present later)) behind on later moved))
+
+  rounds_steps : (most : ℕ) (behind : Config → Type 0) → ((later : Config) → behind later → BySteps later)
+      → (conf : Config) → Rounds between at most behind conf → BySteps conf
+  rounds_steps zero behind on conf moved = on conf moved
+  rounds_steps (suc more) behind on conf moved =
+      round_steps _ (λ later. by_either (nat_lt (entries conf) (entries later)) _ _ later (rounds_steps more behind on later) (on later)) conf moved
+
+  sweeps_steps : (behind : Config → Type 0) → ((later : Config) → behind later → BySteps later)
+      → (conf : Config) → Sweeps between at behind conf → BySteps conf
+  sweeps_steps behind on conf moved = rounds_steps (2 * length (present conf).objects + 1) behind on conf moved
+
+  prepares_steps : (behind : Config → Type 0) → ((later : Config) → behind later → BySteps later)
+      → (call : Option Current) (conf : Config) → Prepares between at call behind conf → BySteps conf
+  prepares_steps behind on None conf moved = on conf moved
+  prepares_steps behind on (Some call) conf moved =
+      by_either (sweeps call.given.call) _ _ conf (sweeps_steps behind on conf)
+      (by_either (is_revoke call.given.call) _ _ conf
+      (λ moved. all_steps behind conf _ (parts_own at (length (plain_caps (present conf) (object_revoked call))) conf) moved on) (on conf)) moved
+
+  pub acts_steps : (behind : Config → Type 0) → ((later : Config) → behind later → BySteps later)
+      → (conf : Config) → Acts between at behind conf → BySteps conf
+  acts_steps behind on conf moved =
+      prepares_steps _ (λ later moved. all_steps behind later (acting at later) (acting_own at later) moved on) (conf.cpu at).current conf moved
+
+-- each course is a list of possible events
+pub sweeps_are_steps : (between : List Event → Type 0) (at : ℕ) (behind : Config → Type 0) (conf : Config)
+    → Sweeps between at behind conf → LeadsBySteps between at behind conf
+sweeps_are_steps between at behind conf moved = sweeps_steps between at behind behind (no_step between at behind) conf moved
+
+pub acts_are_steps : (between : List Event → Type 0) (at : ℕ) (behind : Config → Type 0) (conf : Config)
+    → Acts between at behind conf → LeadsBySteps between at behind conf
+acts_are_steps between at behind conf moved = acts_steps between at behind behind (no_step between at behind) conf moved
