@@ -1,5 +1,6 @@
 pub mod Alone
 pub mod InterleavedAlone
+pub mod InterleavedOn
 pub mod InterleavedSteps
 pub mod BootLemmas
 pub mod BootShown
