@@ -6,7 +6,9 @@ pub mod BootLemmas
 pub mod BootShown
 pub mod CallShown
 pub mod CallsMade
+pub mod CanMakes
 pub mod PinsMade
+pub mod SteadyEvents
 pub mod Puts
 pub mod TurnsMade
 pub mod WordsShown

@@ -5,6 +5,7 @@ pub mod Interleaved
 pub mod Kept
 pub mod Moved
 pub mod Shows
+pub mod Steady
 pub mod Steps
 pub mod Tables
 pub mod Turns

@@ -1,6 +1,6 @@
 //! Laws of words. The functions do nothing; their clauses are the laws.
 
-ghost use Rattle.std.specs.Prelude.{◌≡◌, ◌<◌, ℕ, List, [], Some, slice_get, ⊤};
+ghost use Rattle.std.specs.Prelude.{◌≡◌, ◌<◌, ◌++◌, ◌∷◌, ℕ, All, List, [], Some, slice_get, ⊤};
 ghost use Rattle.gh_base.specs.declared.limits.TheConstants.{CPUS};
 ghost use Rattle.gh_base.specs.declared.frame.Frame.{Frame};
 ghost use Rattle.gh_events.specs.Config.{Config};
@@ -16,6 +16,7 @@ ghost use Rattle.gh_words.specs.Holding.{HasScans};
 ghost use Rattle.gh_words.specs.Interleaved.{Acts, Sweeps};
 ghost use Rattle.gh_words.specs.Moved.{Moved, OnlyAlone};
 ghost use Rattle.gh_words.specs.Shows.{Shows};
+ghost use Rattle.gh_words.specs.Steady.{CanMake, IsSteadyOf};
 ghost use Rattle.gh_words.specs.Steps.{LeadsBySteps};
 ghost use Rattle.gh_words.specs.declared.plain_words.PlainWords.{PlainWords};
 
@@ -76,4 +77,18 @@ pub fn acts_are_steps<W: Words>()
     ensures acted { (words : W) (at : ℕ) (conf : Config)
         → Acts W.between at (W.shows words) conf
         → LeadsBySteps W.between at (W.shows words) conf }
+{}
+
+/// What the holder of the turn can make stays so while others move: possible events of it that ask
+/// for no count and no counter can be made, the first of them is possible then, and once it is made
+/// behind events of others the rest can be made.
+pub fn steady_events_stay<W: Words>()
+    ensures begins { (at : ℕ) (conf : Config) (events : List Event) → All (IsSteadyOf at) events
+        → AreDone conf events → CanMake at conf events }
+    ensures possible { (at : ℕ) (conf : Config) (event : Event) (events : List Event)
+        → CanMake at conf (event ∷ events) → Possible conf event }
+    ensures goes_on { (words : W) (at : ℕ) (conf : Config) (event : Event) (events : List Event)
+        (moved : Moved W.between (λ _. ⊤) (W.shows words) conf event)
+        → CanMake at conf (event ∷ events)
+        → CanMake at (after_all conf (moved.others ++ event ∷ [])) events }
 {}

@@ -17,7 +17,7 @@ mod words;
 pub use calls::Dead;
 pub use law::{
     acts_are_steps, given_calls_stay_shown, lone_acts_are_planned, lone_steps_are_events,
-    scans_are_latest,
+    scans_are_latest, steady_events_stay,
 };
 pub use log::Log;
 pub use plain_words::{CAP_WORDS, PlainWords, ReferenceWord, SLOT_WORDS, Turn};
