@@ -1,5 +1,5 @@
 -- The events of the turn's holder, as it makes them on words.
-use Rattle.std.specs.Prelude.{◌≡◌, ◌<◌, ℕ, Bool, true, false, List, Some, Result, Ok, Err, map}
+use Rattle.std.specs.Prelude.{◌≡◌, ◌<◌, ℕ, Bool, true, false, List, [], ◌∷◌, Option, Some, None, Result, Ok, Err, map}
 use Rattle.gh_base.specs.declared.cap_word.CapWord.{CapWord}
 use Rattle.gh_base.specs.declared.ids.CpuNo.{CpuNo}
 use Rattle.gh_base.specs.declared.ids.ObjIndex.{ObjIndex}
@@ -10,7 +10,7 @@ use Rattle.gh_events.specs.declared.event.Event.{Event}
 use Rattle.gh_events.specs.declared.event.Event.TheVariants.{Commit, Kill, Pin, Revive, Scan, SetCap, Unpin}
 use Rattle.gh_model.specs.declared.entry.Entry.{Entry}
 use Rattle.gh_schedules.specs.Committing.{cpu_no}
-use Rattle.gh_schedules.specs.Sweep.{all_cpus}
+use Rattle.gh_schedules.specs.Sweep.{all_cpus, scans}
 use Rattle.gh_words.specs.Moved.{MovedAll}
 
 -- one more is owed at an index, or one less
@@ -64,3 +64,22 @@ pub record IsRung (shown : Config → Type 0) (rings : ℕ) : Type 0 where
   pub conf : Config
   pub is_shown : shown conf
   pub counted : rings ≡ (present conf).rings
+
+-- one more is owed at each of these indices, or one less
+abbrev pub owings : List ObjIndex → Bool → CpuNo → List Event
+owings objects more cpu = map (λ object. owing object more cpu) objects
+
+-- an entry that sets this slot to this word, or none
+abbrev pub entering : Entry → Option (ObjIndex × ℕ × CapWord) → CpuNo → Event
+entering entry None cpu = committing entry cpu
+entering entry (Some set) cpu = setting entry set.0 set.1 set.2 cpu
+
+abbrev pub entered : Entry → Option (ObjIndex × ℕ × CapWord) → CpuNo → List Event
+entered entry set cpu = entering entry set cpu ∷ []
+
+-- the same scans as the plan of a CPU, and the counters that they gave
+abbrev pub ScansPlanned : (List Event → Type 0) → (Config → Type 0) → (Config → Type 0) → List ℕ
+    → Type 0
+ScansPlanned between before behind seen = (conf : Config) (cpu : CpuNo) → before conf
+    → Possible conf (scan_first cpu)
+    → MovedAll between (λ later. behind later × HasScans later seen) conf (scans cpu.0 conf)

@@ -12,6 +12,7 @@ mod plain_words;
 mod references;
 mod table;
 mod turn;
+mod turns;
 mod words;
 
 pub use calls::Dead;
@@ -22,4 +23,5 @@ pub use law::{
 pub use log::Log;
 pub use plain_words::{CAP_WORDS, PlainWords, ReferenceWord, SLOT_WORDS, Turn};
 pub use table::Table;
+pub use turns::{make, owe_each, scan_all};
 pub use words::Words;

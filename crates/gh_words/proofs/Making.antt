@@ -1,0 +1,90 @@
+-- Events that the holder can make are made one after the other.
+use Rattle.std.proofs.Common.{◌≡◌, ◌+◌, ◌<◌, ◌++◌, ◌∙◌, ℕ, suc, List, [], ◌∷◌, ap, arith, drop, length, slice_index_or}
+use Rattle.std.proofs.Math.Seq.{drop-cons}
+use Rattle.std.specs.List.{All}
+use Rattle.std.proofs.lemmas.List.Elements.{All-head, All-tail, All-cons, All-nil}
+use Rattle.gh_base.specs.declared.ids.CpuNo.{CpuNo}
+use Rattle.gh_events.specs.Config.{Config}
+use Rattle.gh_events.specs.Events.{after}
+use Rattle.gh_events.specs.declared.event.Event.{Event}
+use Rattle.gh_schedules.specs.Trace.{AreDone, after_all}
+use Rattle.gh_words.specs.Holding.{ScansAll, ScansPlanned}
+use Rattle.gh_schedules.specs.Sweep.{scans}
+use Rattle.gh_words.specs.Moved.{Makes, May, Moved}
+use Rattle.gh_words.specs.Steady.{CanMake, IsSteadyOf, MakesAll, MayMake}
+use Rattle.gh_words.proofs.CanMakes.{can_go_on, can_possible}
+
+-- the list from a place on, by its first
+pub drop_next : {X : Type 0} (xs : List X) (i : ℕ) (d : X) → i < length xs → drop i xs ≡ slice_index_or xs i d ∷ drop (i + 1) xs
+drop_next xs i d within =
+    drop-cons xs i d within ∙ ap (λ (n : ℕ). slice_index_or xs i d ∷ drop n xs) (let next : suc i ≡ i + 1 = omega arith in next)
+
+-- the first of several events
+pub can_front : (at : ℕ) (conf : Config) (first second : List Event) → CanMake at conf (first ++ second) → CanMake at conf first
+can_front at conf first second can =
+    record { steady = front_steady first can.steady; first = can.first; same = can.same; done = front_done can.first first can.done }
+  where
+    front_steady : (first : List Event) → All (IsSteadyOf at) (first ++ second) → All (IsSteadyOf at) first
+    front_steady [] all = All-nil (IsSteadyOf at)
+    front_steady (event ∷ first) all =
+        All-cons (IsSteadyOf at) event first (All-head (IsSteadyOf at) event (first ++ second) all)
+        (front_steady first (All-tail (IsSteadyOf at) event (first ++ second) all))
+
+    front_done : (conf : Config) (first : List Event) → AreDone conf (first ++ second) → AreDone conf first
+    front_done conf [] done = tt
+    front_done conf (event ∷ first) done = (done.0, front_done (after conf event) first done.1)
+
+-- the first event may be made
+pub may_first : (shown : Config → Type 0) (event : CpuNo → Event) (events : CpuNo → List Event)
+    → MayMake shown (λ cpu. event cpu ∷ events cpu) → May shown event
+may_first shown event events may = record {
+  conf = may.conf;
+  cpu = may.cpu;
+  is_shown = may.is_shown;
+  possible = can_possible may.cpu.0 may.conf (event may.cpu) (events may.cpu) may.can;
+}
+
+module _ (between : List Event → Type 0) where
+  -- no events
+  pub makes_none : (shown : Config → Type 0) → MakesAll between shown shown (λ cpu. [])
+  makes_none shown conf cpu rest here can = (here, can)
+
+  module _ (before middle : Config → Type 0) (event : CpuNo → Event) (made : Makes between before middle event) where
+    made_here : (conf : Config) (cpu : CpuNo) (events : List Event) → before conf → CanMake cpu.0 conf (event cpu ∷ events)
+        → Moved between (λ _. Unit {0}) middle conf (event cpu)
+    made_here conf cpu events here can = made conf cpu here (can_possible cpu.0 conf (event cpu) events can)
+
+    -- one event, and then others
+    pub makes_first : (behind : Config → Type 0) (events : CpuNo → List Event) → MakesAll between middle behind events
+        → MakesAll between before behind (λ cpu. event cpu ∷ events cpu)
+    makes_first behind events more conf cpu rest here can =
+        let moved : Moved between (λ _. Unit {0}) middle conf (event cpu) = made_here conf cpu (events cpu ++ rest) here can in
+        record {
+          others = moved.others;
+          allowed = moved.allowed;
+          foreign = moved.foreign;
+          done = moved.done;
+          finds = tt;
+          leaves = more (after_all conf (moved.others ++ event cpu ∷ [])) cpu rest moved.leaves
+              (can_go_on between (λ _. Unit {0}) middle cpu.0 conf (event cpu) (events cpu ++ rest) can moved);
+        }
+
+    -- behind it the others can be made
+    pub may_more : (events : CpuNo → List Event) → MayMake before (λ cpu. event cpu ∷ events cpu) → MayMake middle events
+    may_more events may =
+        let moved : Moved between (λ _. Unit {0}) middle may.conf (event may.cpu) = made_here may.conf may.cpu (events may.cpu) may.is_shown may.can in
+        record {
+          conf = after_all may.conf (moved.others ++ event may.cpu ∷ []);
+          cpu = may.cpu;
+          is_shown = moved.leaves;
+          can = can_go_on between (λ _. Unit {0}) middle may.cpu.0 may.conf (event may.cpu) (events may.cpu) may.can moved;
+        }
+
+    pub makes_one : MakesAll between before middle (λ cpu. event cpu ∷ [])
+    makes_one = makes_first middle (λ cpu. []) (makes_none middle)
+
+-- the scans are those of the plan
+pub scans_planned : (between : List Event → Type 0) (before behind : Config → Type 0) (seen : List ℕ)
+    → ScansAll between before behind seen → ScansPlanned between before behind seen
+unfolding scans
+scans_planned between before behind seen made conf cpu here may = made conf cpu here may

@@ -1,0 +1,48 @@
+//! What the holder of a turn makes on words, several events at once. Others may make theirs between.
+
+ghost use Rattle.std.specs.Prelude.{◌≡◌, ◌+◌, ◌<◌, ◌≤◌};
+ghost use Rattle.gh_words.specs.Holding.{ScansPlanned, entered, owings, scan_first};
+ghost use Rattle.gh_words.specs.Moved.{May};
+ghost use Rattle.gh_words.specs.Steady.{MakesAll, MayMake};
+
+use crate::words::Words;
+use gh_base::{CapWord, Counters, ObjIndex};
+use gh_model::Entry;
+
+/// Owes one more at each of these indices, in order, or one less.
+pub fn owe_each<W: Words>(words: &mut W, objects: &[ObjIndex], more: bool)
+    requires can { MayMake (W.shows words.old) (owings objects.now more) }
+    ensures made { MakesAll W.between (W.shows words.old) (W.shows words.new)
+        (owings objects.now more) }
+    ensures stays { W.room words.old ≤ W.room words.new }
+    ensures rings { W.bell words.new ≡ W.bell words.old }
+{
+    for object in objects {
+        words.owe(*object, more);
+    }
+}
+
+/// Commits an entry, which sets this slot to this word where one is given.
+pub fn make<W: Words>(words: &mut W, entry: &Entry, set: Option<(ObjIndex, u8, CapWord)>)
+    requires can { MayMake (W.shows words.old) (entered entry.now set) }
+    requires some { 0 < W.room words.old }
+    ensures made { MakesAll W.between (W.shows words.old) (W.shows words.new)
+        (entered entry.now set) }
+    ensures one { W.room words.old ≤ W.room words.new + 1 }
+    ensures rings { W.bell words.new ≡ W.bell words.old }
+{
+    match set {
+        None => words.commit(entry),
+        Some((space, slot, word)) => words.set_cap(entry, space, slot, word),
+    }
+}
+
+/// Scans the counters of all CPUs: the scans that a sweep plans.
+pub fn scan_all<W: Words>(words: &mut W) -> Counters
+    requires may { May (W.shows words.old) scan_first }
+    ensures made { ScansPlanned W.between (W.shows words.old) (W.shows words.new) result }
+    ensures stays { W.room words.old ≤ W.room words.new }
+    ensures rings { W.bell words.new ≡ W.bell words.old }
+{
+    words.counters()
+}
