@@ -7,6 +7,7 @@ pub mod BootShown
 pub mod CallShown
 pub mod CallsMade
 pub mod CanMakes
+pub mod Killing
 pub mod Making
 pub mod PinsMade
 pub mod SteadyEvents

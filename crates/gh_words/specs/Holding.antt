@@ -3,12 +3,13 @@ use Rattle.std.specs.Prelude.{◌≡◌, ◌<◌, ℕ, Bool, true, false, List, 
 use Rattle.gh_base.specs.declared.cap_word.CapWord.{CapWord}
 use Rattle.gh_base.specs.declared.ids.CpuNo.{CpuNo}
 use Rattle.gh_base.specs.declared.ids.ObjIndex.{ObjIndex}
-use Rattle.gh_events.specs.Config.{Config, Holder, present}
+use Rattle.gh_events.specs.Config.{Config, Holder, object_at, present}
 use Rattle.gh_events.specs.Entries.{AreScans}
 use Rattle.gh_events.specs.Events.{Possible}
 use Rattle.gh_events.specs.declared.event.Event.{Event}
 use Rattle.gh_events.specs.declared.event.Event.TheVariants.{Commit, Kill, Pin, Revive, Scan, SetCap, Unpin}
 use Rattle.gh_model.specs.declared.entry.Entry.{Entry}
+use Rattle.gh_model.specs.declared.rows.ObjectRow.{ObjectRow}
 use Rattle.gh_schedules.specs.Committing.{cpu_no}
 use Rattle.gh_schedules.specs.Sweep.{all_cpus, scans}
 use Rattle.gh_words.specs.Moved.{MovedAll}
@@ -83,3 +84,24 @@ abbrev pub ScansPlanned : (List Event → Type 0) → (Config → Type 0) → (C
 ScansPlanned between before behind seen = (conf : Config) (cpu : CpuNo) → before conf
     → Possible conf (scan_first cpu)
     → MovedAll between (λ later. behind later × HasScans later seen) conf (scans cpu.0 conf)
+
+-- a kill that fails leaves the word alive, and the holder keeps the count that it saw
+pub record HasFailed (conf : Config) (object seen : ℕ) : Type 0 where
+  pub alive : conf.dead object ≡ false
+  pub holder : Holder
+  pub turn : conf.turn ≡ Some holder
+  pub kept : (row : ObjectRow) → object_at (present conf) conf.index object ≡ Some row
+      → holder.failed row.serial.0 ≡ Some seen
+
+-- behind a kill: the word is dead, or else alive
+abbrev pub KillTells : ObjIndex → Result Unit ℕ → Config → Type 0
+KillTells object (Ok done) conf = conf.dead object.0 ≡ true
+KillTells object (Err seen) conf = HasFailed conf object.0 seen
+
+-- the kill was made, and its answer tells what is behind it
+abbrev pub TriesKilling : (List Event → Type 0) → (Config → Type 0) → (Config → Type 0) → ObjIndex
+    → Result Unit ℕ → Type 0
+TriesKilling between before behind object answer = (conf : Config) (cpu : CpuNo) → before conf
+    → Possible conf (killing object cpu)
+    → MovedAll between (λ later. behind later × KillTells object answer later) conf
+    (killing object cpu ∷ [])

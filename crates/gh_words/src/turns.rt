@@ -1,7 +1,8 @@
 //! What the holder of a turn makes on words, several events at once. Others may make theirs between.
 
 ghost use Rattle.std.specs.Prelude.{◌≡◌, ◌+◌, ◌<◌, ◌≤◌};
-ghost use Rattle.gh_words.specs.Holding.{ScansPlanned, entered, owings, scan_first};
+ghost use Rattle.gh_words.specs.Holding.{ScansPlanned, TriesKilling, entered, killing, owings};
+ghost use Rattle.gh_words.specs.Holding.{scan_first};
 ghost use Rattle.gh_words.specs.Moved.{May};
 ghost use Rattle.gh_words.specs.Steady.{MakesAll, MayMake};
 
@@ -45,4 +46,15 @@ pub fn scan_all<W: Words>(words: &mut W) -> Counters
     ensures rings { W.bell words.new ≡ W.bell words.old }
 {
     words.counters()
+}
+
+/// Tries to kill the object at an index. Behind it the word is dead where the answer is Ok; else
+/// the word is alive, and the answer is the count that the kill saw.
+pub fn try_kill<W: Words>(words: &mut W, object: ObjIndex) -> Result<(), u64>
+    requires may { May (W.shows words.old) (killing object) }
+    ensures made { TriesKilling W.between (W.shows words.old) (W.shows words.new) object result }
+    ensures stays { W.room words.old ≤ W.room words.new }
+    ensures rings { W.bell words.new ≡ W.bell words.old }
+{
+    words.kill(object)
 }
