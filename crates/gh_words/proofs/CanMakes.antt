@@ -128,10 +128,14 @@ module _ (at : ℕ) (conf : Config) (event : Event) (events : List Event) (can :
     done = can.done.1;
   }
 
--- the events before the made one are possible
-front_done : (conf : Config) (first second : List Event) → AreDone conf (first ++ second) → AreDone conf first
+-- the first of events are possible, and the last behind those before it
+pub front_done : (conf : Config) (first second : List Event) → AreDone conf (first ++ second) → AreDone conf first
 front_done conf [] second done = tt
 front_done conf (event ∷ first) second done = (done.0, front_done (after conf event) first second done.1)
+
+pub last_done : (conf : Config) (others : List Event) (event : Event) → AreDone conf (others ++ event ∷ []) → Possible (after_all conf others) event
+last_done conf [] event done = done.0
+last_done conf (other ∷ others) event done = last_done (after conf other) others event done.1
 
 -- behind the first event, with others before it, the rest can be made
 pub can_go_on : (between : List Event → Type 0) (found behind : Config → Type 0) (at : ℕ) (conf : Config) (event : Event) (events : List Event)

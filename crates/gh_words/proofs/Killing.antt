@@ -13,6 +13,7 @@ use Rattle.gh_words.specs.Holding.{HasFailed, KillAnswers, KillTells, TriesKilli
 use Rattle.gh_words.specs.Moved.{MakesFinding, Moved}
 use Rattle.gh_events.proofs.Finding.{put_here}
 use Rattle.gh_schedules.proofs.TraceLaws.{after_append}
+use Rattle.gh_words.proofs.CanMakes.{last_done}
 
 -- behind a kill of a count that isn't 0
 module _ (conf : Config) (at object : ℕ) (may : MayKill conf at object) where
@@ -53,11 +54,6 @@ module _ (conf : Config) (at object : ℕ) (may : MayKill conf at object) where
 pub killed_tells : (conf : Config) (cpu : CpuNo) (object : ObjIndex) (answer : Result Unit ℕ) → Possible conf (killing object cpu)
     → KillAnswers object answer conf → KillTells object answer (after conf (killing object cpu))
 killed_tells conf cpu object answer may found = by_count conf cpu.0 object.0 may (conf.count object.0 == 0) refl answer object refl found
-
--- the last of events is possible behind those before
-last_done : (conf : Config) (others : List Event) (event : Event) → AreDone conf (others ++ event ∷ []) → Possible (after_all conf others) event
-last_done conf [] event done = done.0
-last_done conf (other ∷ others) event done = last_done (after conf other) others event done.1
 
 pub kill_tells : (between : List Event → Type 0) (before behind : Config → Type 0) (object : ObjIndex) (answer : Result Unit ℕ)
     → MakesFinding between before behind (killing object) (KillAnswers object answer) → TriesKilling between before behind object answer
