@@ -25,107 +25,21 @@ use Rattle.gh_words.specs.Interleaved.{Acts, IfTrue, Kills, Prepares, Retires, R
 use Rattle.gh_words.specs.Moved.{Moved, MovedAll, is_other, made_on}
 use Rattle.gh_words.specs.Steps.{IsStepOf, LeadsBySteps, Step, events_of}
 use Rattle.gh_schedules.proofs.TraceLaws.{after_append, done_append}
+use Rattle.gh_words.proofs.PlansSteady.{acting_steady, own_of, parts_steady, reclaiming_steady, reclaims_steady, retired_steady}
 
--- plans whose events are all of one CPU
+-- a plan whose events are all of one CPU
 
 module _ (at : ℕ) where
   abbrev AreOwn : List Event → Type 0
   AreOwn events = AllByRecursion (λ (event : Event). made_on event ≡ cpu_no at) events
 
-  abbrev IsOwn : (Config → List Event) → Type 0
-  IsOwn plan = (conf : Config) → AreOwn (plan conf)
+  maps_own : {X : Type 0} (event : X → Event) → ((x : X) → made_on (event x) ≡ cpu_no at) → (xs : List X) → AreOwn (map event xs)
+  maps_own event is [] = tt
+  maps_own event is (x ∷ xs) = (is x, maps_own event is xs)
 
-  joined : (events more : List Event) → AreOwn events → AreOwn more → AreOwn (events ++ more)
-  joined [] more own also = also
-  joined (event ∷ events) more own also = (own.0, joined events more own.1 also)
-
-  mapped : {X : Type 0} (event : X → Event) → ((x : X) → made_on (event x) ≡ cpu_no at) → (xs : List X) → AreOwn (map event xs)
-  mapped event is [] = tt
-  mapped event is (x ∷ xs) = (is x, mapped event is xs)
-
-  then_own : (first second : Config → List Event) → IsOwn first → IsOwn second → IsOwn (and_then first second)
-  unfolding and_then
-  then_own first second own also conf = joined (first conf) (second (after_all conf (first conf))) (own conf) (also (after_all conf (first conf)))
-
-  each_own : {X : Type 0} (plan : X → Config → List Event) → ((x : X) → IsOwn (plan x)) → (xs : List X) → IsOwn (for_each plan xs)
-  unfolding for_each
-  each_own plan own [] conf = tt
-  each_own plan own (x ∷ xs) conf = then_own (plan x) (for_each plan xs) (own x) (each_own plan own xs) conf
-
-  by_test : (test : Bool) (events : List Event) → AreOwn events → AreOwn (if test then events else [])
-  by_test true events own = own
-  by_test false events own = tt
-
-  -- an entry
-  revives_own : (s : State) (places index : ℕ → ℕ) (gains : List Serial) (row : Option ObjectRow) → AreOwn (revives at s places index gains row)
-  revives_own s places index gains None = tt
-  revives_own s places index gains (Some row) = (refl, tt)
-
-  entry_own : (entry : Entry) (new : State) (index later : ℕ → ℕ) (place : Option (ℕ × ℕ))
-      → made_on (entry_event at entry new index later place) ≡ cpu_no at
-  entry_own entry new index later None = refl
-  entry_own entry new index later (Some place) = refl
-
-  commits_own : (entry : Entry) (s new : State) (places index : ℕ → ℕ) (changes : List Change) → AreOwn (commits at entry s new places index changes)
-  commits_own entry s new places index changes =
-      joined (gains_owed at s index (gained s changes)) _ (mapped (owe at index) (λ serial. refl) (filter (is_made s.next_serial) (gained s changes)))
-      (joined (revives at s places index (gained s changes) (added changes)) _ (revives_own s places index (gained s changes) (added changes)) (
-        entry_own entry new index (with_new s places index (added changes)) (slot_set changes),
-        mapped (settle at index) (λ serial. refl) (lost s changes),
-      ))
-
-  commits_by : (entry : Entry) (conf : Config) (call : Option Current) → AreOwn (commits_of at entry conf call)
-  commits_by entry conf None = tt
-  commits_by entry conf (Some call) =
-      commits_own entry (present conf) (next_state conf call entry) (places_of conf) conf.index (changes_of (present conf) (logged entry call))
-
-  committing_own : (entry : Entry) → IsOwn (committing at entry)
-  unfolding committing
-  committing_own entry conf = commits_by entry conf (conf.cpu at).current
-
-  -- the steps of a sweep
-  scans_own : IsOwn (scans at)
+  scans_own : (conf : Config) → AreOwn (scans at conf)
   unfolding scans
-  scans_own conf = mapped (scan at) (λ of. refl) all_cpus
-
-  reclaiming_own : (serial : Serial) → IsOwn (reclaiming at serial)
-  unfolding reclaiming
-  reclaiming_own serial conf = by_test (may_reclaim (present conf) serial (counters conf)) _ (committing_own _ conf)
-
-  retired_own : (serial : Serial) → IsOwn (retired_now at serial)
-  unfolding retired_now
-  retired_own serial conf = committing_own _ conf
-
-  reclaims_own : IsOwn (reclaims_all at)
-  unfolding reclaims_all
-  reclaims_own conf = each_own (reclaiming at) reclaiming_own (retired_objects (present conf)) conf
-
-  -- the parts and the act
-  part_there : (conf : Config) (call : Current) (row : Option CapabilityRow) → AreOwn (part_at at conf call row)
-  part_there conf call None = tt
-  part_there conf call (Some row) = committing_own (part_of at call row) conf
-
-  part_owned : (conf : Config) (call : Option Current) → AreOwn (part_by at conf call)
-  part_owned conf None = tt
-  part_owned conf (Some call) =
-      by_test (goes_on (judged (present conf) at call)) _ (part_there conf call (next_part (present conf) (object_revoked call)))
-
-  part_own : IsOwn (part at)
-  unfolding part
-  part_own conf = part_owned conf (conf.cpu at).current
-
-  parts_own : (most : ℕ) → IsOwn (parts at most)
-  unfolding parts
-  parts_own zero conf = tt
-  parts_own (suc more) conf = then_own (part at) (parts at more) part_own (parts_own more) conf
-
-  acts_own : (conf : Config) (call : Option Current) → AreOwn (acts at conf call)
-  acts_own conf None = tt
-  acts_own conf (Some call) = by_test (is_done (judged (present conf) at call)) _ (committing_own _ conf)
-
-  acting_own : IsOwn (acting at)
-  unfolding acting
-  acting_own conf = acts_own conf (conf.cpu at).current
+  scans_own conf = maps_own (scan at) (λ of. refl) all_cpus
 
 -- one step, and others behind it
 module _ (between : List Event → Type 0) (at : ℕ) (so : Config → Type 0) where
@@ -171,9 +85,9 @@ module _ (between : List Event → Type 0) (at : ℕ) (so : Config → Type 0) w
       → (conf : Config) → Retires between at serial behind conf → BySteps conf
   retires_steps serial behind on conf moved =
       all_steps _ conf (scans at conf) (scans_own at conf) moved
-      (λ later moved. all_steps _ later (retired_now at serial later) (retired_own at serial later) moved
+      (λ later moved. all_steps _ later (retired_now at serial later) (own_of at (retired_now at serial later) (retired_steady at serial later)) moved
       (λ later moved. all_steps _ later (scans at later) (scans_own at later) moved
-      (λ later moved. all_steps behind later (reclaiming at serial later) (reclaiming_own at serial later) moved on)))
+      (λ later moved. all_steps behind later (reclaiming at serial later) (own_of at (reclaiming at serial later) (reclaiming_steady at serial later)) moved on)))
 
   kills_steps : (serial : Serial) (behind : Config → Type 0) → ((later : Config) → behind later → BySteps later)
       → (conf : Config) → Kills between at serial behind conf → BySteps conf
@@ -193,7 +107,7 @@ module _ (between : List Event → Type 0) (at : ℕ) (so : Config → Type 0) w
       → (conf : Config) → Round between at behind conf → BySteps conf
   round_steps behind on conf moved =
       all_steps _ conf (scans at conf) (scans_own at conf) moved
-      (λ later moved. all_steps _ later (reclaims_all at later) (reclaims_own at later) moved
+      (λ later moved. all_steps _ later (reclaims_all at later) (own_of at (reclaims_all at later) (reclaims_steady at later)) moved
       (λ later moved. tries_steps (doomed_objects (present later)) behind on later moved))
 
   rounds_steps : (most : ℕ) (behind : Config → Type 0) → ((later : Config) → behind later → BySteps later)
@@ -212,12 +126,12 @@ module _ (between : List Event → Type 0) (at : ℕ) (so : Config → Type 0) w
   prepares_steps behind on (Some call) conf moved =
       by_either (sweeps call.given.call) _ _ conf (sweeps_steps behind on conf)
       (by_either (is_revoke call.given.call) _ _ conf
-      (λ moved. all_steps behind conf _ (parts_own at (length (plain_caps (present conf) (object_revoked call))) conf) moved on) (on conf)) moved
+      (λ moved. all_steps behind conf _ (own_of at (parts at (length (plain_caps (present conf) (object_revoked call))) conf) (parts_steady at (length (plain_caps (present conf) (object_revoked call))) conf)) moved on) (on conf)) moved
 
   pub acts_steps : (behind : Config → Type 0) → ((later : Config) → behind later → BySteps later)
       → (conf : Config) → Acts between at behind conf → BySteps conf
   acts_steps behind on conf moved =
-      prepares_steps _ (λ later moved. all_steps behind later (acting at later) (acting_own at later) moved on) (conf.cpu at).current conf moved
+      prepares_steps _ (λ later moved. all_steps behind later (acting at later) (own_of at (acting at later) (acting_steady at later)) moved on) (conf.cpu at).current conf moved
 
 -- each course is a list of possible events
 pub sweeps_are_steps : (between : List Event → Type 0) (at : ℕ) (behind : Config → Type 0) (conf : Config)

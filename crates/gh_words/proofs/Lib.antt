@@ -10,6 +10,8 @@ pub mod CanMakes
 pub mod Killing
 pub mod Making
 pub mod PinsMade
+pub mod PlansSteady
+pub mod SameFor
 pub mod SteadyEvents
 pub mod Puts
 pub mod TurnsMade
