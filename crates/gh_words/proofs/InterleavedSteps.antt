@@ -1,26 +1,16 @@
 -- What is said of the sweep, the parts and the act while other CPUs move is said of lists of events.
-use Rattle.std.proofs.Common.{◌≡◌, ◌+◌, ◌*◌, ◌++◌, ℕ, zero, suc, Bool, true, false, List, [], ◌∷◌, filter, flat_map, length, map, refl, subst, sym, Option, Some, None, nat_lt, if◌then◌else◌}
+use Rattle.std.proofs.Common.{◌≡◌, ◌+◌, ◌*◌, ◌++◌, ℕ, zero, suc, Bool, true, false, List, [], ◌∷◌, flat_map, length, map, refl, subst, sym, Option, Some, None, nat_lt}
 use Rattle.std.specs.List.{AllByRecursion, list_all}
 use Rattle.std.proofs.lemmas.List.Elements.{All-cons, All-nil}
 use Rattle.gh_base.specs.declared.ids.CpuNo.{CpuNo}
 use Rattle.gh_base.specs.declared.ids.Serial.{Serial}
-use Rattle.gh_events.specs.Config.{Config, Current, entries, judged, present}
-use Rattle.gh_events.specs.Entries.{logged, next_state, slot_set}
-use Rattle.gh_events.specs.HolderEvents.{is_done}
+use Rattle.gh_events.specs.Config.{Config, Current, entries, present}
 use Rattle.gh_events.specs.declared.event.Event.{Event}
-use Rattle.gh_invariant.specs.Effects.{gained, lost}
-use Rattle.gh_invariant.specs.Events.{changes_of}
 use Rattle.gh_model.specs.Legal.{is_revoke}
-use Rattle.gh_model.specs.declared.change.Change.{Change}
-use Rattle.gh_model.specs.declared.entry.Entry.{Entry}
-use Rattle.gh_model.specs.declared.rows.CapabilityRow.{CapabilityRow}
-use Rattle.gh_model.specs.declared.rows.ObjectRow.{ObjectRow}
-use Rattle.gh_model.specs.declared.state.State.{State}
-use Rattle.gh_schedules.specs.Committing.{commits, commits_of, committing, cpu_no, entry_event, gains_owed, is_made, owe, revives, settle, with_new}
-use Rattle.gh_schedules.specs.Items.{acting, acts, goes_on, next_part, object_revoked, part, part_at, part_by, part_of, parts, plain_caps, sweeps}
-use Rattle.gh_schedules.specs.Places.{added, places_of}
-use Rattle.gh_schedules.specs.Sweep.{all_cpus, counters, doomed_objects, kill, may_kill, may_reclaim, reclaiming, reclaims_all, retired_now, retired_objects, scan, scans}
-use Rattle.gh_schedules.specs.Trace.{AreDone, after_all, and_then, for_each}
+use Rattle.gh_schedules.specs.Committing.{cpu_no}
+use Rattle.gh_schedules.specs.Items.{acting, object_revoked, parts, plain_caps, sweeps}
+use Rattle.gh_schedules.specs.Sweep.{all_cpus, doomed_objects, kill, may_kill, reclaiming, reclaims_all, retired_now, scan, scans}
+use Rattle.gh_schedules.specs.Trace.{AreDone, after_all}
 use Rattle.gh_words.specs.Interleaved.{Acts, IfTrue, Kills, Prepares, Retires, Round, Rounds, Sweeps, TriesKills}
 use Rattle.gh_words.specs.Moved.{Moved, MovedAll, is_other, made_on}
 use Rattle.gh_words.specs.Steps.{IsStepOf, LeadsBySteps, Step, events_of}

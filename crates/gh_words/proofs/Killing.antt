@@ -1,5 +1,5 @@
 -- What a kill found is what its answer tells of the configuration behind it.
-use Rattle.std.proofs.Common.{◌≡◌, ◌==◌, ◌++◌, ◌∙◌, ℕ, Bool, true, false, List, [], ◌∷◌, ap, arith, option_map, refl, subst, sym, Option, Some, Result, Ok, Err, if◌then◌else◌}
+use Rattle.std.proofs.Common.{◌≡◌, ◌==◌, ◌∙◌, ℕ, Bool, true, false, List, [], ◌∷◌, ap, arith, option_map, refl, subst, sym, Option, Some, Result, Ok, Err, if◌then◌else◌}
 use Rattle.std.proofs.lemmas.Bool.Decides.{nat_tests}
 use Rattle.gh_base.specs.declared.ids.CpuNo.{CpuNo}
 use Rattle.gh_base.specs.declared.ids.ObjIndex.{ObjIndex}
@@ -8,7 +8,7 @@ use Rattle.gh_events.specs.Events.{Possible, after}
 use Rattle.gh_events.specs.HolderEvents.{MayKill, kill_failed, with_failed, with_turn, without_scans}
 use Rattle.gh_events.specs.declared.event.Event.{Event}
 use Rattle.gh_model.specs.declared.rows.ObjectRow.{ObjectRow}
-use Rattle.gh_schedules.specs.Trace.{AreDone, after_all}
+use Rattle.gh_schedules.specs.Trace.{after_all}
 use Rattle.gh_words.specs.Holding.{HasFailed, KillAnswers, KillTells, TriesKilling, killing}
 use Rattle.gh_words.specs.Moved.{MakesFinding, Moved}
 use Rattle.gh_events.proofs.Finding.{put_here}

@@ -12,6 +12,7 @@ pub mod Making
 pub mod PinsMade
 pub mod PlansSteady
 pub mod SameFor
+pub mod SeenCounters
 pub mod SteadyEvents
 pub mod Puts
 pub mod TurnsMade

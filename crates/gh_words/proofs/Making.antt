@@ -5,15 +5,15 @@ use Rattle.std.specs.List.{All}
 use Rattle.std.proofs.lemmas.List.Elements.{All-head, All-tail, All-cons, All-nil}
 use Rattle.gh_base.specs.declared.ids.CpuNo.{CpuNo}
 use Rattle.gh_events.specs.Config.{Config}
-use Rattle.gh_events.specs.Events.{after}
 use Rattle.gh_events.specs.declared.event.Event.{Event}
-use Rattle.gh_schedules.specs.Trace.{AreDone, after_all}
-use Rattle.gh_words.specs.Holding.{ScansAll, ScansPlanned}
-use Rattle.gh_schedules.specs.Sweep.{scans}
+use Rattle.gh_schedules.specs.Trace.{after_all}
+use Rattle.gh_words.specs.Holding.{HasScans, ScansAll, ScansPlanned}
+use Rattle.gh_schedules.specs.Sweep.{counters, scans}
 use Rattle.gh_words.specs.Moved.{Makes, May, Moved, MovedAll}
 use Rattle.gh_words.specs.Steady.{CanMake, IsSteadyOf, MakesAll, MayMake}
 use Rattle.std.proofs.lemmas.List.{append_assoc}
 use Rattle.gh_words.proofs.InterleavedOn.{all_on, keeps_everything, moved_on}
+use Rattle.gh_words.proofs.SeenCounters.{seen_counters}
 use Rattle.gh_words.proofs.CanMakes.{can_go_on, can_possible, front_done}
 
 -- the list from a place on, by its first
@@ -85,7 +85,10 @@ module _ (between : List Event → Type 0) where
 pub scans_planned : (between : List Event → Type 0) (before behind : Config → Type 0) (seen : List ℕ)
     → ScansAll between before behind seen → ScansPlanned between before behind seen
 unfolding scans
-scans_planned between before behind seen made conf cpu here may = made conf cpu here may
+scans_planned between before behind seen made conf cpu here may =
+    all_on between (λ _. Unit {0}) keeps_everything (λ (later : Config). behind later × HasScans later seen)
+    (λ (later : Config). behind later × HasScans later seen × (counters later ≡ seen))
+    (λ later kept there. (there.0, there.1, seen_counters later seen there.1)) (scans cpu.0 conf) conf tt (made conf cpu here may)
 
 -- some events, and then others
 

@@ -1,10 +1,9 @@
 -- Steady events that are possible with no others lead, among others, to a configuration that is the
 -- same for the holder.
-use Rattle.std.proofs.Common.{◌≡◌, ◌++◌, ◌∙◌, ℕ, true, List, [], ◌∷◌, ap, refl, subst, sym}
+use Rattle.std.proofs.Common.{◌≡◌, ◌++◌, ℕ, true, List, [], ◌∷◌, ap, refl, subst, sym}
 use Rattle.std.specs.List.{All, list_all}
 use Rattle.std.proofs.lemmas.List.Elements.{All-from_recursion, All-head, All-tail}
 use Rattle.gh_base.specs.declared.ids.CpuNo.{CpuNo}
-use Rattle.gh_base.specs.declared.ids.Serial.{Serial}
 use Rattle.gh_events.specs.Config.{Config}
 use Rattle.gh_events.specs.Events.{after}
 use Rattle.gh_events.specs.declared.event.Event.{Event}
@@ -14,7 +13,7 @@ use Rattle.gh_schedules.specs.Trace.{AreDone, after_all}
 use Rattle.gh_words.specs.Interleaved.{Planned}
 use Rattle.gh_words.specs.Moved.{MovedAll, is_other}
 use Rattle.gh_words.specs.Steady.{IsSameFor, IsSteadyOf, with_others}
-use Rattle.gh_schedules.proofs.TraceLaws.{Leads, after_append}
+use Rattle.gh_schedules.proofs.TraceLaws.{after_append}
 use Rattle.gh_words.proofs.CanMakes.{Holds, can_holds, front_done, others_leave}
 use Rattle.gh_words.proofs.PlansSteady.{AreSteady}
 use Rattle.gh_words.proofs.SteadyEvents.{same_on, steady_same}

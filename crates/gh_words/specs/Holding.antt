@@ -11,7 +11,7 @@ use Rattle.gh_events.specs.declared.event.Event.TheVariants.{Commit, Kill, Pin, 
 use Rattle.gh_model.specs.declared.entry.Entry.{Entry}
 use Rattle.gh_model.specs.declared.rows.ObjectRow.{ObjectRow}
 use Rattle.gh_schedules.specs.Committing.{cpu_no}
-use Rattle.gh_schedules.specs.Sweep.{all_cpus, scans}
+use Rattle.gh_schedules.specs.Sweep.{all_cpus, counters, scans}
 use Rattle.gh_words.specs.Moved.{MovedAll}
 
 -- one more is owed at an index, or one less
@@ -78,12 +78,18 @@ entering entry (Some set) cpu = setting entry set.0 set.1 set.2 cpu
 abbrev pub entered : Entry → Option (ObjIndex × ℕ × CapWord) → CpuNo → List Event
 entered entry set cpu = entering entry set cpu ∷ []
 
--- the same scans as the plan of a CPU, and the counters that they gave
+-- the index without an object gets its count
+abbrev pub revival : ObjIndex → ℕ → CpuNo → List Event
+revival object count cpu = reviving object count cpu ∷ []
+
+-- the same scans as the plan of a CPU, and the counters that they gave are the holder's
 abbrev pub ScansPlanned : (List Event → Type 0) → (Config → Type 0) → (Config → Type 0) → List ℕ
     → Type 0
 ScansPlanned between before behind seen = (conf : Config) (cpu : CpuNo) → before conf
     → Possible conf (scan_first cpu)
-    → MovedAll between (λ later. behind later × HasScans later seen) conf (scans cpu.0 conf)
+    → MovedAll between
+    (λ later. behind later × HasScans later seen × (counters later ≡ seen))
+    conf (scans cpu.0 conf)
 
 -- a kill that fails leaves the word alive, and the holder keeps the count that it saw
 pub record HasFailed (conf : Config) (object seen : ℕ) : Type 0 where

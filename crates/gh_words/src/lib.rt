@@ -23,5 +23,5 @@ pub use law::{
 pub use log::Log;
 pub use plain_words::{CAP_WORDS, PlainWords, ReferenceWord, SLOT_WORDS, Turn};
 pub use table::Table;
-pub use turns::{make, owe_each, scan_all, try_kill};
+pub use turns::{make, owe_each, revive_one, scan_all, try_kill};
 pub use words::Words;

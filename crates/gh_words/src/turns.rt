@@ -2,7 +2,7 @@
 
 ghost use Rattle.std.specs.Prelude.{◌≡◌, ◌+◌, ◌<◌, ◌≤◌};
 ghost use Rattle.gh_words.specs.Holding.{ScansPlanned, TriesKilling, entered, killing, owings};
-ghost use Rattle.gh_words.specs.Holding.{scan_first};
+ghost use Rattle.gh_words.specs.Holding.{revival, scan_first};
 ghost use Rattle.gh_words.specs.Moved.{May};
 ghost use Rattle.gh_words.specs.Steady.{MakesAll, MayMake};
 
@@ -36,6 +36,17 @@ pub fn make<W: Words>(words: &mut W, entry: &Entry, set: Option<(ObjIndex, u8, C
         None => words.commit(entry),
         Some((space, slot, word)) => words.set_cap(entry, space, slot, word),
     }
+}
+
+/// Gives an index without an object a count, all of it owed.
+pub fn revive_one<W: Words>(words: &mut W, object: ObjIndex, count: u64)
+    requires can { MayMake (W.shows words.old) (revival object count) }
+    ensures made { MakesAll W.between (W.shows words.old) (W.shows words.new)
+        (revival object count) }
+    ensures stays { W.room words.old ≤ W.room words.new }
+    ensures rings { W.bell words.new ≡ W.bell words.old }
+{
+    words.revive(object, count);
 }
 
 /// Scans the counters of all CPUs: the scans that a sweep plans.
