@@ -20,7 +20,7 @@ use Rattle.gh_model.specs.declared.entry.Entry.{Entry}
 use Rattle.gh_model.specs.declared.state.State.{State}
 use Rattle.gh_words.specs.Holding.{committing, setting}
 use Rattle.gh_words.specs.Kept.{Kept}
-use Rattle.gh_words.specs.Moved.{Makes}
+use Rattle.gh_words.specs.Moved.{IsAlone, Makes}
 use Rattle.gh_words.specs.Shows.{Shows, ShowsCpu, TurnIs, cap_place, held}
 use Rattle.gh_words.specs.Tables.{with_cap}
 use Rattle.gh_words.specs.declared.plain_words.PlainWords.{PlainWords}
@@ -103,7 +103,7 @@ module _ (words : PlainWords) (conf : Config) (shown : Shows words conf) (at : �
 -- an entry that sets no slot
 
 pub commit_made : (words : PlainWords) (log : Kept) (entry : Entry) → log.entries ≡ words.log.entries ++ entry ∷ []
-    → Makes (Shows words) (Shows (record words { log = log })) (committing entry)
+    → Makes IsAlone (Shows words) (Shows (record words { log = log })) (committing entry)
 commit_made words log entry added conf cpu shown may =
     let is : committed conf cpu.0 entry ≡ committed_by conf entry (λ new. conf.index) (Some may.call) =
     ap (committed_by conf entry (λ new. conf.index)) may.allows.in_act.is_current in
@@ -157,7 +157,7 @@ module _ (caps : List CapWord) (cap : ℕ → ℕ → CapWord)
 
 pub set_cap_made : (words cap_set : PlainWords) (log : Kept) (entry : Entry) (space : ObjIndex) (slot : ℕ) (word : CapWord)
     → cap_set ≡ with_cap words space.0 slot word → log.entries ≡ cap_set.log.entries ++ entry ∷ []
-    → Makes (Shows words) (Shows (record cap_set { log = log })) (setting entry space slot word)
+    → Makes IsAlone (Shows words) (Shows (record cap_set { log = log })) (setting entry space slot word)
 set_cap_made words cap_set log entry space slot word is_set added conf cpu shown may =
     let is : set_cap conf cpu.0 entry space.0 slot word ≡ set_to (Some may.call) =
     ap set_to may.allows.in_act.is_current in

@@ -16,7 +16,7 @@ use Rattle.gh_model.specs.References.{references}
 use Rattle.gh_model.specs.declared.rows.ObjectRow.{ObjectRow}
 use Rattle.gh_schedules.specs.Committing.{cpu_no}
 use Rattle.gh_words.specs.Holding.{HasScans, KillAnswers, ScansAll, killing, owing, reviving}
-use Rattle.gh_words.specs.Moved.{Makes, MakesFinding, MovedAll}
+use Rattle.gh_words.specs.Moved.{IsAlone, Makes, MakesFinding, MovedAll}
 use Rattle.gh_words.specs.Shows.{Fits, Shows, held, reference_word}
 use Rattle.gh_words.specs.Tables.{one_less, one_more, with_reference}
 use Rattle.gh_words.specs.declared.plain_words.PlainWords.{PlainWords}
@@ -122,7 +122,7 @@ module _ (words : PlainWords) (conf : Config) (shown : Shows words conf) (at obj
 
 pub owe_made : (words new : PlainWords) (object : ObjIndex) (word : ReferenceWord) (more : Bool)
     → slice_get words.references object.0 ≡ Some word → new ≡ with_reference words object.0 (one_more word)
-    → more ≡ true → Makes (Shows words) (Shows new) (owing object more)
+    → more ≡ true → Makes IsAlone (Shows words) (Shows new) (owing object more)
 owe_made words new object word true is put_new more conf cpu shown may =
     alone (λ _. ⊤) (Shows new) conf (owing object true cpu) may tt
     (subst (λ (w : PlainWords). Shows w (owed conf object.0)) (sym put_new) (owe_shown words conf shown cpu.0 object.0 word may is))
@@ -130,7 +130,7 @@ owe_made words new object word false is put_new more conf cpu shown may = absurd
 
 pub settle_made : (words new : PlainWords) (object : ObjIndex) (word : ReferenceWord) (more : Bool)
     → slice_get words.references object.0 ≡ Some word → new ≡ with_reference words object.0 (one_less word)
-    → more ≡ false → Makes (Shows words) (Shows new) (owing object more)
+    → more ≡ false → Makes IsAlone (Shows words) (Shows new) (owing object more)
 settle_made words new object word false is put_new more conf cpu shown may =
     alone (λ _. ⊤) (Shows new) conf (owing object false cpu) may tt
     (subst (λ (w : PlainWords). Shows w (settled conf object.0)) (sym put_new) (settle_shown words conf shown cpu.0 object.0 word may is))
@@ -188,7 +188,7 @@ module _ (words : PlainWords) (conf : Config) (shown : Shows words conf) (at obj
 
 pub kill_made : (words new : PlainWords) (object : ObjIndex) (word : ReferenceWord) → slice_get words.references object.0 ≡ Some word
     → new ≡ with_reference words object.0 (record { count = 0; dead = true }) → word.count ≡ 0
-    → MakesFinding (Shows words) (Shows new) (killing object) (KillAnswers object (Ok tt))
+    → MakesFinding IsAlone (Shows words) (Shows new) (killing object) (KillAnswers object (Ok tt))
 kill_made words new object word is put_new none conf cpu shown may =
     let read : word ≡ reference_word conf object.0 = word_read words conf object.0 word shown may.is_index is in
     let empty : conf.count object.0 ≡ 0 = sym (ap (λ (w : ReferenceWord). w.count) read) ∙ none in
@@ -197,7 +197,7 @@ kill_made words new object word is put_new none conf cpu shown may =
     (subst (λ (w : PlainWords). Shows w (killed_now words conf shown cpu.0 object.0 may)) (sym put_new) (killed_shown words conf shown cpu.0 object.0 may empty)))
 
 pub kill_seen : (words : PlainWords) (object : ObjIndex) (word : ReferenceWord) → slice_get words.references object.0 ≡ Some word
-    → 0 < word.count → MakesFinding (Shows words) (Shows words) (killing object) (KillAnswers object (Err word.count))
+    → 0 < word.count → MakesFinding IsAlone (Shows words) (Shows words) (killing object) (KillAnswers object (Err word.count))
 kill_seen words object word is some conf cpu shown may =
     let read : word ≡ reference_word conf object.0 = word_read words conf object.0 word shown may.is_index is in
     let count : word.count ≡ conf.count object.0 = ap (λ (w : ReferenceWord). w.count) read in
@@ -239,7 +239,7 @@ module _ (words : PlainWords) (conf : Config) (shown : Shows words conf) (at obj
 
 pub revive_made : (words new : PlainWords) (object : ObjIndex) (count : ℕ)
     → new ≡ with_reference words object.0 (record { count = count; dead = false })
-    → Makes (Shows words) (Shows new) (reviving object count)
+    → Makes IsAlone (Shows words) (Shows new) (reviving object count)
 revive_made words new object count put_new conf cpu shown may =
     alone (λ _. ⊤) (Shows new) conf (reviving object count cpu) may tt
     (subst (λ (w : PlainWords). Shows w (revived conf object.0 count)) (sym put_new) (revive_shown words conf shown cpu.0 object.0 count may))
@@ -259,7 +259,7 @@ module _ (words : PlainWords) (cpu : CpuNo) (is_cpu : cpu.0 < CPUS) (nine : leng
   -- the CPUs so far are scanned
   scans_from : (count from : ℕ) → from + count ≡ CPUS → (conf : Config) (holder : Holder) → Shows words conf
       → HasTurn conf cpu.0 holder → ((n : ℕ) → n < from → slice_get words.counters n ≡ holder.scans n)
-      → MovedAll (λ later. Shows words later × HasScans later words.counters) conf (map (λ of_cpu. Scan cpu (cpu_no of_cpu)) (range_with_len from count))
+      → MovedAll IsAlone (λ later. Shows words later × HasScans later words.counters) conf (map (λ of_cpu. Scan cpu (cpu_no of_cpu)) (range_with_len from count))
   scans_from zero from all conf holder shown has known = (
     shown,
     record {
@@ -271,7 +271,7 @@ module _ (words : PlainWords) (cpu : CpuNo) (is_cpu : cpu.0 < CPUS) (nine : leng
   scans_from (suc count) from all conf holder shown has known =
       let may : MayScan conf cpu.0 from = record { is_cpu = is_cpu; of_cpu = omega (arith, all); holder = holder; has_turn = has } in
       let there : slice_get words.counters from ≡ Some (conf.counter from) = (shown.cpus from may.of_cpu).counter in
-      alone (λ _. ⊤) (λ later. MovedAll (λ later. Shows words later × HasScans later words.counters) later (map (λ of_cpu. Scan cpu (cpu_no of_cpu)) (range_with_len (from + 1) count)))
+      alone (λ _. ⊤) (λ later. MovedAll IsAlone (λ later. Shows words later × HasScans later words.counters) later (map (λ of_cpu. Scan cpu (cpu_no of_cpu)) (range_with_len (from + 1) count)))
       conf (Scan cpu (cpu_no from)) may tt
       (scans_from count (from + 1) (omega (arith, all)) (scanned conf from) (with_scan from (conf.counter from) holder)
       (scan_shown words conf cpu.0 from shown may)
@@ -280,7 +280,7 @@ module _ (words : PlainWords) (cpu : CpuNo) (is_cpu : cpu.0 < CPUS) (nine : leng
       (λ less. there ∙ sym (put_here holder.scans from (Some (conf.counter from))))
       (λ differs less. known n (let below : n < from = grind (arith, nat_tests) in below) ∙ sym (put_other holder.scans from (Some (conf.counter from)) n differs)) few))
 
-pub scans_made : (words : PlainWords) → length words.counters ≡ CPUS → ScansAll (Shows words) (Shows words) words.counters
+pub scans_made : (words : PlainWords) → length words.counters ≡ CPUS → ScansAll IsAlone (Shows words) (Shows words) words.counters
 scans_made words nine conf cpu shown may =
     scans_from words cpu may.is_cpu nine CPUS 0 refl conf may.holder shown may.has_turn (λ n less. absurd (let never : ⊥ = omega (arith, less) in never))
 

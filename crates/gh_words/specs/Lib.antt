@@ -1,8 +1,11 @@
 pub mod Booting
 pub mod Calls
 pub mod Holding
+pub mod Interleaved
 pub mod Kept
 pub mod Moved
 pub mod Shows
+pub mod Steady
+pub mod Steps
 pub mod Tables
 pub mod Turns

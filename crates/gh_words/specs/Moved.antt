@@ -31,21 +31,23 @@ made_on (Split cpu) = cpu
 abbrev pub is_other : CpuNo → Event → Bool
 is_other cpu event = not ((made_on event).0 == cpu.0)
 
--- from this configuration on, other CPUs made their events, and then this event was made: each
--- was possible where it came. The first fact is one of the configuration that the event found, the
--- second one of the configuration behind it
-pub record Moved (found behind : Config → Type 0) (conf : Config) (event : Event) : Type 0 where
+-- from this configuration on, other CPUs made their events, such as may come between, and then this
+-- event was made: each was possible where it came. The first fact is one of the configuration that
+-- the event found, the second one of the configuration behind it
+pub record Moved (between : List Event → Type 0) (found behind : Config → Type 0) (conf : Config)
+    (event : Event) : Type 0 where
   pub others : List Event
+  pub allowed : between others
   pub foreign : list_all (is_other (made_on event)) others ≡ true
   pub done : AreDone conf (others ++ event ∷ [])
   pub finds : found (after_all conf others)
   pub leaves : behind (after_all conf (others ++ event ∷ []))
 
 -- these events were made one after the other, each behind events of other CPUs
-abbrev pub MovedAll : (Config → Type 0) → Config → List Event → Type 0
-MovedAll behind conf [] = behind conf
-MovedAll behind conf (event ∷ events) =
-    Moved (λ _. ⊤) (λ later. MovedAll behind later events) conf event
+abbrev pub MovedAll : (List Event → Type 0) → (Config → Type 0) → Config → List Event → Type 0
+MovedAll between behind conf [] = behind conf
+MovedAll between behind conf (event ∷ events) =
+    Moved between (λ _. ⊤) (λ later. MovedAll between behind later events) conf event
 
 -- a configuration that is shown, and in which the CPU that has the turn may make the event
 pub record May (shown : Config → Type 0) (event : CpuNo → Event) : Type 0 where
@@ -56,10 +58,19 @@ pub record May (shown : Config → Type 0) (event : CpuNo → Event) : Type 0 wh
 
 -- in each configuration that was shown, and in which the event is possible, it was made. What was
 -- found in it
-abbrev pub MakesFinding : (Config → Type 0) → (Config → Type 0) → (CpuNo → Event)
-    → (Config → Type 0) → Type 0
-MakesFinding before behind event found = (conf : Config) (cpu : CpuNo) → before conf
-    → Possible conf (event cpu) → Moved found behind conf (event cpu)
+abbrev pub MakesFinding : (List Event → Type 0) → (Config → Type 0) → (Config → Type 0)
+    → (CpuNo → Event) → (Config → Type 0) → Type 0
+MakesFinding between before behind event found = (conf : Config) (cpu : CpuNo) → before conf
+    → Possible conf (event cpu) → Moved between found behind conf (event cpu)
 
-abbrev pub Makes : (Config → Type 0) → (Config → Type 0) → (CpuNo → Event) → Type 0
-Makes before behind event = MakesFinding before behind event (λ _. ⊤)
+abbrev pub Makes : (List Event → Type 0) → (Config → Type 0) → (Config → Type 0)
+    → (CpuNo → Event) → Type 0
+Makes between before behind event = MakesFinding between before behind event (λ _. ⊤)
+
+-- no other CPU makes an event between
+abbrev pub IsAlone : List Event → Type 0
+IsAlone others = others ≡ []
+
+-- and no other may come between
+abbrev pub OnlyAlone : (List Event → Type 0) → Type 0
+OnlyAlone between = (others : List Event) → between others → IsAlone others

@@ -18,9 +18,12 @@ fn all_of(counters: Counters) -> Counters
 }
 
 impl Words for PlainWords {
+    ghost use Rattle.gh_words.specs.Moved.{IsAlone};
     ghost use Rattle.gh_words.specs.Shows.{Shows};
 
     ghost shows = { Shows };
+
+    ghost between = { IsAlone };
 
     ghost room = { λ words. words.log.room };
 
