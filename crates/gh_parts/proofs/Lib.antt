@@ -20,6 +20,7 @@ mod EntryLogged
 mod EntryTests
 mod FewObjects
 mod FilledSlots
+mod FilledWords
 mod FollowLemmas
 mod FoundAlone
 mod FoundRows
@@ -83,6 +84,7 @@ mod StandsRetired
 mod StandsRun
 mod StandsSlots
 mod StandsSpan
+mod ToldLemmas
 mod UnitsTold
 mod WordLemmas
 mod ZeroReferences
