@@ -30,6 +30,7 @@ mod IndexLemmas
 mod KindCounts
 mod Leaving
 mod LeavingHome
+mod ListedObjects
 mod Living
 mod MakingLemmas
 mod MappingLemmas
@@ -57,6 +58,7 @@ mod ShowsLemmas
 mod SlotLemmas
 mod SlotNumbers
 mod SlotReadLemmas
+mod SortedSerials
 mod SpaceReadLemmas
 mod StageLemmas
 mod StandsAdded
@@ -84,6 +86,7 @@ mod StandsRetired
 mod StandsRun
 mod StandsSlots
 mod StandsSpan
+mod SweepLemmas
 mod ToldLemmas
 mod UnitsTold
 mod WordLemmas

@@ -1,10 +1,11 @@
 -- What an entry gives and takes can be told before its changes are made: what they give stands in
 -- the changes themselves, and what they take stands in rows that no change before alters.
-use Rattle.std.proofs.Common.{◌≡◌, ◌∙◌, ◌==◌, ◌*◌, ◌≤◌, ◌+◌, ◌<◌, ◌⊎◌, inl, inr, ℕ, Bool, true, false, not, List, [], ◌∷◌, ◌++◌, refl, sym, ap, subst, arith, IsTrue, find, get_or, length, length-append, take, zero, suc, Option, Some, None, if◌then◌else◌}
+use Rattle.std.proofs.Common.{◌≡◌, ◌∙◌, ◌==◌, ◌*◌, ◌≤◌, ◌+◌, ◌<◌, ◌⊎◌, inl, inr, ℕ, Bool, true, false, not, List, [], ◌∷◌, ◌++◌, refl, sym, ap, subst, arith, IsTrue, find, get_or, length, length-append, take, Option, Some, None, if◌then◌else◌}
 use Rattle.std.specs.Prelude.{◌&&◌}
 use Rattle.std.specs.List.{flat_map, list_all}
 use Rattle.std.proofs.lemmas.Bool.{and_from, and_parts, leb-true, not-true}
 use Rattle.std.proofs.lemmas.List.Concat.{flat_map-cons}
+use Rattle.std.proofs.lemmas.List.Folds.{length-flat_map-take}
 use Rattle.gh_base.specs.declared.call.Call.{Call}
 use Rattle.gh_base.specs.declared.call.Call.TheVariants as calls
 use Rattle.gh_base.specs.declared.errno.Errno.{Errno}
@@ -293,23 +294,7 @@ module _ (s : State) (event : Event) where
       told_of s (changes_of s event) (event_of_calls s event) (entry_few event.entry) (entry_takes event.entry)
       (event_gains_few s event)
 
--- what the changes before one and it give is a part of what all give
-pub front_few : (f : Change → List Serial) (changes : List Change) (at : ℕ) (other : Change) → at < length changes
-    → length (flat_map f (take at changes)) + length (f (get_or changes at other)) ≤ length (flat_map f changes)
-front_few f [] at other within = absurd (let never : ⊥ = omega arith in never)
-front_few f (one ∷ others) zero other within =
-    omega (arith, ap length (flat_map-cons f one others), length-append (f one) (flat_map f others))
-front_few f (one ∷ others) (suc at) other within =
-    omega (
-      arith,
-      ap length (flat_map-cons f one others),
-      length-append (f one) (flat_map f others),
-      ap length (flat_map-cons f one (take at others)),
-      length-append (f one) (flat_map f (take at others)),
-      front_few f others at other (omega arith),
-    )
-
--- so there is room for what the next one gives
+-- there is room for what the next change gives
 pub room_next : (f : Change → List Serial) (changes : List Change) (at most : ℕ) (next : Change)
     (before named : List Serial) → at < length changes → next ≡ get_or changes at next
     → before ≡ flat_map f (take at changes) → named ≡ f next → length (flat_map f changes) ≤ most
@@ -317,4 +302,4 @@ pub room_next : (f : Change → List Serial) (changes : List Change) (at most : 
 room_next f changes at most next before named within here front is few =
     let front_is : length before ≡ length (flat_map f (take at changes)) = ap length front in
     let named_is : length named ≡ length (f (get_or changes at next)) = ap length (is ∙ ap f here) in
-    omega (arith, front_is, named_is, few, front_few f changes at next within)
+    omega (arith, front_is, named_is, few, length-flat_map-take f changes at next within)

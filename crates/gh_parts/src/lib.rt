@@ -36,6 +36,7 @@ mod returns;
 mod shares;
 mod slot_reads;
 mod slots;
+mod sweep;
 mod told;
 mod units;
 
