@@ -59,6 +59,7 @@ mod SlotLemmas
 mod SlotNumbers
 mod SlotReadLemmas
 mod SortedSerials
+mod SpaceCounts
 mod SpaceReadLemmas
 mod StageLemmas
 mod StandsAdded
