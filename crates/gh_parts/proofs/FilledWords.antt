@@ -1,6 +1,7 @@
 -- In a valid state the word of any number has what fills its slot: no capability stands where no
 -- slot is.
-use Rattle.std.proofs.Common.{◌≡◌, ◌==◌, ℕ, Bool, true, false, refl, subst, IsTrue, Option, Some, None, find, if◌then◌else◌}
+use Rattle.std.proofs.Common.{◌≡◌, ◌==◌, ℕ, Bool, true, false, refl, subst, IsTrue, Option, Some}
+use Rattle.std.proofs.Common.{None, find, if◌then◌else◌}
 use Rattle.std.proofs.lemmas.Bool.{and_parts, eqb-true}
 use Rattle.gh_invariant.proofs.Counting.{found_all, found_passes}
 use Rattle.gh_invariant.proofs.SlotsFit.{SlotParts, slot_parts}

@@ -1,12 +1,15 @@
 -- The serials that counts list are those of the rows that pass a test, by rising serial.
-use Rattle.std.proofs.Common.{◌≡◌, ◌∙◌, ◌==◌, ◌+◌, ◌≤◌, ◌<◌, ℕ, suc, zero, Bool, true, false, not, List, [], ◌∷◌, refl, sym, ap, subst, arith, inl, inr, IsTrue, Option, Some, None, filter, find, get_or, is_some, length, map, if◌then◌else◌}
-use Rattle.std.specs.Prelude.{◌&&◌, count_by, filter_map, nat_lt, nat_le}
+use Rattle.std.proofs.Common.{◌≡◌, ◌∙◌, ◌+◌, ◌≤◌, ◌<◌, ℕ, suc, zero, Bool, true, false, List, []}
+use Rattle.std.proofs.Common.{◌∷◌, refl, sym, ap, arith, IsTrue, Option, Some, None, filter, find}
+use Rattle.std.proofs.Common.{get_or, map, if◌then◌else◌}
+use Rattle.std.specs.Prelude.{count_by, filter_map, nat_lt, nat_le}
 use Rattle.std.specs.List.{list_all}
-use Rattle.std.specs.Option.{option_map}
-use Rattle.std.proofs.lemmas.Bool.{and_from, and_parts, cases_Bool, cases_eq, eq-eqb, eqb-true, false_from_ne_true, le-leb, lt-ltb, ltb-true}
+use Rattle.std.proofs.lemmas.Bool.{and_from, and_parts, eqb-true, false_from_ne_true, le-leb}
+use Rattle.std.proofs.lemmas.Bool.{ltb-true}
 use Rattle.gh_base.specs.declared.ids.Serial.{Serial}
 use Rattle.gh_events.specs.Rising.{rises, serials_of}
-use Rattle.gh_invariant.proofs.Counting.{count_cons, count_found, find_here, find_later, found_passes, one_false, one_true, unfound}
+use Rattle.gh_invariant.proofs.Counting.{count_cons, count_found, find_here, find_later, one_false}
+use Rattle.gh_invariant.proofs.Counting.{one_true, unfound}
 use Rattle.gh_invariant.specs.Effects.{is_that, times}
 use Rattle.gh_model.specs.QueueCalls.{one_if}
 use Rattle.gh_model.specs.Rows.{is_object}

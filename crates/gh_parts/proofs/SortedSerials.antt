@@ -1,8 +1,10 @@
 -- Two lists of serials that rise, and have each serial as often as the other, are one.
-use Rattle.std.proofs.Common.{◌≡◌, ◌∙◌, ◌==◌, ◌+◌, ◌≤◌, ◌<◌, ℕ, suc, zero, Bool, true, false, List, [], ◌∷◌, refl, sym, ap, arith, inl, inr, IsTrue, if◌then◌else◌}
-use Rattle.std.specs.Prelude.{◌&&◌, count_by, nat_le}
+use Rattle.std.proofs.Common.{◌≡◌, ◌∙◌, ◌+◌, ◌≤◌, ◌<◌, ℕ, Bool, true, false, List, [], ◌∷◌, refl}
+use Rattle.std.proofs.Common.{sym, ap, arith, inl, inr, IsTrue, if◌then◌else◌}
+use Rattle.std.specs.Prelude.{◌&&◌, nat_le}
 use Rattle.std.specs.List.{list_all}
-use Rattle.std.proofs.lemmas.Bool.{and_from, and_parts, cases_Bool, cases_lt, eq-eqb, eqb-true, le-leb, leb-true, ltb-false, ltb-true, ne_eqb}
+use Rattle.std.proofs.lemmas.Bool.{and_from, and_parts, cases_Bool, eq-eqb, eqb-true, le-leb}
+use Rattle.std.proofs.lemmas.Bool.{leb-true, ltb-false, ltb-true}
 use Rattle.gh_base.specs.declared.ids.Serial.{Serial}
 use Rattle.gh_invariant.proofs.Counting.{count_cons, one_false, one_true}
 use Rattle.gh_invariant.specs.Effects.{is_that, times}

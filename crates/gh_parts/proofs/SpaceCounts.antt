@@ -1,5 +1,6 @@
 -- How many places of a share have an address space.
-use Rattle.std.proofs.Common.{◌≡◌, ◌+◌, ◌<◌, ◌≤◌, ◌∙◌, ◌⊎◌, ℕ, zero, suc, Bool, true, false, List, [], ◌∷◌, refl, sym, ap, arith, inl, inr, get_or, length, replicate, if◌then◌else◌}
+use Rattle.std.proofs.Common.{◌≡◌, ◌<◌, ◌≤◌, ◌⊎◌, ℕ, zero, suc, Bool, true, false, List, [], ◌∷◌}
+use Rattle.std.proofs.Common.{refl, ap, arith, inl, inr, get_or, length, replicate}
 use Rattle.std.specs.Prelude.{count_by}
 use Rattle.std.proofs.lemmas.Bool.{cases_Bool, cases_lt}
 use Rattle.std.proofs.lemmas.List.{get_or_past}
@@ -8,10 +9,11 @@ use Rattle.gh_invariant.proofs.Counting.{count_cons, one_false}
 use Rattle.gh_objects.proofs.ListLemmas.{count_by-passes}
 use Rattle.gh_model.specs.QueueCalls.{one_if}
 use Rattle.gh_parts.specs.MappingChanges.{Remaps}
-use Rattle.gh_parts.specs.PageMoves.{PlaceChanges, ShareChanges}
+use Rattle.gh_parts.specs.PageMoves.{ShareChanges}
 use Rattle.gh_parts.specs.Shares.{has_space, is_space, no_place, place_in, spaces_in}
 use Rattle.gh_parts.specs.declared.body.Body.{Body}
-use Rattle.gh_parts.specs.declared.body.Body.TheVariants.{Bell, Extent, NewQueue, Nothing, Queue, Space}
+use Rattle.gh_parts.specs.declared.body.Body.TheVariants.{Bell, Extent, NewQueue, Nothing, Queue}
+use Rattle.gh_parts.specs.declared.body.Body.TheVariants.{Space}
 use Rattle.gh_parts.specs.declared.shares.Place.{Place}
 
 -- places without an object have none

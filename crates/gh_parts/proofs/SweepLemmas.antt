@@ -1,5 +1,6 @@
 -- The counts list the serials of doomed and of retired objects as the rows do.
-use Rattle.std.proofs.Common.{◌≡◌, ◌∙◌, ◌==◌, ◌+◌, ℕ, Bool, true, false, not, List, [], refl, sym, ap, subst, arith, IsTrue, Option, Some, None, find, is_some, if◌then◌else◌}
+use Rattle.std.proofs.Common.{◌≡◌, ◌∙◌, ◌==◌, ◌+◌, ℕ, Bool, true, false, not, [], refl, sym, ap}
+use Rattle.std.proofs.Common.{arith, IsTrue, Option, Some, None, find, is_some, if◌then◌else◌}
 use Rattle.std.specs.Prelude.{◌&&◌}
 use Rattle.std.specs.Option.{option_map}
 use Rattle.gh_base.specs.declared.ids.Serial.{Serial}

@@ -1,6 +1,9 @@
 -- What an entry gives and takes can be told before its changes are made: what they give stands in
 -- the changes themselves, and what they take stands in rows that no change before alters.
-use Rattle.std.proofs.Common.{◌≡◌, ◌∙◌, ◌==◌, ◌*◌, ◌≤◌, ◌+◌, ◌<◌, ◌⊎◌, inl, inr, ℕ, Bool, true, false, not, List, [], ◌∷◌, ◌++◌, refl, sym, ap, subst, arith, IsTrue, find, get_or, length, length-append, take, Option, Some, None, if◌then◌else◌}
+use Rattle.std.proofs.Common.{◌≡◌, ◌∙◌, ◌==◌, ◌*◌, ◌≤◌, ◌+◌, ◌<◌, ◌⊎◌, inl, inr, ℕ, Bool, true}
+use Rattle.std.proofs.Common.{false, not, List, [], ◌∷◌, ◌++◌, refl, sym, ap, subst, arith, IsTrue}
+use Rattle.std.proofs.Common.{find, get_or, length, length-append, take, Option, Some, None}
+use Rattle.std.proofs.Common.{if◌then◌else◌}
 use Rattle.std.specs.Prelude.{◌&&◌}
 use Rattle.std.specs.List.{flat_map, list_all}
 use Rattle.std.proofs.lemmas.Bool.{and_from, and_parts, leb-true, not-true}
@@ -32,11 +35,13 @@ use Rattle.gh_model.specs.declared.rows.CpuRow.{CpuRow}
 use Rattle.gh_model.specs.declared.rows.ExtentRow.{ExtentRow}
 use Rattle.gh_model.specs.declared.rows.ObjectRow.{ObjectRow}
 use Rattle.gh_model.specs.declared.state.State.{State}
-use Rattle.gh_invariant.specs.Effects.{gained, gains, home_named, losses, lost, object_named, parent_named, sets_last, sets_some, slot_names, attachments}
+use Rattle.gh_invariant.specs.Effects.{gained, gains, home_named, losses, lost, object_named}
+use Rattle.gh_invariant.specs.Effects.{parent_named, sets_last, sets_some, slot_names, attachments}
 use Rattle.gh_invariant.specs.Events.{changes_of, entry_changes, judged_by, made_by}
 use Rattle.gh_invariant.proofs.EventWords.{event_of_calls}
-use Rattle.gh_invariant.proofs.SetsOne.{MakesOne, SetsOne, decision_sets, exit_fits, is_of_calls, keeps_objects}
-use Rattle.gh_schedules.proofs.CallMakes.{Makes, decision_makes, is_few, keeps_few}
+use Rattle.gh_invariant.proofs.SetsOne.{MakesOne, SetsOne, decision_sets, exit_fits, is_of_calls}
+use Rattle.gh_invariant.proofs.SetsOne.{keeps_objects}
+use Rattle.gh_schedules.proofs.CallMakes.{Makes, decision_makes, keeps_few}
 use Rattle.gh_schedules.proofs.FewGains.{event_gains_few}
 use Rattle.gh_parts.specs.Told.{AreTold}
 

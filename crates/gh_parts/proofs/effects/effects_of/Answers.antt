@@ -1,5 +1,5 @@
 -- What the changes so far give and take is a part of what all do.
-use Rattle.std.proofs.Common.{List, ap, length, subst, sym, ◌≤◌}
+use Rattle.std.proofs.Common.{List, length, subst, sym, ◌≤◌}
 use Rattle.gh_base.specs.declared.ids.Serial.{Serial}
 use Rattle.gh_invariant.specs.Effects.{gains, losses}
 use Rattle.gh_parts.proofs.ToldLemmas.{room_next}

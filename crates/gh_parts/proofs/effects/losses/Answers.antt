@@ -1,7 +1,6 @@
 -- The word of a slot has what fills it.
 use Rattle.std.proofs.Common.{◌∙◌, ap, sym}
-use Rattle.gh_invariant.specs.Effects.{losses, object_named, slot_names}
-use Rattle.gh_model.specs.declared.change.Change.{Change}
+use Rattle.gh_invariant.specs.Effects.{losses, object_named}
 use Rattle.gh_model.specs.declared.word.Word.{Word}
 use Rattle.gh_parts.proofs.FilledWords.{word_row}
 use Rattle.gh_parts.proofs.effects.losses.Goals as goal

@@ -1,5 +1,5 @@
 -- A valid state is ready for the changes of the next entry, and its objects rise.
-use Rattle.std.proofs.Common.{IsTrue, List, length, map, subst, take}
+use Rattle.std.proofs.Common.{IsTrue, List, length, subst}
 use Rattle.std.proofs.Math.Seq.{take-length}
 use Rattle.gh_events.proofs.RisingRows.{objects_rising}
 use Rattle.gh_events.specs.Rising.{rises, serials_of}
@@ -7,7 +7,7 @@ use Rattle.gh_invariant.proofs.EntriesKept.{begins}
 use Rattle.gh_invariant.specs.Valid.{IsValidWithin}
 use Rattle.gh_model.specs.Boot.{boot_state}
 use Rattle.gh_model.specs.History.{Event, replay}
-use Rattle.gh_parts.specs.Past.{IsPresent, Past, event_of, past_of, rows_of}
+use Rattle.gh_parts.specs.Past.{IsPresent, Past, past_of, rows_of}
 use Rattle.gh_parts.specs.declared.parts.Parts.{Parts}
 use Rattle.gh_parts.proofs.ledger.Ledger.parts.Goals as goal
 

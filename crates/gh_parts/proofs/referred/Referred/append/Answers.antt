@@ -1,5 +1,5 @@
 -- There is room for what is left to name.
-use Rattle.std.proofs.Common.{◌≡◌, ◌+◌, ◌-◌, ap, arith, drop, length, length-append, length-drop}
+use Rattle.std.proofs.Common.{◌≡◌, ap, arith, drop, length, length-append, length-drop}
 use Rattle.gh_parts.proofs.referred.Referred.append.Goals as goal
 
 pub push-requires : goal.push-requires
