@@ -2,6 +2,7 @@
 use Rattle.std.proofs.Common.{◌≡◌, ◌∙◌, ◌∷◌, ◌++◌, [], Bool, true, false, List, map, refl, sym, ap, subst, if◌then◌else◌}
 use Rattle.std.proofs.lemmas.List.{map-append}
 use Rattle.std.proofs.lemmas.List.Sums.{fold-append}
+use Rattle.gh_invariant.specs.Events.{EventFits, EventsFit}
 use Rattle.gh_invariant.specs.Valid.{IsValid}
 use Rattle.gh_model.specs.Boot.{boot_state}
 use Rattle.gh_model.specs.History.{Event, after_event, replay}
@@ -33,8 +34,16 @@ logged_past boot log logged true =
     (events_more log.logged logged)
 logged_past boot log logged false = refl
 
+-- events that fit, and one more that fits the rows behind them
+fits_more : (s : State) (events : List Event) (event : Event) → EventsFit s events
+    → EventFits (replay s events) event → EventsFit s (events ++ event ∷ [])
+fits_more s [] event fit more = record { first = more; others = tt }
+fits_more s (one ∷ events) event fit more =
+    record { first = fit.first; others = fits_more (after_event s one) events event fit.others more }
+
 module _ (boot : List BootLine) (log : Entries) (before parts : Parts) (logged : Logged)
-    (present : IsPresent (past_of boot log) before) (valid : IsValid (after_event (rows_of (past_of boot log)) (event_of logged)))
+    (present : IsPresent (past_of boot log) before)
+    (fits : EventFits (rows_of (past_of boot log)) (event_of logged)) (valid : IsValid (after_event (rows_of (past_of boot log)) (event_of logged)))
     (kept : IsKept (after_event (rows_of (past_of boot log)) (event_of logged)))
     (seats : HasFewSeats (after_event (rows_of (past_of boot log)) (event_of logged))) where
   grown : after_event (rows_of (past_of boot log)) (event_of logged) ≡ rows_of (past_of boot (with_logged logged log))
@@ -47,6 +56,9 @@ module _ (boot : List BootLine) (log : Entries) (before parts : Parts) (logged :
       → IsPresent (past_of boot (if may then with_logged logged log else log)) parts
   present_by true stands = record {
     boot = present.boot;
+    fit =
+        subst (λ (events : List Event). EventsFit (boot_state boot) events) (sym (events_more log.logged logged))
+        (fits_more (boot_state boot) (map event_of log.logged) (event_of logged) present.fit fits);
     stands = subst (λ (s : State). Stands parts s) grown stands;
     valid = subst (λ (s : State). IsValid s) grown valid;
     kept = subst (λ (s : State). IsKept s) grown kept;
@@ -54,6 +66,7 @@ module _ (boot : List BootLine) (log : Entries) (before parts : Parts) (logged :
   }
   present_by false stands = record {
     boot = present.boot;
+    fit = present.fit;
     stands = stands;
     valid = present.valid;
     kept = present.kept;

@@ -20,6 +20,7 @@ mod EntryLogged
 mod EntryTests
 mod FewObjects
 mod FilledSlots
+mod FilledWords
 mod FollowLemmas
 mod FoundAlone
 mod FoundRows
@@ -29,6 +30,7 @@ mod IndexLemmas
 mod KindCounts
 mod Leaving
 mod LeavingHome
+mod ListedObjects
 mod Living
 mod MakingLemmas
 mod MappingLemmas
@@ -56,6 +58,8 @@ mod ShowsLemmas
 mod SlotLemmas
 mod SlotNumbers
 mod SlotReadLemmas
+mod SortedSerials
+mod SpaceCounts
 mod SpaceReadLemmas
 mod StageLemmas
 mod StandsAdded
@@ -83,6 +87,8 @@ mod StandsRetired
 mod StandsRun
 mod StandsSlots
 mod StandsSpan
+mod SweepLemmas
+mod ToldLemmas
 mod UnitsTold
 mod WordLemmas
 mod ZeroReferences

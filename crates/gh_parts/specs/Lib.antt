@@ -27,3 +27,4 @@ pub mod SlotReads
 pub mod Slots
 pub mod SpaceReads
 pub mod Stands
+pub mod Told

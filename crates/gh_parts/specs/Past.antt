@@ -2,6 +2,7 @@
 -- has room for. Its rows are those that the history makes of the boot file's.
 use Rattle.std.specs.Prelude.{◌-◌, ◌*◌, ◌≤◌, ◌++◌, ◌∷◌, ℕ, List, [], length, map, IsTrue}
 use Rattle.gh_base.specs.declared.limits.TheConstants.{CPUS, CSPACES, CSPACE_SLOTS}
+use Rattle.gh_invariant.specs.Events.{EventsFit}
 use Rattle.gh_invariant.specs.Valid.{IsValid}
 use Rattle.gh_model.specs.Boot.{boot_fits, boot_state}
 use Rattle.gh_model.specs.History.{Event, replay}
@@ -48,9 +49,10 @@ pub record HasFewSeats (s : State) : Type 0 where
   pub cpus : length s.cpus ≤ CPUS
   pub links : 2 * length s.links ≤ CSPACES * CSPACE_SLOTS
 
--- the parts are those of the rows by now, which are valid
+-- the parts are those of the rows by now, which are valid, and each event fitted the rows before it
 pub record IsPresent (past : Past) (parts : Parts) : Type 0 where
   pub boot : IsTrue (boot_fits past.boot)
+  pub fit : EventsFit (boot_state past.boot) past.history
   pub stands : Stands parts (rows_of past)
   pub valid : IsValid (rows_of past)
   pub kept : IsKept (rows_of past)

@@ -1,10 +1,10 @@
 -- The shares of the partition places as callers see them: for each partition place the objects'
 -- costs and bodies, by their places there.
-use Rattle.std.specs.Prelude.{◌≡◌, ◌/◌, ◌%◌, ℕ, List, [], length, replicate, All, slice_index_or}
-use Rattle.std.specs.Prelude.{slice_set}
+use Rattle.std.specs.Prelude.{◌≡◌, ◌/◌, ◌%◌, ℕ, Bool, true, false, List, [], length, replicate, All}
+use Rattle.std.specs.Prelude.{count_by, slice_index_or, slice_set}
 use Rattle.gh_base.specs.declared.limits.TheConstants.{PARTITIONS, PARTITION_PLACES}
 use Rattle.gh_parts.specs.declared.body.Body.{Body}
-use Rattle.gh_parts.specs.declared.body.Body.TheVariants.{Nothing}
+use Rattle.gh_parts.specs.declared.body.Body.TheVariants.{Nothing, Space}
 use Rattle.gh_parts.specs.declared.shares.Place.{Place}
 
 -- where no object is
@@ -61,3 +61,14 @@ with_cost_at shares index cost =
     slice_set shares (index / PARTITION_PLACES)
     (with_cost_in (slice_index_or shares (index / PARTITION_PLACES) [])
     (index % PARTITION_PLACES) cost)
+
+-- a place with an address space, and how many there are in a share
+abbrev pub is_space : Body → Bool
+is_space (Space space) = true
+is_space _ = false
+
+abbrev pub has_space : Place → Bool
+has_space place = is_space place.body
+
+abbrev pub spaces_in : List Place → ℕ
+spaces_in places = count_by has_space places

@@ -1,7 +1,9 @@
 //! The ledger: a boot file and a log, and the parts that they make.
 
-ghost use Rattle.std.specs.Prelude.{◌≡◌, ◌<◌, ◌≤◌, ◌&&◌, IfOk, OnErr, OnOk, if◌then◌else◌};
+ghost use Rattle.std.specs.Prelude.{◌≡◌, ◌<◌, ◌≤◌, ◌&&◌, IfOk, IsTrue, OnErr, OnOk};
+ghost use Rattle.std.specs.Prelude.{if◌then◌else◌};
 ghost use Rattle.gh_base.specs.declared.limits.TheConstants.{HISTORY_ENTRIES};
+ghost use Rattle.gh_events.specs.Rising.{rises, serials_of};
 ghost use Rattle.gh_invariant.specs.Valid.{IsValid, IsValidWithin};
 ghost use Rattle.gh_model.specs.History.{is_retired, is_unretired};
 ghost use Rattle.gh_model.specs.References.{is_doomed};
@@ -104,6 +106,7 @@ impl Ledger {
         ensures valid { IsValid (rows_of self.now) }
         ensures within { IsValidWithin (rows_of self.now) }
         ensures kept { IsKept (rows_of self.now) }
+        ensures rising { IsTrue (rises (serials_of (rows_of self.now).objects)) }
     {
         &self.present.parts
     }

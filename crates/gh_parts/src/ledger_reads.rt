@@ -2,14 +2,18 @@
 
 ghost use Rattle.std.specs.Prelude.{◌≡◌};
 ghost use Rattle.gh_base.specs.declared.kind.Kind.TheVariants as kinds;
+ghost use Rattle.gh_invariant.specs.Effects.{gained, lost};
 ghost use Rattle.gh_model.specs.Boot.{is_kind, is_of_kind};
 ghost use Rattle.gh_model.specs.Reads.{last_serial, partition_units};
 ghost use Rattle.gh_parts.specs.Past.{rows_of};
+ghost use Rattle.gh_parts.specs.Told.{AreTold};
 
+use crate::effects::{Effects, effects_of};
 use crate::ledger::Ledger;
 use gh_base::{Access, CpuNo, Kind, NoMemory, PageNo, Sequence, Serial};
 use gh_model::{
-    BellRow, CpuRow, ExtentRow, MappingRow, ObjectRow, PartitionRow, QueueFill, StateReads, Word,
+    BellRow, Change, CpuRow, ExtentRow, MappingRow, ObjectRow, PartitionRow, QueueFill, StateReads,
+    Word,
 };
 use std::alloc::Global;
 
@@ -149,6 +153,16 @@ impl Ledger {
         ensures { result ≡ partition_units (rows_of self.now) serial.0 }
     {
         self.parts().units(serial)
+    }
+
+    /// What the changes of an entry give and take, read before the first of them is made.
+    pub fn effects(&self, changes: &[Change]) -> Effects
+        requires { AreTold (rows_of self.now) changes.now }
+        ensures gained { result.gained ≡ gained (rows_of self.now) changes.now }
+        ensures lost { result.lost ≡ lost (rows_of self.now) changes.now }
+    {
+        let _ = self.parts();
+        effects_of(self, changes)
     }
 
     /// Whether this is a live address space, by a binary search.

@@ -1,9 +1,10 @@
 //! The shares of the partition places: what the objects of each have beside their headers.
 
-ghost use Rattle.std.specs.Prelude.{◌≡◌, ◌<◌, IfOk, length, replicate, slice_set};
+ghost use Rattle.std.specs.Prelude.{◌≡◌, ◌+◌, ◌<◌, IfOk, length, replicate, slice_set, true};
+ghost use Rattle.std.specs.Prelude.{if◌then◌else◌};
 ghost use Rattle.gh_parts.specs.PageMoves.{Follows, ShareChanges, SharesChange};
 ghost use Rattle.gh_parts.specs.Shares.{AreShares, no_place, no_shares, body_at, place_at};
-ghost use Rattle.gh_parts.specs.Shares.{place_in};
+ghost use Rattle.gh_parts.specs.Shares.{is_space, place_in};
 ghost use Rattle.gh_parts.specs.Shares.{with_body, with_body_in, with_cost_at, with_cost_in};
 ghost use Rattle.gh_parts.specs.Shares.{with_place};
 
@@ -26,15 +27,20 @@ pub struct Place {
 #[derive(Debug, Drop)]
 pub struct Share {
     places: Vec<Place>,
+    // How many of the places have an address space.
+    spaces: usize,
 }
 
 impl Model for Share {
-    ghost use Rattle.std.specs.Prelude.{List};
+    ghost use Rattle.std.specs.Prelude.{◌≡◌, List};
     ghost use Rattle.gh_parts.specs.declared.shares.Place.{Place};
+    ghost use Rattle.gh_parts.specs.Shares.{spaces_in};
 
     ghost Value = { List Place };
 
     ghost view = { λ s. s.places.items };
+
+    ghost invariant = { λ s. s.spaces ≡ spaces_in s.places.items };
 }
 
 /// The shares of all partition places. No call but `new` takes memory.
@@ -53,6 +59,27 @@ impl Model for Shares {
     ghost view = { λ s. s.shares.items };
 
     ghost invariant = { λ s. AreShares s.shares.items };
+}
+
+/// Whether it is the body of an address space.
+fn is_space(body: &Body) -> bool
+    ensures { result ≡ is_space body.now }
+{
+    match body {
+        Body::Space(_) => true,
+        _ => false,
+    }
+}
+
+/// How many address spaces there are once one body is in the place of another.
+fn recounted(spaces: usize, old: &Body, new: &Body) -> usize
+    requires old { is_space old.now ≡ true → 0 < spaces }
+    requires room { spaces < usize.MAX }
+    ensures { result + (if is_space old.now then 1 else 0)
+        ≡ spaces + (if is_space new.now then 1 else 0) }
+{
+    let others = if is_space(old) { spaces - 1 } else { spaces };
+    if is_space(new) { others + 1 } else { others }
 }
 
 /// Address spaces at these places follow a run of pages that moved.
@@ -76,7 +103,7 @@ impl Share {
                 body: Body::Nothing,
             })?;
         }
-        Ok(Share { places })
+        Ok(Share { places, spaces: 0 })
     }
 
     /// Puts another body to a place, and answers the one that was there.
@@ -85,6 +112,7 @@ impl Share {
         ensures before { result ≡ (place_in self.old at).body }
         ensures put { self.new ≡ with_body_in self.old at body }
     {
+        self.spaces = recounted(self.spaces, &self.places[at].body, &body);
         mem::replace(&mut self.places[at].body, body)
     }
 
@@ -109,6 +137,7 @@ impl Share {
         requires { at < length self.old }
         ensures { self.new ≡ slice_set self.old at place }
     {
+        self.spaces = recounted(self.spaces, &self.places[at].body, &place.body);
         self.places[at] = place;
     }
 
@@ -120,11 +149,13 @@ impl Share {
         self.places[at].cost = cost;
     }
 
-    /// Its address spaces follow a run of pages that moved.
+    /// Its address spaces follow a run of pages that moved. Where it has none it looks at no place.
     fn follow(&mut self, from: Serial, to: Serial, first: u16, count: u16)
         ensures { ShareChanges (Follows from.0 to first count) self.old self.new }
     {
-        follow_places(self.places.as_mut_slice(), from, to, first, count);
+        if self.spaces > 0 {
+            follow_places(self.places.as_mut_slice(), from, to, first, count);
+        }
     }
 }
 
@@ -222,7 +253,8 @@ impl Shares {
         self.shares[index / PARTITION_PLACES].set_cost(index % PARTITION_PLACES, cost);
     }
 
-    /// All address spaces follow a run of pages that moved. It looks at each place.
+    /// All address spaces follow a run of pages that moved. It looks at the places of the partition
+    /// places that have an address space, and at no other.
     pub fn follow_run(&mut self, from: Serial, to: Serial, first: u16, count: u16)
         ensures { SharesChange (Follows from.0 to first count) self.old self.new }
     {

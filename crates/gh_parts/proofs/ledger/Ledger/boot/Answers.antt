@@ -16,6 +16,7 @@ begins : (lines : List BootLine) (parts : Parts) → IsTrue (boot_fits lines) �
     → IsPresent (past_of lines no_entries) parts
 begins lines parts fit stands = record {
   boot = fit;
+  fit = tt;
   stands = stands;
   valid = boot_valid lines fit;
   kept = boot_kept (boot_state lines) lines refl fit;

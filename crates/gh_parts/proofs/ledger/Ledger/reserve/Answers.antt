@@ -1,5 +1,6 @@
 -- Room is nothing that the rows rest on.
 use Rattle.std.proofs.Common.{◌≡◌, List, map, subst, sym}
+use Rattle.gh_invariant.specs.Events.{EventsFit}
 use Rattle.gh_invariant.specs.Valid.{IsValid}
 use Rattle.gh_model.specs.Boot.{boot_state}
 use Rattle.gh_model.specs.History.{replay}
@@ -16,6 +17,7 @@ roomier : (boot : List BootLine) (log now : Entries) (parts : Parts) → now.log
     → IsPresent (past_of boot log) parts → IsPresent (past_of boot now) parts
 roomier boot log now parts same present = record {
   boot = present.boot;
+  fit = subst (λ (all : List Logged). EventsFit (boot_state boot) (map event_of all)) (sym same) present.fit;
   stands = subst (λ (all : List Logged). Stands parts (replay (boot_state boot) (map event_of all))) (sym same) present.stands;
   valid = subst (λ (all : List Logged). IsValid (replay (boot_state boot) (map event_of all))) (sym same) present.valid;
   kept = subst (λ (all : List Logged). IsKept (replay (boot_state boot) (map event_of all))) (sym same) present.kept;

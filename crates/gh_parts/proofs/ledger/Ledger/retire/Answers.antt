@@ -35,7 +35,7 @@ pub invariant_of-self : goal.invariant_of-self
 invariant_of-self c =
     let s : State = rows_of (past_of c.self.inside.present.boot c.self.inside.present.log) in
     present_after c.self.inside.present.boot c.self.inside.present.log c.self.inside.present.parts c.retire.new.self.parts
-    (other_logged (Retired c.args.serial c.args.seen)) c.self.invariant
+    (other_logged (Retired c.args.serial c.args.seen)) c.self.invariant tt
     (retired_valid s c.self.invariant.valid c.args.serial c.args.seen) (retired_kept s c.args.serial c.args.seen c.self.invariant.kept)
     (if_seats (counted (retire_object c.args.serial c.args.seen s)) (numbered s) (is_doomed s c.args.serial.0 && is_unretired (object_row s c.args.serial.0))
     (record { cpus = c.self.invariant.seats.cpus; links = c.self.invariant.seats.links })
