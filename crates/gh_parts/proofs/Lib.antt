@@ -1,3 +1,4 @@
+mod ActLemmas
 mod AddedBlocks
 mod AddedBodies
 mod AddedCounts
@@ -14,6 +15,7 @@ mod BootIndex
 mod BootParts
 mod BootUnits
 mod CountedRows
+mod DecidedLemmas
 mod DoomedLemmas
 mod Entering
 mod EntryLogged
@@ -83,6 +85,7 @@ mod StandsRetired
 mod StandsRun
 mod StandsSlots
 mod StandsSpan
+mod TakenFew
 mod UnitsTold
 mod WordLemmas
 mod ZeroReferences
