@@ -1,5 +1,6 @@
 -- The log with an entry more is that of the rows behind the entry.
-use Rattle.std.proofs.Common.{◌≡◌, ◌∙◌, ◌∷◌, ◌++◌, [], Bool, true, false, List, map, refl, sym, ap, subst, if◌then◌else◌}
+use Rattle.std.proofs.Common.{◌≡◌, ◌∙◌, ◌∷◌, ◌++◌, [], Bool, true, false, List, Result, Ok, Err, map, refl, sym, ap, subst, if◌then◌else◌}
+use Rattle.std.specs.Prelude.{OnErr, OnOk}
 use Rattle.std.proofs.lemmas.List.{map-append}
 use Rattle.std.proofs.lemmas.List.Sums.{fold-append}
 use Rattle.gh_invariant.specs.Events.{EventFits, EventsFit}
@@ -81,3 +82,31 @@ module _ (boot : List BootLine) (log : Entries) (before parts : Parts) (logged :
   present_after now_boot now may same is stands =
       subst (λ (one : List BootLine). IsPresent (past_of one now) parts) (sym same)
       (subst (λ (entries : Entries). IsPresent (past_of boot entries) parts) (sym is) (present_by may stands))
+
+  -- and so they are by a result, which is an error where nothing is logged
+  pub present_acted : {T E : Type 0} (now_boot : List BootLine) (now : Entries) (result : Result T E) → now_boot ≡ boot
+      → OnOk result (now ≡ with_logged logged log) → OnErr result (now ≡ log)
+      → OnOk result (Stands parts (after_event (rows_of (past_of boot log)) (event_of logged)))
+      → OnErr result (Stands parts (rows_of (past_of boot log)))
+      → IsPresent (past_of now_boot now) parts
+  present_acted now_boot now (Ok value) same more less made back = present_after now_boot now true same more made
+  present_acted now_boot now (Err error) same more less made back = present_after now_boot now false same less back
+
+-- what is seen by a result
+pub past_acted : {T E : Type 0} (boot : List BootLine) (log : Entries) (logged : Logged) (now_boot : List BootLine) (now : Entries)
+    (result : Result T E) → now_boot ≡ boot → OnOk result (now ≡ with_logged logged log)
+    → OnOk result (past_of now_boot now ≡ with_event (event_of logged) (past_of boot log))
+past_acted boot log logged now_boot now (Ok value) same more =
+    ap (λ (one : List BootLine). past_of one now) same ∙ ap (past_of boot) more ∙ logged_past boot log logged true
+past_acted boot log logged now_boot now (Err error) same more = tt
+
+pub past_kept : {T E : Type 0} (boot : List BootLine) (log : Entries) (now_boot : List BootLine) (now : Entries)
+    (result : Result T E) → now_boot ≡ boot → OnErr result (now ≡ log) → OnErr result (past_of now_boot now ≡ past_of boot log)
+past_kept boot log now_boot now (Ok value) same less = tt
+past_kept boot log now_boot now (Err error) same less = ap (λ (one : List BootLine). past_of one now) same ∙ ap (past_of boot) less
+
+-- what holds of a state where a result is good, holds of the same state
+pub ok_by : {T E : Type 0} (result : Result T E) (P : State → Type 0) {one other : State} → other ≡ one → OnOk result (P one)
+    → OnOk result (P other)
+ok_by (Ok value) P same holds = subst P (sym same) holds
+ok_by (Err error) P same holds = tt

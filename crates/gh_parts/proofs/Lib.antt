@@ -1,3 +1,4 @@
+mod ActLemmas
 mod AddedBlocks
 mod AddedBodies
 mod AddedCounts
@@ -14,6 +15,7 @@ mod BootIndex
 mod BootParts
 mod BootUnits
 mod CountedRows
+mod DecidedLemmas
 mod DoomedLemmas
 mod Entering
 mod EntryLogged
@@ -88,7 +90,9 @@ mod StandsRun
 mod StandsSlots
 mod StandsSpan
 mod SweepLemmas
+mod TakenFew
 mod ToldLemmas
 mod UnitsTold
 mod WordLemmas
 mod ZeroReferences
+pub mod CallsFit

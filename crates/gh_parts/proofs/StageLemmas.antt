@@ -39,6 +39,17 @@ none_at p [] at none some = some
 none_at p (x ∷ xs) zero none some = none_here (p x) (list_any p xs) none some
 none_at p (x ∷ xs) (suc at) none some = none_at p xs at (none_later (p x) (list_any p xs) none) some
 
+wanted_by : (changes : List Change) (made : ℕ) (here : Bool) → list_any wants_memory changes ≡ here
+    → IsSomeAnd (slice_get changes made) (λ one. wants_memory one ≡ true) → here ≡ true
+wanted_by changes made true is next = refl
+wanted_by changes made false is next = absurd (none_at wants_memory changes made is next)
+
+-- changes that are made up to one that wants memory want it
+pub wanted : (parts : Parts) (s : State) (changes : List Change) → MadeBefore parts s changes
+    → list_any wants_memory changes ≡ true
+wanted parts s changes before =
+    wanted_by changes before.made (list_any wants_memory changes) refl before.next
+
 first_by : (parts : Parts) (s : State) (change : Change) (changes : List Change) (made : ℕ)
     → list_any wants_memory changes ≡ false
     → IsSomeAnd (slice_get (change ∷ changes) made) (λ one. wants_memory one ≡ true)

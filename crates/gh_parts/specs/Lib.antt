@@ -1,9 +1,11 @@
 pub mod Accounts
+pub mod Acts
 pub mod Beginning
 pub mod Blocks
 pub mod Bodies
 pub mod BodyChanges
 pub mod BootLines
+pub mod Decided
 pub mod Entries
 pub mod EntryMaking
 pub mod Follows

@@ -3,13 +3,17 @@
 ghost use Rattle.std.specs.Prelude.{◌≡◌, IfOk, None, replicate};
 ghost use Rattle.gh_parts.specs.Beginning.{no_journal};
 
+use crate::reserved::Reserved;
 use crate::slots::Slots;
-use gh_base::{Counters, NoMemory, OBJECT_INDICES, Sequence, Serial};
+use gh_base::{CSPACE_SLOTS, CSPACES, Counters, NoMemory, OBJECT_INDICES, Sequence, Serial};
 use gh_extent::Extents;
 use gh_model::{CpuRow, LinkRow, TakenSlot};
 use gh_objects::Counts;
 use gh_partition::Partition;
 use std::alloc::Global;
+
+/// How many slots the parts of a revoke can take: those of all capability spaces.
+pub const TAKEN_SLOTS: usize = CSPACES * CSPACE_SLOTS as usize;
 
 /// The units of a live partition.
 #[derive(Debug, Drop)]
@@ -44,7 +48,7 @@ pub struct Journal {
     pub cpus: Sequence<CpuRow>,
     pub links: Sequence<LinkRow>,
     /// The slots of the revokes since the last entry of another kind.
-    pub taken: Sequence<TakenSlot>,
+    pub taken: Reserved<TakenSlot, TAKEN_SLOTS>,
     /// Entries of the history so far.
     pub entries: u32,
     pub next_serial: u32,
@@ -74,7 +78,7 @@ impl Journal {
             memory: Memory::Bare(0),
             cpus: Sequence::new(alloc),
             links: Sequence::new(alloc),
-            taken: Sequence::new(alloc),
+            taken: Reserved::new(alloc)?,
             entries: 0,
             next_serial: 1,
             next_handle: 1,

@@ -26,7 +26,7 @@ use std::marker::Model;
 /// The parts with the boot file and the log, which replays to what the parts stand for.
 #[derive(Drop)]
 pub struct Ledger {
-    present: Present,
+    pub(crate) present: Present,
 }
 
 impl Model for Ledger {

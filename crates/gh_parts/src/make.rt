@@ -1,6 +1,7 @@
 //! Changes of the state, made on the parts in order.
 
 ghost use Rattle.std.specs.Prelude.{◌≡◌, false, true, IfSome, IsSomeAnd, OnErr, OnOk, slice_get};
+ghost use Rattle.std.specs.List.{list_any};
 ghost use Rattle.gh_invariant.specs.Valid.{IsValidWithin};
 ghost use Rattle.gh_model.specs.Changes.{changed, changed_all};
 ghost use Rattle.gh_model.specs.declared.state.State.{State};
@@ -141,6 +142,7 @@ impl Parts {
         requires once { wants_once changes.now ≡ true }
         ensures ok { OnOk result (Stands self.new (changed_all s changes.now)) }
         ensures err { OnErr result (Stands self.new s) }
+        ensures memory { OnErr result (list_any wants_memory changes.now ≡ true) }
     {
         let before = self.stage_before(changes);
         let made = self.make_each(alloc, changes);

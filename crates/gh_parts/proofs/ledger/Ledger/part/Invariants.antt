@@ -1,0 +1,6 @@
+-- The rows are those of the boot file and the log.
+use Rattle.gh_parts.specs.Past.{past_of, rows_of}
+use Rattle.gh_parts.proofs.ledger.Ledger.part.Given as goal
+
+abbrev pub ghost-part : goal.ghost-part
+ghost-part a = rows_of (past_of a.self.now.boot a.self.now.log)
