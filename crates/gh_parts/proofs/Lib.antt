@@ -14,6 +14,7 @@ mod BodyLemmas
 mod BootIndex
 mod BootParts
 mod BootUnits
+mod CallsFit
 mod CountedRows
 mod DecidedLemmas
 mod DoomedLemmas
@@ -95,4 +96,3 @@ mod ToldLemmas
 mod UnitsTold
 mod WordLemmas
 mod ZeroReferences
-pub mod CallsFit

@@ -10,11 +10,9 @@ use Rattle.gh_base.specs.declared.mark.Held.{Held}
 use Rattle.gh_base.specs.declared.mark.Held.TheVariants.{Pins, Reading}
 use Rattle.gh_base.specs.declared.mark.Mark.{Mark}
 use Rattle.gh_model.specs.Run.{is_mark_of}
-use Rattle.gh_model.specs.Text.{history_text}
 use Rattle.gh_model.specs.declared.entry.Entry.{Entry}
 use Rattle.gh_model.specs.declared.entry.Entry.TheVariants.{Acted, Part, Retired, Reclaimed}
 use Rattle.gh_model.specs.declared.rows.CpuRow.{CpuRow}
-use Rattle.gh_model.specs.declared.state.State.{State}
 
 -- a look without the word that it found
 abbrev pub no_word : CapWord
@@ -44,7 +42,8 @@ IsByte n = n < 256
 
 abbrev pub EntryFits : Entry → Type 0
 EntryFits (Acted cpu number) = IsWord cpu.0 × IsWord number
-EntryFits (Part cpu number space slot) = IsWord cpu.0 × (IsWord number × (IsWord space.0 × IsWord slot))
+EntryFits (Part cpu number space slot) =
+    IsWord cpu.0 × (IsWord number × (IsWord space.0 × IsWord slot))
 EntryFits (Retired serial seen) = IsWord serial.0 × AllByRecursion IsWord seen
 EntryFits (Reclaimed serial seen) = IsWord serial.0 × AllByRecursion IsWord seen
 
@@ -81,8 +80,3 @@ pub record RunFits (entries : List Entry) (marks : List Mark) : Type 0 where
   pub marks_fit : AllByRecursion MarkFits marks
   pub entry_count : IsWord (length entries)
   pub mark_count : IsWord (length marks)
-
--- two runs, the second by its own names, have one text
-abbrev pub SameText : List Entry → List Mark → State → List Entry → List Mark → State → Type 0
-SameText entries marks s others calls t =
-    history_text entries marks s ≡ history_text others calls t
