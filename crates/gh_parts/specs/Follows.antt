@@ -52,7 +52,8 @@ pub record GivesBack (extent : ℕ) (parent : Serial) (old new : Parts) : Type 0
   pub shares : List (List Place)
   pub rows : extent_rows memory ≡ without (is_extent extent) (extent_rows old.journal.memory)
   pub pages : page_holders memory ≡ map (given_back extent parent) (page_holders old.journal.memory)
-  pub follow : SharesFollow (page_holders old.journal.memory) (page_holders memory) old.shares shares
+  pub follow : SharesFollow (page_holders old.journal.memory) (page_holders memory) old.shares
+      shares
   pub parts : new ≡ record old {
     shares = shares;
     journal = record (old.journal) { memory = memory };

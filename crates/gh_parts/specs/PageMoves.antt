@@ -60,7 +60,9 @@ with_run first count to (Held extents) = Held (moved extents first count to)
 pub record MovesRun (from : ℕ) (to : Serial) (first count : ℕ) (old new : Parts) : Type 0 where
   pub shares : SharesChange (Follows from to first count) old.shares new.shares
   pub parts : new
-      ≡ record (with_memory (with_run first count to old.journal.memory) old) { shares = new.shares }
+      ≡ record (with_memory (with_run first count to old.journal.memory) old) {
+        shares = new.shares;
+      }
 
 -- the run is one of the machine's, which has few pages, and the new holder has a row
 pub record CanMove (s : State) (first count : ℕ) (holder : Serial) : Type 0 where

@@ -27,8 +27,8 @@ impl Ledger {
         self.present.act(alloc, logged, changes)
     }
 
-    /// A part of a revoke: the capability of a slot is revoked, as an entry of the history. It takes
-    /// no memory.
+    /// A part of a revoke: the capability of a slot is revoked, as an entry of the history. It
+    /// takes no memory.
     pub fn part(&mut self, logged: Logged, cspace: Serial, slot: u8)
         requires part { IsPartOf (rows_of self.old) logged cspace slot }
         requires entries { (rows_of self.old).entries < HISTORY_ENTRIES }

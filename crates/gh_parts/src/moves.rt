@@ -77,8 +77,8 @@ impl Parts {
         pages
     }
 
-    /// A run of pages gets another holder. It looks at the places of the shares that have an address
-    /// space, once for each extent that held pages of the run.
+    /// A run of pages gets another holder. It looks at the places of the shares that have an
+    /// address space, once for each extent that held pages of the run.
     pub fn move_pages(&mut self, first: u16, count: u16, holder: Serial)
         ghost s: { State }
         requires { CanMake self.old s (MovePages first count holder) }

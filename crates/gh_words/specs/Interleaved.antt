@@ -72,7 +72,8 @@ Prepares between at None behind conf = behind conf
 Prepares between at (Some call) behind conf =
     IfTrue (sweeps call.given.call) (Sweeps between at behind conf)
     (IfTrue (is_revoke call.given.call)
-    (Planned between (parts at (length (plain_caps (present conf) (object_revoked call)))) behind conf)
+    (Planned between (parts at (length (plain_caps (present conf) (object_revoked call))))
+    behind conf)
     (behind conf))
 
 -- then an act that is done has its entry

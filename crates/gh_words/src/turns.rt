@@ -1,4 +1,5 @@
-//! What the holder of a turn makes on words, several events at once. Others may make theirs between.
+//! What the holder of a turn makes on words, several events at once. Others may make theirs
+//! between.
 
 ghost use Rattle.std.specs.Prelude.{◌≡◌, ◌+◌, ◌<◌, ◌≤◌};
 ghost use Rattle.gh_words.specs.Holding.{ScansPlanned, TriesKilling, entered, killing, owings};
